@@ -4,7 +4,6 @@ ghost use Rattle.basket_ranks.specs.Codes.{baskets_of};
 ghost use Rattle.basket_core.specs.Listing.{listing_of};
 ghost use Rattle.basket_sets.specs.Frequent.{ListsOnce};
 
-use crate::unpacked::Unpacked;
 use basket_lists::CountedSets;
 use basket_ranks::Coded;
 use std::alloc::{AllocError, Global};
@@ -90,14 +89,6 @@ impl Frequent {
         ensures { result ≡ self.now.total }
     {
         self.total
-    }
-
-    /// The same list, with each set as a value of its own.
-    pub fn unpacked(self, alloc: Global) -> Result<Unpacked, AllocError>
-        ensures { IfOk result (λ unpacked. unpacked ≡ self) }
-    {
-        let Frequent { sets, total } = self;
-        Ok(Unpacked::new(sets.unpacked(alloc)?, total))
     }
 }
 

@@ -7,7 +7,6 @@ mod fault;
 mod fraction;
 mod frequent;
 mod tally;
-mod unpacked;
 pub mod worked;
 
 pub use basket_lists::{CountedSets, MOST_ITEMS};
@@ -22,4 +21,3 @@ pub use fault::MineFault;
 pub use fraction::Fraction;
 pub use frequent::Frequent;
 pub use tally::{Limit, Tally};
-pub use unpacked::Unpacked;

@@ -18,8 +18,8 @@ fn print_rules(rt: &HostRuntime, frequent: &Frequent) -> anyhow::Result<()> {
     println!(rt; "{closed} of {} sets are closed", frequent.sets().len())?;
     let confidence = Share::new(7, 10).unwrap();
     for rule in &rules(rt.alloc(), frequent, confidence)? {
-        let (left, right) = (rule.left.items(), rule.right.items());
-        println!(rt; "{left:?} => {right:?}: {}", rule.confidence)?;
+        let (antecedent, consequent) = (rule.antecedent.items(), rule.consequent.items());
+        println!(rt; "{antecedent:?} => {consequent:?}: {}", rule.confidence)?;
     }
     Ok(())
 }

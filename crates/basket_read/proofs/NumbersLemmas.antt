@@ -86,7 +86,7 @@ module _ (old : Numbers) (text : List ℕ) (so_far : IsNumbersSoFar old text) wh
   -- ---- a number where none has begun
 
   module _ (none : old.begun ≡ None) (word : List ℕ) (count value : ℕ) (long : length word ≡ count) (digits : list_all is_digit word ≡ true) (is : value_of word ≡ value)
-    (below : value ≤ MOST_NUMBER) where
+      (below : value ≤ MOST_NUMBER) where
     nothing : last ≡ []
     nothing = at last (sym begun ∙ none)
       where

@@ -129,7 +129,11 @@ impl Numbers {
     pub fn lone(&self) -> Option<u32>
         ensures { result ≡ lone_number (numbers_state self.now) }
     {
-        if self.ended.is_empty() { self.begun } else { None }
+        if self.ended.is_empty() {
+            self.begun
+        } else {
+            None
+        }
     }
 
     /// Begins anew.

@@ -16,7 +16,7 @@ set_line counted = items_text counted.set ++ codes "(" ++ decimal counted.count 
 
 -- the sides of a rule
 abbrev pub sides_text : List ℕ → List ℕ → List ℕ
-sides_text left right = items_text left ++ codes "=> " ++ items_text right
+sides_text antecedent consequent = items_text antecedent ++ codes "=> " ++ items_text consequent
 
 -- the confidence and the lift of a rule, with a space between
 abbrev pub ratios_text : Ratio → Ratio → List ℕ
@@ -28,4 +28,4 @@ count_text count = 40 ∷ decimal count ++ 41 ∷ []
 
 -- the line of a rule: its sides, the count in parentheses, a space, the confidence, a space, the lift, a line feed
 abbrev pub rule_line : Rule → List ℕ
-rule_line rule = sides_text rule.left rule.right ++ codes "(" ++ decimal rule.count ++ codes ") " ++ ratios_text rule.confidence rule.lift ++ 10 ∷ []
+rule_line rule = sides_text rule.antecedent rule.consequent ++ codes "(" ++ decimal rule.count ++ codes ") " ++ ratios_text rule.confidence rule.lift ++ 10 ∷ []

@@ -22,10 +22,10 @@ names_of names items = map (λ item. slice_index_or names item []) items
 abbrev pub set_fields : List (List ℕ) → Counted → List (List ℕ)
 set_fields names counted = decimal counted.count ∷ names_of names counted.set
 
--- the fields of a rule: the count, the confidence, the lift, how many names are on the left, those names, and the names on the right
+-- the fields of a rule: the count, the confidence, the lift, how many names its antecedent has, those names, and the names of its consequent
 abbrev pub rule_fields : List (List ℕ) → Rule → List (List ℕ)
 rule_fields names rule =
-    decimal rule.count ∷ ratio_text rule.confidence ∷ ratio_text rule.lift ∷ decimal (length rule.left) ∷ names_of names rule.left ++ names_of names rule.right
+    decimal rule.count ∷ ratio_text rule.confidence ∷ ratio_text rule.lift ∷ decimal (length rule.antecedent) ∷ names_of names rule.antecedent ++ names_of names rule.consequent
 
 -- the record of a set, and that of a rule
 abbrev pub set_record : ℕ → List (List ℕ) → Counted → List ℕ

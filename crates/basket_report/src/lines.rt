@@ -2,14 +2,14 @@
 ghost use Rattle.std.specs.Prelude.{◌≡◌, ◌++◌, [], ◌∷◌, IfOk, OnOk};
 ghost use Rattle.basket_report.specs.Lines.{count_text, items_text, ratios_text, rule_line, set_line, sides_text};
 ghost use Rattle.basket_report.specs.Report.{set_of};
-ghost use Rattle.basket_rules.specs.Met.{confidence_of, lift_of, rule_from};
+ghost use Rattle.basket_rules.specs.Confident.{confidence_of, lift_of, rule_from};
 
 use crate::count_text::CountText;
 use crate::extent::Extent;
 use crate::ratios::Ratios;
 use crate::texts::{Texts, put_front};
 use basket_core::CountedSets;
-use basket_rules::{Figures, Sides};
+use basket_rules::{RuleCounts, Sides};
 use std::alloc::{AllocError, Global};
 use std::marker::Model;
 
@@ -68,13 +68,13 @@ impl Lines {
     }
 
     /// Adds the line of a rule. All rules of one union have the same count.
-    pub fn put_rule(&mut self, sides: &Sides, figures: &Figures) -> Result<(), AllocError>
-        ensures { OnOk result (self.new ≡ self.old ++ rule_line (rule_from sides.now figures.now)) }
+    pub fn put_rule(&mut self, sides: &Sides, counts: &RuleCounts) -> Result<(), AllocError>
+        ensures { OnOk result (self.new ≡ self.old ++ rule_line (rule_from sides.now counts.now)) }
     {
-        self.count.set(figures.count);
+        self.count.set(counts.count);
         put_sides(&mut self.text, &self.texts, sides)?;
         put_count(&mut self.text, &self.count)?;
-        put_ratios(&mut self.text, &mut self.ratios, figures)
+        put_ratios(&mut self.text, &mut self.ratios, counts)
     }
 
     /// The text of all lines.
@@ -98,11 +98,11 @@ fn put_items(report: &mut Vec<u8>, texts: &Texts, items: &[u32]) -> Result<(), A
 
 /// Adds both sides with an arrow between.
 fn put_sides(report: &mut Vec<u8>, texts: &Texts, sides: &Sides) -> Result<(), AllocError>
-    ensures { OnOk result (report.new.items ≡ report.old.items ++ sides_text sides.now.left.items sides.now.right.items) }
+    ensures { OnOk result (report.new.items ≡ report.old.items ++ sides_text sides.now.antecedent.items sides.now.consequent.items) }
 {
-    put_items(report, texts, &sides.left)?;
+    put_items(report, texts, &sides.antecedent)?;
     report.extend_from_slice(b"=> ")?;
-    put_items(report, texts, &sides.right)
+    put_items(report, texts, &sides.consequent)
 }
 
 /// Adds a count in parentheses.
@@ -116,14 +116,14 @@ fn put_count(report: &mut Vec<u8>, text: &CountText) -> Result<(), AllocError>
 fn put_ratios(
     report: &mut Vec<u8>,
     ratios: &mut Ratios,
-    figures: &Figures,
+    counts: &RuleCounts,
 ) -> Result<(), AllocError>
-    ensures { OnOk result (report.new.items ≡ report.old.items ++ (32 ∷ ratios_text (confidence_of figures.now) (lift_of figures.now) ++ 10 ∷ [])) }
+    ensures { OnOk result (report.new.items ≡ report.old.items ++ (32 ∷ ratios_text (confidence_of counts.now) (lift_of counts.now) ++ 10 ∷ [])) }
 {
     report.push(b' ')?;
-    ratios.put_confidence(report, figures)?;
+    ratios.put_confidence(report, counts)?;
     report.push(b' ')?;
-    ratios.put_lift(report, figures)?;
+    ratios.put_lift(report, counts)?;
     report.push(b'\n')?;
     Ok(())
 }

@@ -2,12 +2,12 @@
 ghost use Rattle.std.specs.Prelude.{◌≡◌, ◌≤◌, ◌++◌, take, OnOk};
 ghost use Rattle.basket_core.specs.Fraction.{lowest};
 ghost use Rattle.basket_report.specs.Texts.{ratio_text};
-ghost use Rattle.basket_rules.specs.Met.{confidence_of, lift_of};
+ghost use Rattle.basket_rules.specs.Confident.{confidence_of, lift_of};
 
 use crate::texts::{put_fraction, put_front};
 use basket_core::Fraction;
 use basket_order::word_hash;
-use basket_rules::Figures;
+use basket_rules::RuleCounts;
 use itoa::write_digits;
 use std::alloc::{AllocError, Global};
 
@@ -88,21 +88,21 @@ impl Ratios {
     pub fn put_confidence(
         &mut self,
         report: &mut Vec<u8>,
-        figures: &Figures,
+        counts: &RuleCounts,
     ) -> Result<(), AllocError>
-        ensures { OnOk result (report.new.items ≡ report.old.items ++ ratio_text (confidence_of figures.now)) }
+        ensures { OnOk result (report.new.items ≡ report.old.items ++ ratio_text (confidence_of counts.now)) }
     {
-        self.put_short(report, figures.count, figures.left_count)
+        self.put_short(report, counts.count, counts.antecedent_count)
     }
 
     /// Adds the lift of a rule.
-    pub fn put_lift(&mut self, report: &mut Vec<u8>, figures: &Figures) -> Result<(), AllocError>
-        ensures { OnOk result (report.new.items ≡ report.old.items ++ ratio_text (lift_of figures.now)) }
+    pub fn put_lift(&mut self, report: &mut Vec<u8>, counts: &RuleCounts) -> Result<(), AllocError>
+        ensures { OnOk result (report.new.items ≡ report.old.items ++ ratio_text (lift_of counts.now)) }
     {
         self.put(
             report,
-            u128::from(figures.count) * u128::from(figures.total),
-            u128::from(figures.left_count) * u128::from(figures.right_count),
+            u128::from(counts.count) * u128::from(counts.total),
+            u128::from(counts.antecedent_count) * u128::from(counts.consequent_count),
         )
     }
 

@@ -1,6 +1,6 @@
 //! A report that is being written.
 ghost use Rattle.std.specs.Prelude.{◌≡◌, ◌<◌, ◌++◌, [], ℕ, List, IfOk, OnOk, length};
-ghost use Rattle.basket_rules.specs.Met.{rule_from, rules_in};
+ghost use Rattle.basket_rules.specs.Confident.{rule_from, rules_in};
 ghost use Rattle.basket_report.specs.Report.{HasSoFar, rule_text, rules_report_of, set_of, set_text};
 ghost use Rattle.basket_report.specs.Style.{Wording, wording_of};
 
@@ -8,7 +8,7 @@ use crate::lines::Lines;
 use crate::style::Style;
 use crate::table::Table;
 use basket_core::{CountedSets, Frequent};
-use basket_rules::{Figures, Lookups, MetRule, Sides};
+use basket_rules::{ConfidentRule, Lookups, RuleCounts, Sides};
 use std::alloc::{AllocError, Global};
 
 /// A report so far. If something can't be added to it, all of it is lost.
@@ -57,13 +57,13 @@ impl<'a> Report<'a> {
     }
 
     /// Adds a rule.
-    pub fn put_rule(&mut self, sides: &Sides, figures: &Figures) -> Result<(), AllocError>
+    pub fn put_rule(&mut self, sides: &Sides, counts: &RuleCounts) -> Result<(), AllocError>
         ensures { (wording : Wording) (text : List ℕ) → HasSoFar self.old wording text
-            → OnOk result (HasSoFar self.new wording (text ++ rule_text wording (rule_from sides.now figures.now))) }
+            → OnOk result (HasSoFar self.new wording (text ++ rule_text wording (rule_from sides.now counts.now))) }
     {
         match self {
-            Report::Lines(lines) => lines.put_rule(sides, figures),
-            Report::Table(table) => table.put_rule(sides, figures),
+            Report::Lines(lines) => lines.put_rule(sides, counts),
+            Report::Table(table) => table.put_rule(sides, counts),
         }
     }
 
@@ -72,7 +72,7 @@ impl<'a> Report<'a> {
         &mut self,
         frequent: &Frequent,
         number: usize,
-        met: &[MetRule],
+        met: &[ConfidentRule],
         lookups: &mut Lookups,
     ) -> Result<(), AllocError>
         requires { number < length frequent.now.sets }
@@ -80,8 +80,8 @@ impl<'a> Report<'a> {
             → OnOk result (HasSoFar self.new wording (text ++ rules_report_of wording (rules_in frequent.now number met.now))) }
     {
         for rule in met {
-            let figures = lookups.rule(frequent, number, rule)?;
-            self.put_rule(&lookups.sides, &figures)?;
+            let counts = lookups.rule(frequent, number, rule)?;
+            self.put_rule(&lookups.sides, &counts)?;
         }
         Ok(())
     }

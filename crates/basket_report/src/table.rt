@@ -3,13 +3,13 @@ ghost use Rattle.std.specs.Prelude.{◌≡◌, ◌≢◌, ◌++◌, [], ◌∷�
 ghost use Rattle.csv.specs.Writing.{is_blank, row_text};
 ghost use Rattle.basket_report.specs.Report.{set_of};
 ghost use Rattle.basket_report.specs.Texts.{ratio_text};
-ghost use Rattle.basket_rules.specs.Met.{confidence_of, lift_of, rule_from};
+ghost use Rattle.basket_rules.specs.Confident.{confidence_of, lift_of, rule_from};
 ghost use Rattle.basket_report.specs.Table.{HasFields, HasText, names_of, rule_record, set_record, writer_of};
 
 use crate::ratios::Ratios;
 use crate::texts::put_number;
 use basket_csv::Names;
-use basket_rules::{Figures, Sides};
+use basket_rules::{RuleCounts, Sides};
 use csv::{Writer, WriterBuilder};
 use std::alloc::{AllocError, Global};
 
@@ -59,9 +59,9 @@ impl<'a> Table<'a> {
     }
 
     /// Adds the record of a rule.
-    pub fn put_rule(&mut self, sides: &Sides, figures: &Figures) -> Result<(), AllocError>
+    pub fn put_rule(&mut self, sides: &Sides, counts: &RuleCounts) -> Result<(), AllocError>
         ensures { (separator : ℕ) (names : List (List ℕ)) (text : List ℕ) → HasText self.old separator names text
-            → OnOk result (HasText self.new separator names (text ++ rule_record separator names (rule_from sides.now figures.now))) }
+            → OnOk result (HasText self.new separator names (text ++ rule_record separator names (rule_from sides.now counts.now))) }
     {
         let Table {
             names,
@@ -69,12 +69,12 @@ impl<'a> Table<'a> {
             field,
             ratios,
         } = self;
-        put_number_field(writer, field, figures.count)?;
-        put_confidence_field(writer, field, ratios, figures)?;
-        put_lift_field(writer, field, ratios, figures)?;
-        put_number_field(writer, field, sides.left.len() as u64)?;
-        put_names(writer, names, &sides.left)?;
-        put_names(writer, names, &sides.right)?;
+        put_number_field(writer, field, counts.count)?;
+        put_confidence_field(writer, field, ratios, counts)?;
+        put_lift_field(writer, field, ratios, counts)?;
+        put_number_field(writer, field, sides.antecedent.len() as u64)?;
+        put_names(writer, names, &sides.antecedent)?;
+        put_names(writer, names, &sides.consequent)?;
         end_record(writer)
     }
 
@@ -119,13 +119,13 @@ fn put_confidence_field(
     writer: &mut Writer<Vec<u8>>,
     field: &mut Vec<u8>,
     ratios: &mut Ratios,
-    figures: &Figures,
+    counts: &RuleCounts,
 ) -> Result<(), AllocError>
     ensures { (separator : ℕ) (text : List ℕ) (fields : List (List ℕ)) → HasFields writer.old separator text fields → fields ≢ []
-        → OnOk result (HasFields writer.new separator text (fields ++ ratio_text (confidence_of figures.now) ∷ [])) }
+        → OnOk result (HasFields writer.new separator text (fields ++ ratio_text (confidence_of counts.now) ∷ [])) }
 {
     field.clear();
-    ratios.put_confidence(field, figures)?;
+    ratios.put_confidence(field, counts)?;
     put_field(writer, field)
 }
 
@@ -134,13 +134,13 @@ fn put_lift_field(
     writer: &mut Writer<Vec<u8>>,
     field: &mut Vec<u8>,
     ratios: &mut Ratios,
-    figures: &Figures,
+    counts: &RuleCounts,
 ) -> Result<(), AllocError>
     ensures { (separator : ℕ) (text : List ℕ) (fields : List (List ℕ)) → HasFields writer.old separator text fields → fields ≢ []
-        → OnOk result (HasFields writer.new separator text (fields ++ ratio_text (lift_of figures.now) ∷ [])) }
+        → OnOk result (HasFields writer.new separator text (fields ++ ratio_text (lift_of counts.now) ∷ [])) }
 {
     field.clear();
-    ratios.put_lift(field, figures)?;
+    ratios.put_lift(field, counts)?;
     put_field(writer, field)
 }
 

@@ -1,4 +1,4 @@
--- Right sides level by level.
+-- Consequents level by level.
 use Rattle.std.specs.Prelude.{bit_or}
 use Rattle.std.proofs.Common.{◌≡◌, ◌≢◌, ℕ, ◌+◌, ◌-◌, ◌<◌, ◌≤◌, ◌^◌, ◌&&◌, Bool, true, false, cond, ltb, List, [], ◌∷◌, ◌++◌, length, take, get_or, map, filter, Some, None, refl, sym, ap, ◌∙◌, subst, arith, add-one}
 use Rattle.std.specs.List.{AllByRecursion, flat_map}
@@ -14,28 +14,28 @@ use Rattle.basket_sets.proofs.theory.Members.{Member, Member-filter, Member-map,
 use Rattle.basket_sets.proofs.theory.Rising.{contains_each}
 use Rattle.basket_sets.proofs.theory.Subsets.{IsSubset-from_Member}
 use Rattle.basket_rules.specs.declared.association.Rule.{Rule}
-use Rattle.basket_rules.specs.declared.rights.Right.{Right}
-use Rattle.basket_rules.specs.declared.rights.TheConstants.{MOST_PLACES}
+use Rattle.basket_rules.specs.declared.consequents.Consequent.{Consequent}
+use Rattle.basket_rules.specs.declared.consequents.TheConstants.{MOST_PLACES}
 use Rattle.basket_rules.specs.Consistency.{IsConsistent}
 use Rattle.basket_rules.specs.Listed.{set_at}
-use Rattle.basket_rules.specs.Rights.{has_place, longer, no_places, side_of, with_place}
-use Rattle.basket_rules.specs.Rules.{is_confident_among, rule_among, rules_among_with, rules_among, right_sides_of, IsRightSide, IsRuleFor, KeepsConfident}
+use Rattle.basket_rules.specs.Consequents.{has_place, longer, no_places, side_of, with_place}
+use Rattle.basket_rules.specs.Rules.{is_confident_among, rule_among, rules_among_with, rules_among, consequents_of, IsConsequent, IsRuleFor, KeepsConfident}
 use Rattle.basket_rules.proofs.SearchLemmas.{none, set_is}
 use Rattle.basket_rules.proofs.SubsetLemmas.{filter_same}
 use Rattle.basket_rules.proofs.RuleLemmas.{is_met, met_falls}
-use Rattle.basket_rules.proofs.RightLemmas.{sides_of, sides_are_subsets, all_longer, chosen_rises, first_longer, kept_longer, fewer_longer, side_grows}
-use Rattle.basket_rules.proofs.SizeLemmas.{joined, right_sides_are}
+use Rattle.basket_rules.proofs.ConsequentLemmas.{sides_of, sides_are_subsets, all_longer, chosen_rises, first_longer, kept_longer, fewer_longer, side_grows}
+use Rattle.basket_rules.proofs.SizeLemmas.{joined, consequents_are}
 use Rattle.basket_rules.proofs.theory.Consistency.{set_nonempty}
 
 -- ---- what is kept of a level
 
 module _ (listing : Listing) (confidence : ℕ × ℕ) (number : ℕ) where
-  -- the same of the first of the right sides that are tried
-  abbrev pub IsKeptUpTo : ℕ → List Right → List Right → List Rule → List Rule → Type 0
+  -- the same of the first of the consequents that are tried
+  abbrev pub IsKeptUpTo : ℕ → List Consequent → List Consequent → List Rule → List Rule → Type 0
   IsKeptUpTo count tried met old new = IsConsistent listing.sets
-      → AllByRecursion (λ right. IsRightSide listing number (side_of (set_at listing.sets number) right)) tried
-      → (met ≡ filter (λ right. is_confident_among listing confidence (set_at listing.sets number) (side_of (set_at listing.sets number) right)) (take count tried))
-      × (new ≡ old ++ map (λ right. rule_among listing (set_at listing.sets number) (side_of (set_at listing.sets number) right)) met)
+      → AllByRecursion (λ consequent. IsConsequent listing number (side_of (set_at listing.sets number) consequent)) tried
+      → (met ≡ filter (λ consequent. is_confident_among listing confidence (set_at listing.sets number) (side_of (set_at listing.sets number) consequent)) (take count tried))
+      × (new ≡ old ++ map (λ consequent. rule_among listing (set_at listing.sets number) (side_of (set_at listing.sets number) consequent)) met)
 
   some_rule : (b : Bool) (rule expected : Rule) → Some rule ≡ cond b (Some expected) None → (b ≡ true) × (rule ≡ expected)
   some_rule true rule expected e = (refl, cc)
@@ -45,48 +45,48 @@ module _ (listing : Listing) (confidence : ℕ × ℕ) (number : ℕ) where
   no_rule_at true expected e = cc
   no_rule_at false expected e = refl
 
-  module _ (count : ℕ) (tried : List Right) (right : Right) (below : count < length tried) (here : right ≡ get_or tried count right) where
-    tried_one : AllByRecursion (λ r. IsRightSide listing number (side_of (set_at listing.sets number) r)) tried → IsRightSide listing number (side_of (set_at listing.sets number) right)
-    tried_one all = subst (λ r. IsRightSide listing number (side_of (set_at listing.sets number) r)) (sym here)
-        (All-from_recursion (λ r. IsRightSide listing number (side_of (set_at listing.sets number) r)) tried all count right below)
+  module _ (count : ℕ) (tried : List Consequent) (consequent : Consequent) (below : count < length tried) (here : consequent ≡ get_or tried count consequent) where
+    tried_one : AllByRecursion (λ r. IsConsequent listing number (side_of (set_at listing.sets number) r)) tried → IsConsequent listing number (side_of (set_at listing.sets number) consequent)
+    tried_one all = subst (λ r. IsConsequent listing number (side_of (set_at listing.sets number) r)) (sym here)
+        (All-from_recursion (λ r. IsConsequent listing number (side_of (set_at listing.sets number) r)) tried all count consequent below)
 
-    filtered : (test : Right → Bool) (b : Bool) → test right ≡ b → filter test (take (count + 1) tried) ≡ filter test (take count tried) ++ cond b (right ∷ []) []
+    filtered : (test : Consequent → Bool) (b : Bool) → test consequent ≡ b → filter test (take (count + 1) tried) ≡ filter test (take count tried) ++ cond b (consequent ∷ []) []
     filtered test b e =
-        filter_more test tried count right below ∙ ap (λ r. filter test (take count tried) ++ cond (test r) (r ∷ []) []) (sym here)
-        ∙ ap (λ x. filter test (take count tried) ++ cond x (right ∷ []) []) e
+        filter_more test tried count consequent below ∙ ap (λ r. filter test (take count tried) ++ cond (test r) (r ∷ []) []) (sym here)
+        ∙ ap (λ x. filter test (take count tried) ++ cond x (consequent ∷ []) []) e
 
-    pub kept_one : (met : List Right) (old new : List Rule) (rule : Rule) → IsRuleFor listing confidence number (side_of (set_at listing.sets number) right) (Some rule)
-        → IsKeptUpTo count tried met old new → IsKeptUpTo (count + 1) tried (met ++ right ∷ []) old (new ++ rule ∷ [])
+    pub kept_one : (met : List Consequent) (old new : List Rule) (rule : Rule) → IsRuleFor listing confidence number (side_of (set_at listing.sets number) consequent) (Some rule)
+        → IsKeptUpTo count tried met old new → IsKeptUpTo (count + 1) tried (met ++ consequent ∷ []) old (new ++ rule ∷ [])
     kept_one met old new rule for so consistent all =
         let h = so consistent all in
         let union = set_at listing.sets number in
-        let test : Right → Bool = λ r. is_confident_among listing confidence union (side_of union r) in
-        let made : Right → Rule = λ r. rule_among listing union (side_of union r) in
-        let found = some_rule (test right) rule (made right) (for consistent (tried_one all)) in (
-          ap (λ l. l ++ right ∷ []) h.0 ∙ sym (filtered test true found.0),
+        let test : Consequent → Bool = λ r. is_confident_among listing confidence union (side_of union r) in
+        let made : Consequent → Rule = λ r. rule_among listing union (side_of union r) in
+        let found = some_rule (test consequent) rule (made consequent) (for consistent (tried_one all)) in (
+          ap (λ l. l ++ consequent ∷ []) h.0 ∙ sym (filtered test true found.0),
           ap (λ l. l ++ rule ∷ []) h.1 ∙ append_assoc old (map made met) (rule ∷ []) ∙ ap (λ r. old ++ (map made met ++ r ∷ [])) found.1
-              ∙ ap (λ l. old ++ l) (sym (map-append made met (right ∷ []))),
+              ∙ ap (λ l. old ++ l) (sym (map-append made met (consequent ∷ []))),
         )
 
-    pub kept_none : (met : List Right) (old new : List Rule) → IsRuleFor listing confidence number (side_of (set_at listing.sets number) right) None
+    pub kept_none : (met : List Consequent) (old new : List Rule) → IsRuleFor listing confidence number (side_of (set_at listing.sets number) consequent) None
         → IsKeptUpTo count tried met old new → IsKeptUpTo (count + 1) tried met old new
     kept_none met old new for so consistent all =
         let h = so consistent all in
         let union = set_at listing.sets number in
-        let test : Right → Bool = λ r. is_confident_among listing confidence union (side_of union r) in
-        let fails = no_rule_at (test right) (rule_among listing union (side_of union right)) (for consistent (tried_one all)) in
+        let test : Consequent → Bool = λ r. is_confident_among listing confidence union (side_of union r) in
+        let fails = no_rule_at (test consequent) (rule_among listing union (side_of union consequent)) (for consistent (tried_one all)) in
         (h.0 ∙ sym (append-nil (filter test (take count tried))) ∙ sym (filtered test false fails), h.1)
 
--- ---- the rules of a union, up to a size of their right sides
+-- ---- the rules of a union, up to a size of their consequents
 
--- the right sides of a size that are tried, and the rules with smaller ones
-pub record IsLevel (listing : Listing) (confidence : ℕ × ℕ) (union : List ℕ) (size : ℕ) (rights : List Right) (rules : List Rule) : Type 0 where
-  pub within : (right : Right) → Member right rights → Member right (sides_of size 0 union)
-  pub all : filter (λ right. is_met listing confidence union (side_of union right)) rights ≡ filter (λ right. is_met listing confidence union (side_of union right)) (sides_of size 0 union)
+-- the consequents of a size that are tried, and the rules with smaller ones
+pub record IsLevel (listing : Listing) (confidence : ℕ × ℕ) (union : List ℕ) (size : ℕ) (consequents : List Consequent) (rules : List Rule) : Type 0 where
+  pub within : (consequent : Consequent) → Member consequent consequents → Member consequent (sides_of size 0 union)
+  pub all : filter (λ consequent. is_met listing confidence union (side_of union consequent)) consequents ≡ filter (λ consequent. is_met listing confidence union (side_of union consequent)) (sides_of size 0 union)
   pub smaller : rules ≡ map (rule_among listing union) (filter (is_met listing confidence union) (subsets_up_to (size - 1) union))
 
-abbrev pub IsLevelAt : Listing → ℕ × ℕ → ℕ → ℕ → List Right → List Rule → Type 0
-IsLevelAt listing confidence number size rights rules = IsConsistent listing.sets → IsLevel listing confidence (set_at listing.sets number) size rights rules
+abbrev pub IsLevelAt : Listing → ℕ × ℕ → ℕ → ℕ → List Consequent → List Rule → Type 0
+IsLevelAt listing confidence number size consequents rules = IsConsistent listing.sets → IsLevel listing confidence (set_at listing.sets number) size consequents rules
 
 pub first_level : (listing : Listing) (confidence : ℕ × ℕ) (number : ℕ) → length (set_at listing.sets number) ≤ MOST_PLACES
     → IsLevelAt listing confidence number 1 (longer (length (set_at listing.sets number)) (no_places ∷ [])) []
@@ -94,59 +94,59 @@ first_level listing confidence number few consistent =
     let union = set_at listing.sets number in
     let all = first_longer union few in
     record {
-      within = λ right m. subst (Member right) all m;
-      all = ap (filter (λ right. is_met listing confidence union (side_of union right))) all;
+      within = λ consequent m. subst (Member consequent) all m;
+      all = ap (filter (λ consequent. is_met listing confidence union (side_of union consequent))) all;
       smaller = refl;
     }
 
-right_sides : (listing : Listing) (number size : ℕ) (rights : List Right) → IsRising (set_at listing.sets number) → length (set_at listing.sets number) ≤ MOST_PLACES
+right_sides : (listing : Listing) (number size : ℕ) (consequents : List Consequent) → IsRising (set_at listing.sets number) → length (set_at listing.sets number) ≤ MOST_PLACES
     → 1 ≤ size → size < length (set_at listing.sets number)
-    → ((right : Right) → Member right rights → Member right (sides_of size 0 (set_at listing.sets number))) → AllByRecursion (λ right. IsRightSide listing number (side_of (set_at listing.sets number) right)) rights
-right_sides listing number size rights up few some less within = All-from_Member (λ right. IsRightSide listing number (side_of (set_at listing.sets number) right)) rights (λ right m.
+    → ((consequent : Consequent) → Member consequent consequents → Member consequent (sides_of size 0 (set_at listing.sets number))) → AllByRecursion (λ consequent. IsConsequent listing number (side_of (set_at listing.sets number) consequent)) consequents
+right_sides listing number size consequents up few some less within = All-from_Member (λ consequent. IsConsequent listing number (side_of (set_at listing.sets number) consequent)) consequents (λ consequent m.
     let union = set_at listing.sets number in
-    let side = side_of union right in
+    let side = side_of union consequent in
     let s = IsSubset-from_Member size union side up
-    (subst (Member side) (sides_are_subsets size union few) (Member-map (side_of union) right (sides_of size 0 union) (within right m))) in
+    (subst (Member side) (sides_are_subsets size union few) (Member-map (side_of union) consequent (sides_of size 0 union) (within consequent m))) in
     ((s.rises, (λ e. let z : length side ≡ 0 = ap length e in let k = s.sized in omega arith), contains_each union side s.within), (let k = s.sized in omega arith)))
 
 -- a test of the sides, and what is made of those that pass
-filtered_sides : {X : Type 0} (test : List ℕ → Bool) (made : List ℕ → X) (side : Right → List ℕ) (rights : List Right)
-    → map (λ r. made (side r)) (filter (λ r. test (side r)) rights) ≡ map made (filter test (map side rights))
+filtered_sides : {X : Type 0} (test : List ℕ → Bool) (made : List ℕ → X) (side : Consequent → List ℕ) (consequents : List Consequent)
+    → map (λ r. made (side r)) (filter (λ r. test (side r)) consequents) ≡ map made (filter test (map side consequents))
 filtered_sides test made side [] = refl
-filtered_sides test made side (right ∷ rights) = at (test (side right)) (filtered_sides test made side rights)
+filtered_sides test made side (consequent ∷ consequents) = at (test (side consequent)) (filtered_sides test made side consequents)
   where
-    at : (b : Bool) → map (λ r. made (side r)) (filter (λ r. test (side r)) rights) ≡ map made (filter test (map side rights))
-        → map (λ r. made (side r)) (cond b (right ∷ filter (λ r. test (side r)) rights) (filter (λ r. test (side r)) rights))
-        ≡ map made (cond b (side right ∷ filter test (map side rights)) (filter test (map side rights)))
-    at true e = ap (λ l. made (side right) ∷ l) e
+    at : (b : Bool) → map (λ r. made (side r)) (filter (λ r. test (side r)) consequents) ≡ map made (filter test (map side consequents))
+        → map (λ r. made (side r)) (cond b (consequent ∷ filter (λ r. test (side r)) consequents) (filter (λ r. test (side r)) consequents))
+        ≡ map made (cond b (side consequent ∷ filter test (map side consequents)) (filter test (map side consequents)))
+    at true e = ap (λ l. made (side consequent) ∷ l) e
     at false e = e
 
 module _ (listing : Listing) (confidence : ℕ × ℕ) (number size : ℕ) (below : number < length listing.sets) (few : length (set_at listing.sets number) ≤ MOST_PLACES) (some : 1 ≤ size)
-    (less : size < length (set_at listing.sets number)) (rights met : List Right) (rules more : List Rule) (keeps : KeepsConfident listing confidence number rights met rules more)
-    (level : IsLevelAt listing confidence number size rights rules) (consistent : IsConsistent listing.sets) where
+    (less : size < length (set_at listing.sets number)) (consequents met : List Consequent) (rules more : List Rule) (keeps : KeepsConfident listing confidence number consequents met rules more)
+    (level : IsLevelAt listing confidence number size consequents rules) (consistent : IsConsistent listing.sets) where
   rises : IsRising (set_at listing.sets number)
   rises = (set_nonempty listing.sets consistent number below).0
 
   -- the sides that are met
-  abbrev test : Right → Bool
-  test right = is_met listing confidence (set_at listing.sets number) (side_of (set_at listing.sets number) right)
+  abbrev test : Consequent → Bool
+  test consequent = is_met listing confidence (set_at listing.sets number) (side_of (set_at listing.sets number) consequent)
 
-  sides_fall : (place : ℕ) (right : Right) → test (with_place place right) ≡ true → test right ≡ true
-  sides_fall place right =
+  sides_fall : (place : ℕ) (consequent : Consequent) → test (with_place place consequent) ≡ true → test consequent ≡ true
+  sides_fall place consequent =
       let set = set_at listing.sets number in
-      met_falls listing number below consistent confidence (side_of set (with_place place right)) (side_of set right)
-      (chosen_rises (has_place (bit_or right.places (2 ^ place))) 0 set rises) (chosen_rises (has_place right.places) 0 set rises)
-      (contains_each (side_of set (with_place place right)) (side_of set right) (side_grows set place right))
+      met_falls listing number below consistent confidence (side_of set (with_place place consequent)) (side_of set consequent)
+      (chosen_rises (has_place (bit_or consequent.places (2 ^ place))) 0 set rises) (chosen_rises (has_place consequent.places) 0 set rises)
+      (contains_each (side_of set (with_place place consequent)) (side_of set consequent) (side_grows set place consequent))
 
-  kept : (met ≡ filter test (sides_of size 0 (set_at listing.sets number))) × (more ≡ rules ++ map (λ right. rule_among listing (set_at listing.sets number) (side_of (set_at listing.sets number) right)) met)
+  kept : (met ≡ filter test (sides_of size 0 (set_at listing.sets number))) × (more ≡ rules ++ map (λ consequent. rule_among listing (set_at listing.sets number) (side_of (set_at listing.sets number) consequent)) met)
   kept =
       let set = set_at listing.sets number in
       let l = level consistent in
-      let all = right_sides listing number size rights rises few some less l.within in
+      let all = right_sides listing number size consequents rises few some less l.within in
       let k = keeps consistent all in (
-        k.0 ∙ filter_same (λ right. is_confident_among listing confidence set (side_of set right)) test rights
-            (λ right m. sym (ap (λ b. b && is_confident_among listing confidence set (side_of set right))
-            (lt-ltb (length (side_of set right)) (length set) (at_Member (λ r. IsRightSide listing number (side_of set r)) right rights all m).1))) ∙ l.all,
+        k.0 ∙ filter_same (λ consequent. is_confident_among listing confidence set (side_of set consequent)) test consequents
+            (λ consequent m. sym (ap (λ b. b && is_confident_among listing confidence set (side_of set consequent))
+            (lt-ltb (length (side_of set consequent)) (length set) (at_Member (λ r. IsConsequent listing number (side_of set r)) consequent consequents all m).1))) ∙ l.all,
         k.1,
       )
 
@@ -159,9 +159,9 @@ module _ (listing : Listing) (confidence : ℕ × ℕ) (number size : ℕ) (belo
       let met_is = kept.0 in
       let next : longer (length set) sides ≡ sides_of (size + 1) 0 set = all_longer size set few ∙ ap (λ n. sides_of n 0 set) (sym (add-one size)) in
       record {
-        within = λ right m. subst (Member right) next (fewer_longer test (length set) sides right (subst (λ r. Member right (longer (length set) r)) met_is m));
+        within = λ consequent m. subst (Member consequent) next (fewer_longer test (length set) sides consequent (subst (λ r. Member consequent (longer (length set) r)) met_is m));
         all = ap (λ r. filter test (longer (length set) r)) met_is ∙ kept_longer test sides_fall (length set) sides ∙ ap (filter test) next;
-        smaller = kept.1 ∙ (λ i. (level consistent).smaller i ++ map (λ right. made (side_of set right)) (met_is i))
+        smaller = kept.1 ∙ (λ i. (level consistent).smaller i ++ map (λ consequent. made (side_of set consequent)) (met_is i))
             ∙ ap (λ r. map made (filter p (subsets_up_to (size - 1) set)) ++ r)
             (filtered_sides p made (side_of set) sides ∙ ap (λ s. map made (filter p s)) (sides_are_subsets size set few))
             ∙ joined made p set size some ∙ ap (λ n. map made (filter p (subsets_up_to n set))) (less_one size);
@@ -172,20 +172,20 @@ module _ (listing : Listing) (confidence : ℕ × ℕ) (number size : ℕ) (belo
 
 -- ---- all sizes but the union's own
 
--- the right sides are those that are smaller than the union
-met_sides : (listing : Listing) (confidence : ℕ × ℕ) (union : List ℕ) → filter (is_met listing confidence union) (right_sides_of union) ≡ filter (is_confident_among listing confidence union) (right_sides_of union)
-met_sides listing confidence union = filter_same (is_met listing confidence union) (is_confident_among listing confidence union) (right_sides_of union) (λ right m.
-    ap (λ b. b && is_confident_among listing confidence union right) (Member-filter (λ r. ltb (length r) (length union)) right (subsets_of union) m).1)
+-- the consequents are those that are smaller than the union
+met_sides : (listing : Listing) (confidence : ℕ × ℕ) (union : List ℕ) → filter (is_met listing confidence union) (consequents_of union) ≡ filter (is_confident_among listing confidence union) (consequents_of union)
+met_sides listing confidence union = filter_same (is_met listing confidence union) (is_confident_among listing confidence union) (consequents_of union) (λ consequent m.
+    ap (λ b. b && is_confident_among listing confidence union consequent) (Member-filter (λ r. ltb (length r) (length union)) consequent (subsets_of union) m).1)
 
-pub all_levels : (listing : Listing) (confidence : ℕ × ℕ) (number size : ℕ) (rights : List Right) (rules : List Rule) → number < length listing.sets
+pub all_levels : (listing : Listing) (confidence : ℕ × ℕ) (number size : ℕ) (consequents : List Consequent) (rules : List Rule) → number < length listing.sets
     → length (set_at listing.sets number) ≤ size → (1 ≤ length (set_at listing.sets number) → size ≤ length (set_at listing.sets number))
-    → IsLevelAt listing confidence number size rights rules → IsConsistent listing.sets → rules ≡ rules_among_with listing confidence (set_at listing.sets number)
-all_levels listing confidence number size rights rules below low high level consistent =
+    → IsLevelAt listing confidence number size consequents rules → IsConsistent listing.sets → rules ≡ rules_among_with listing confidence (set_at listing.sets number)
+all_levels listing confidence number size consequents rules below low high level consistent =
     let union = set_at listing.sets number in
     let nonempty = set_nonempty listing.sets consistent number below in
     let at_end : size ≡ length union = (let h = high (some_item union nonempty.1) in omega arith) in
     (level consistent).smaller
-    ∙ ap (λ l. map (rule_among listing union) (filter (is_met listing confidence union) l)) (ap (λ n. subsets_up_to (n - 1) union) at_end ∙ sym (right_sides_are union nonempty.0))
+    ∙ ap (λ l. map (rule_among listing union) (filter (is_met listing confidence union) l)) (ap (λ n. subsets_up_to (n - 1) union) at_end ∙ sym (consequents_are union nonempty.0))
     ∙ ap (map (rule_among listing union)) (met_sides listing confidence union)
   where
     some_item : (set : List ℕ) → set ≢ [] → 1 ≤ length set

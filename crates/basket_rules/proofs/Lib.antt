@@ -4,7 +4,7 @@ mod SubsetLemmas
 mod CoveredLemmas
 mod MarkLemmas
 mod RuleLemmas
-mod RightLemmas
+mod ConsequentLemmas
 mod SideLemmas
 mod SizeLemmas
 mod LevelLemmas

@@ -6,11 +6,11 @@ use Rattle.std.proofs.lemmas.Bool.{cases_lt}
 use Rattle.std.proofs.lemmas.List.{take-set, take_more_set}
 use Rattle.std.proofs.lemmas.Nat.Bits.{bit_at-lt, bit_at-trailing_zeros, bit_at-zero, bit_at_clear_same, bit_at_clear_other, bit_at_not}
 use Rattle.basket_sets.specs.Itemset.{IsRising}
-use Rattle.basket_rules.specs.declared.rights.Right.{Right}
-use Rattle.basket_rules.specs.declared.rights.TheConstants.{MOST_PLACES}
-use Rattle.basket_rules.specs.Rights.{chosen, chosen_from, has_place, side_of}
+use Rattle.basket_rules.specs.declared.consequents.Consequent.{Consequent}
+use Rattle.basket_rules.specs.declared.consequents.TheConstants.{MOST_PLACES}
+use Rattle.basket_rules.specs.Consequents.{chosen, chosen_from, has_place, side_of}
 use Rattle.basket_rules.specs.Rules.{difference}
-use Rattle.basket_rules.proofs.RightLemmas.{item_taken, item_left, others_are}
+use Rattle.basket_rules.proofs.ConsequentLemmas.{item_taken, item_left, others_are}
 
 -- ---- from the lowest place on
 
@@ -101,8 +101,8 @@ pub put_left : (test : ℕ → Bool) (union side : List ℕ) (place on item : �
     → take on side ≡ chosen test (take place union) → take on (set side on item) ≡ chosen test (take (place + 1) union)
 put_left test union side place on item below fails so = take-set side on item ∙ so ∙ sym (item_left test union place below fails)
 
--- ---- the left side
+-- ---- the antecedent
 
-pub left_side : (right : Right) (union : List ℕ) → right.places < 2 ^ 64 → length union ≤ MOST_PLACES → IsRising union
-    → chosen (has_place (bit_not w64 right.places)) union ≡ difference union (side_of union right)
-left_side right union fits few up = others_of_word right.places union fits (omega (arith, few)) ∙ others_are (has_place right.places) 0 union up
+pub antecedent_side : (consequent : Consequent) (union : List ℕ) → consequent.places < 2 ^ 64 → length union ≤ MOST_PLACES → IsRising union
+    → chosen (has_place (bit_not w64 consequent.places)) union ≡ difference union (side_of union consequent)
+antecedent_side consequent union fits few up = others_of_word consequent.places union fits (omega (arith, few)) ∙ others_are (has_place consequent.places) 0 union up

@@ -1,4 +1,4 @@
--- The right sides of a union are its subsets of all sizes but its own, and no list has the subsets of a very large set.
+-- The consequents of a union are its subsets of all sizes but its own, and no list has the subsets of a very large set.
 use Rattle.std.proofs.Common.{◌≡◌, ℕ, ◌+◌, ◌-◌, ◌<◌, ◌≤◌, ◌^◌, Bool, true, false, cond, ltb, List, [], ◌∷◌, ◌++◌, length, get_or, map, filter, refl, sym, ap, ◌∙◌, subst, inl, inr, arith, zero, suc}
 use Rattle.std.specs.Cmp.Lexicographic.{bytes_decides}
 use Rattle.std.proofs.lemmas.Bool.{lt-ltb, le-ltb}
@@ -24,10 +24,10 @@ use Rattle.basket_sets.proofs.theory.Members.{Member, Member-append, Member-map,
 use Rattle.basket_sets.proofs.theory.Rising.{contains-refl, contains_each, Member-rising}
 use Rattle.basket_sets.proofs.theory.Subsets.{IsSubset-from_Member, size_of_Member}
 use Rattle.basket_sets.proofs.theory.Support.{frequent_items, support-cons}
-use Rattle.basket_rules.specs.declared.rights.TheConstants.{MOST_PLACES}
+use Rattle.basket_rules.specs.declared.consequents.TheConstants.{MOST_PLACES}
 use Rattle.basket_rules.specs.Consistency.{IsConsistent}
 use Rattle.basket_rules.specs.Listed.{sets_in, set_at}
-use Rattle.basket_rules.specs.Rules.{right_sides_of}
+use Rattle.basket_rules.specs.Rules.{consequents_of}
 use Rattle.basket_rules.proofs.SearchLemmas.{none, set_is, entry_listed}
 use Rattle.basket_rules.proofs.theory.Consistency.{sound_of, set_nonempty, subset_stands}
 
@@ -43,7 +43,7 @@ joined made p union (suc k) some =
     ∙ sym (map-append made (filter p (subsets_up_to k union)) (filter p (subsets_of_size (suc k) union)))
     ∙ ap (map made) (sym (filter-append p (subsets_up_to k union) (subsets_of_size (suc k) union)))
 
--- ---- right sides
+-- ---- consequents
 
 filter_all : (p : List ℕ → Bool) (xs : List (List ℕ)) → ((x : List ℕ) → Member x xs → p x ≡ true) → filter p xs ≡ xs
 filter_all p [] h = refl
@@ -53,24 +53,24 @@ filter_none : (p : List ℕ → Bool) (xs : List (List ℕ)) → ((x : List ℕ)
 filter_none p [] h = refl
 filter_none p (x ∷ xs) h = ap (λ b. cond b (x ∷ filter p xs) (filter p xs)) (h x (inl refl)) ∙ filter_none p xs (λ y m. h y (inr m))
 
-pub right_sides_are : (union : List ℕ) → IsRising union → right_sides_of union ≡ subsets_up_to (length union - 1) union
-right_sides_are [] up = refl
-right_sides_are (x ∷ items) up =
+pub consequents_are : (union : List ℕ) → IsRising union → consequents_of union ≡ subsets_up_to (length union - 1) union
+consequents_are [] up = refl
+consequents_are (x ∷ items) up =
     let union = x ∷ items in
-    let p = λ (right : List ℕ). ltb (length right) (length union) in
+    let p = λ (consequent : List ℕ). ltb (length consequent) (length union) in
     let same : length items ≡ suc (length items) - 1 = omega arith in
     filter-append p (subsets_up_to (length items) union) (subsets_of_size (suc (length items)) union)
     ∙ (λ i. filter_all p (subsets_up_to (length items) union) smaller i ++ filter_none p (subsets_of_size (suc (length items)) union) whole i)
     ∙ append-nil (subsets_up_to (length items) union)
     ∙ ap (λ n. subsets_up_to n union) same
   where
-    smaller : (right : List ℕ) → Member right (subsets_up_to (length items) (x ∷ items)) → ltb (length right) (suc (length items)) ≡ true
-    smaller right m = let s = size_of_Member (length items) (x ∷ items) right up m in
-        lt-ltb (length right) (suc (length items)) (let k = s.1 in let n = s.2.sized in omega arith)
+    smaller : (consequent : List ℕ) → Member consequent (subsets_up_to (length items) (x ∷ items)) → ltb (length consequent) (suc (length items)) ≡ true
+    smaller consequent m = let s = size_of_Member (length items) (x ∷ items) consequent up m in
+        lt-ltb (length consequent) (suc (length items)) (let k = s.1 in let n = s.2.sized in omega arith)
 
-    whole : (right : List ℕ) → Member right (subsets_of_size (suc (length items)) (x ∷ items)) → ltb (length right) (suc (length items)) ≡ false
-    whole right m = let s = IsSubset-from_Member (suc (length items)) (x ∷ items) right up m in
-        le-ltb (length right) (suc (length items)) (let n = s.sized in omega arith)
+    whole : (consequent : List ℕ) → Member consequent (subsets_of_size (suc (length items)) (x ∷ items)) → ltb (length consequent) (suc (length items)) ≡ false
+    whole consequent m = let s = IsSubset-from_Member (suc (length items)) (x ∷ items) consequent up m in
+        le-ltb (length consequent) (suc (length items)) (let n = s.sized in omega arith)
 
 -- ---- no larger unions
 

@@ -1,10 +1,10 @@
 pub mod Listed
-pub mod Met
+pub mod Confident
 pub mod Search
 pub mod Subset
 pub mod Consistency
 pub mod Covered
 pub mod Condensed
-pub mod Rights
+pub mod Consequents
 pub mod Rules
 pub mod Worked

@@ -19,7 +19,7 @@ abbrev pub ratio : ℕ → ℕ → Ratio
 ratio numerator denominator = record { numerator = numerator; denominator = denominator }
 
 abbrev pub rule : List ℕ → List ℕ → ℕ → Ratio → Ratio → Rule
-rule left right count confidence lift = record { left = left; right = right; count = count; confidence = confidence; lift = lift }
+rule antecedent consequent count confidence lift = record { antecedent = antecedent; consequent = consequent; count = count; confidence = confidence; lift = lift }
 
 -- the rules of the nine baskets at support 2 that have a confidence of 7/10 or more
 abbrev pub six_rules : List Rule

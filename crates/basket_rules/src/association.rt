@@ -3,15 +3,15 @@ ghost use Rattle.std.specs.Prelude.{◌≡◌, ◌<◌, ◌-◌, ◌*◌, ◌++�
 ghost use Rattle.basket_sets.specs.Itemset.{IsRising};
 ghost use Rattle.basket_rules.specs.Consistency.{IsConsistent};
 ghost use Rattle.basket_rules.specs.Listed.{set_at};
-ghost use Rattle.basket_rules.specs.Met.{found_rule, rule_from, rules_in};
-ghost use Rattle.basket_rules.specs.Rights.{side_of};
+ghost use Rattle.basket_rules.specs.Confident.{found_rule, rule_from, rules_in};
+ghost use Rattle.basket_rules.specs.Consequents.{side_of};
 ghost use Rattle.basket_rules.specs.Rules.{KeepsConfident, AreRules, AreRulesWith, IsRuleFor, rules_among, rules_among_with};
 
-use crate::figures::Figures;
+use crate::confident::ConfidentRule;
+use crate::consequents::{Consequent, MOST_PLACES, Sides, longer_consequents};
 use crate::listed::items_at;
 use crate::lookups::Lookups;
-use crate::met::MetRule;
-use crate::rights::{MOST_PLACES, Right, Sides, longer_rights};
+use crate::rule_counts::RuleCounts;
 use crate::wanted::Wanted;
 use basket_core::{Fraction, Frequent, Itemset, MOST_ITEMS, Share};
 use std::alloc::{AllocError, Global};
@@ -19,12 +19,12 @@ use std::alloc::{AllocError, Global};
 /// The rules of a union of up to this many items have room before they are made.
 const MOST_ROOM: usize = 10;
 
-/// A rule: baskets that have the left side, the antecedent, often have the right side, the
-/// consequent, too. Neither is empty, and they have no item in common.
+/// A rule: baskets that have the antecedent often have the consequent too. Neither is empty, and they
+/// have no item in common.
 #[derive(Debug, PartialEq, Eq, Drop)]
 pub struct Rule {
-    pub left: Itemset,
-    pub right: Itemset,
+    pub antecedent: Itemset,
+    pub consequent: Itemset,
     /// The support of both sides together.
     pub count: u64,
     /// Which share of the baskets with the antecedent has the consequent too.
@@ -72,7 +72,7 @@ fn add_rules(
     alloc: Global,
     frequent: &Frequent,
     number: usize,
-    met: &[MetRule],
+    met: &[ConfidentRule],
     lookups: &mut Lookups,
     rules: &mut Vec<Rule>,
 ) -> Result<(), AllocError>
@@ -80,24 +80,24 @@ fn add_rules(
     ensures { OnOk result (rules.new.items ≡ rules.old.items ++ rules_in frequent.now number met.now) }
 {
     for rule in met {
-        let figures = lookups.rule(frequent, number, rule)?;
-        rules.push(rule_of_sides(alloc, &lookups.sides, &figures)?)?;
+        let counts = lookups.rule(frequent, number, rule)?;
+        rules.push(rule_of_sides(alloc, &lookups.sides, &counts)?)?;
     }
     Ok(())
 }
 
-/// The rule with these sides and figures.
-fn rule_of_sides(alloc: Global, sides: &Sides, figures: &Figures) -> Result<Rule, AllocError>
-    requires left { IsRising sides.now.left.items }
-    requires right { IsRising sides.now.right.items }
-    ensures { IfOk result (λ rule. rule ≡ rule_from sides.now figures.now) }
+/// The rule with these sides and counts.
+fn rule_of_sides(alloc: Global, sides: &Sides, counts: &RuleCounts) -> Result<Rule, AllocError>
+    requires antecedent { IsRising sides.now.antecedent.items }
+    requires consequent { IsRising sides.now.consequent.items }
+    ensures { IfOk result (λ rule. rule ≡ rule_from sides.now counts.now) }
 {
     Ok(Rule {
-        left: Itemset::from_items(alloc, &sides.left)?,
-        right: Itemset::from_items(alloc, &sides.right)?,
-        count: figures.count,
-        confidence: figures.confidence(),
-        lift: figures.lift(),
+        antecedent: Itemset::from_items(alloc, &sides.antecedent)?,
+        consequent: Itemset::from_items(alloc, &sides.consequent)?,
+        count: counts.count,
+        confidence: counts.confidence(),
+        lift: counts.lift(),
     })
 }
 
@@ -110,7 +110,7 @@ pub fn met_rules(
     number: usize,
     confidence: Share,
     lookups: &mut Lookups,
-) -> Result<Vec<MetRule>, AllocError>
+) -> Result<Vec<ConfidentRule>, AllocError>
     requires { number < length frequent.now.sets }
     ensures baskets { IfOk result (λ rules. AreRulesWith frequent.now confidence number (rules_in frequent.now number rules.items)) }
     ensures lists { IfOk result (λ rules. IsConsistent frequent.now.sets → rules_in frequent.now number rules.items ≡ rules_among_with frequent.now confidence (set_at frequent.now.sets number)) }
@@ -132,16 +132,16 @@ pub fn met_rules(
         count: sets.count(number),
         confidence,
     };
-    let mut rights = longer_rights(alloc, &[Right::none()], count)?;
-    for size in 0..most_right_items(count) {
-        let met = keep_confident(alloc, &wanted, &rights, lookups, &mut rules)?;
-        rights = longer_rights(alloc, &met, count)?;
+    let mut consequents = longer_consequents(alloc, &[Consequent::none()], count)?;
+    for size in 0..most_consequent_items(count) {
+        let met = keep_confident(alloc, &wanted, &consequents, lookups, &mut rules)?;
+        consequents = longer_consequents(alloc, &met, count)?;
     }
     Ok(rules)
 }
 
 /// How many items a consequent has at most, since an antecedent has one too.
-fn most_right_items(count: usize) -> usize
+fn most_consequent_items(count: usize) -> usize
     ensures { result ≡ count - 1 }
 {
     count.saturating_sub(1)
@@ -151,19 +151,19 @@ fn most_right_items(count: usize) -> usize
 fn keep_confident(
     alloc: Global,
     wanted: &Wanted<'_>,
-    tried: &[Right],
+    tried: &[Consequent],
     lookups: &mut Lookups,
-    rules: &mut Vec<MetRule>,
-) -> Result<Vec<Right>, AllocError>
+    rules: &mut Vec<ConfidentRule>,
+) -> Result<Vec<Consequent>, AllocError>
     ensures { IfOk result (λ met. KeepsConfident wanted.now.frequent.now wanted.now.confidence wanted.now.number tried.now met.items
         (rules_in wanted.now.frequent.now wanted.now.number rules.old.items) (rules_in wanted.now.frequent.now wanted.now.number rules.new.items)) }
 {
     let whole = lookups.hashes.side(u64::MAX);
     let mut met = Vec::with_capacity(alloc, tried.len())?;
-    for right in tried {
-        if let Some(rule) = rule_for(wanted, *right, whole, lookups)? {
+    for consequent in tried {
+        if let Some(rule) = rule_for(wanted, *consequent, whole, lookups)? {
             rules.push(rule)?;
-            met.push(*right)?;
+            met.push(*consequent)?;
         }
     }
     Ok(met)
@@ -172,25 +172,25 @@ fn keep_confident(
 /// The rule with this consequent, if it meets the confidence. `whole` is the hash of the union.
 fn rule_for(
     wanted: &Wanted<'_>,
-    right: Right,
+    consequent: Consequent,
     whole: u64,
     lookups: &mut Lookups,
-) -> Result<Option<MetRule>, AllocError>
-    ensures { IfOk result (λ found. IsRuleFor wanted.now.frequent.now wanted.now.confidence wanted.now.number (side_of (set_at wanted.now.frequent.now.sets wanted.now.number) right) (found_rule wanted.now.frequent.now wanted.now.number found)) }
+) -> Result<Option<ConfidentRule>, AllocError>
+    ensures { IfOk result (λ found. IsRuleFor wanted.now.frequent.now wanted.now.confidence wanted.now.number (side_of (set_at wanted.now.frequent.now.sets wanted.now.number) consequent) (found_rule wanted.now.frequent.now wanted.now.number found)) }
 {
-    let part = lookups.hashes.side(right.places);
-    let left_count = wanted.count_of(!right.places, whole.wrapping_sub(part), lookups)?;
-    if !meets(wanted.confidence, wanted.count, left_count) {
+    let part = lookups.hashes.side(consequent.places);
+    let antecedent_count = wanted.count_of(!consequent.places, whole.wrapping_sub(part), lookups)?;
+    if !meets(wanted.confidence, wanted.count, antecedent_count) {
         return Ok(None);
     }
-    let right_count = wanted.count_of(right.places, part, lookups)?;
-    Ok(MetRule::new(right, left_count, right_count))
+    let consequent_count = wanted.count_of(consequent.places, part, lookups)?;
+    Ok(ConfidentRule::new(consequent, antecedent_count, consequent_count))
 }
 
 /// Whether a count is at least this share of that of the antecedent.
-fn meets(confidence: Share, count: u64, left_count: u64) -> bool
-    ensures { result ≡ nat_le (confidence.0 * left_count) (count * confidence.1) }
+fn meets(confidence: Share, count: u64, antecedent_count: u64) -> bool
+    ensures { result ≡ nat_le (confidence.0 * antecedent_count) (count * confidence.1) }
 {
-    u128::from(confidence.numerator()) * u128::from(left_count)
+    u128::from(confidence.numerator()) * u128::from(antecedent_count)
         <= u128::from(count) * u128::from(confidence.denominator())
 }

@@ -3,14 +3,14 @@
 
 mod association;
 mod condensed;
+mod confident;
+mod consequents;
 mod covered;
-mod figures;
 mod hashes;
 pub mod laws;
 mod listed;
 mod lookups;
-mod met;
-mod rights;
+mod rule_counts;
 mod search;
 mod supports;
 mod wanted;
@@ -18,7 +18,7 @@ pub mod worked;
 
 pub use association::{Rule, met_rules, rules, rules_with};
 pub use condensed::{closed, maximal};
-pub use figures::Figures;
+pub use confident::ConfidentRule;
+pub use consequents::Sides;
 pub use lookups::Lookups;
-pub use met::MetRule;
-pub use rights::Sides;
+pub use rule_counts::RuleCounts;

@@ -1,13 +1,13 @@
 //! What rules are looked up by.
 ghost use Rattle.std.specs.Prelude.{◌≡◌, ◌<◌, IfOk, length};
 ghost use Rattle.basket_sets.specs.Itemset.{IsRising};
-ghost use Rattle.basket_rules.specs.Met.{rule_from, rule_in};
+ghost use Rattle.basket_rules.specs.Confident.{rule_from, rule_in};
 
-use crate::figures::Figures;
+use crate::confident::ConfidentRule;
+use crate::consequents::Sides;
 use crate::hashes::ItemHashes;
 use crate::listed::items_at;
-use crate::met::MetRule;
-use crate::rights::Sides;
+use crate::rule_counts::RuleCounts;
 use basket_core::{CountedSets, Frequent, MOST_ITEMS};
 use basket_order::{Places, items_hash};
 use std::alloc::{AllocError, Global};
@@ -48,26 +48,26 @@ impl Lookups {
     }
 
     /// Puts the items of both sides of a rule of the set at the place into `sides`, and returns its
-    /// figures.
+    /// counts.
     pub fn rule(
         &mut self,
         frequent: &Frequent,
         number: usize,
-        met: &MetRule,
-    ) -> Result<Figures, AllocError>
+        met: &ConfidentRule,
+    ) -> Result<RuleCounts, AllocError>
         requires { number < length frequent.now.sets }
-        ensures rule { IfOk result (λ figures. rule_from self.new.sides figures ≡ rule_in frequent.now number met.now) }
-        ensures left { IfOk result (λ _. IsRising self.new.sides.left.items) }
-        ensures right { IfOk result (λ _. IsRising self.new.sides.right.items) }
+        ensures rule { IfOk result (λ counts. rule_from self.new.sides counts ≡ rule_in frequent.now number met.now) }
+        ensures antecedent { IfOk result (λ _. IsRising self.new.sides.antecedent.items) }
+        ensures consequent { IfOk result (λ _. IsRising self.new.sides.consequent.items) }
     {
         let sets = frequent.sets();
         let items = items_at(sets, number, &mut self.room);
-        self.sides.fill(items, met.right.places)?;
-        Ok(Figures {
+        self.sides.fill(items, met.consequent.places)?;
+        Ok(RuleCounts {
             count: sets.count(number),
             total: frequent.total(),
-            left_count: met.left_count,
-            right_count: met.right_count,
+            antecedent_count: met.antecedent_count,
+            consequent_count: met.consequent_count,
         })
     }
 }

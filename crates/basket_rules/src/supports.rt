@@ -1,11 +1,11 @@
 //! The supports of the sides of rules.
 ghost use Rattle.std.specs.Prelude.{◌≡◌, ◌<◌, ◌≤◌, IfSome, IsTrue, length};
 ghost use Rattle.basket_rules.specs.Listed.{set_at};
-ghost use Rattle.basket_rules.specs.Rights.{chosen, has_place};
+ghost use Rattle.basket_rules.specs.Consequents.{chosen, has_place};
 ghost use Rattle.basket_rules.specs.Rules.{IsCountIn};
 
+use crate::consequents::MOST_PLACES;
 use crate::listed::items_at;
-use crate::rights::MOST_PLACES;
 use crate::search::find_near;
 use basket_core::{CountedSets, MOST_ITEMS};
 use basket_order::{MOST_STEPS, Places};

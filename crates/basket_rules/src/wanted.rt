@@ -1,9 +1,9 @@
 //! The rules with one union, before they are made.
 ghost use Rattle.std.specs.Prelude.{◌≡◌, ◌≤◌, ◌<◌, IfOk, length};
 ghost use Rattle.basket_rules.specs.Listed.{count_at, set_at};
-ghost use Rattle.basket_rules.specs.Rights.{chosen, has_place};
+ghost use Rattle.basket_rules.specs.Consequents.{chosen, has_place};
 ghost use Rattle.basket_rules.specs.Rules.{IsCountIn};
-ghost use Rattle.basket_rules.specs.declared.rights.TheConstants.{MOST_PLACES};
+ghost use Rattle.basket_rules.specs.declared.consequents.TheConstants.{MOST_PLACES};
 
 use crate::lookups::Lookups;
 use crate::supports::{place_of, searched_count};
@@ -37,6 +37,6 @@ impl Wanted<'_> {
             return Ok(sets.count(place));
         }
         lookups.sides.fill(self.items, places)?;
-        Ok(searched_count(sets, &lookups.sides.right))
+        Ok(searched_count(sets, &lookups.sides.consequent))
     }
 }

@@ -14,7 +14,11 @@ const FIVE_BASKETS: &[Row] = &[(&[1, 2, 3], 2), (&[1, 2], 1), (&[1, 3], 1), (&[2
 fn text(alloc: Global, rules: &[Rule]) -> Result<String, Fail> {
     let mut text = String::new(alloc);
     for rule in rules {
-        write!(text, "{} => {} ({}) ", rule.left, rule.right, rule.count)?;
+        write!(
+            text,
+            "{} => {} ({}) ",
+            rule.antecedent, rule.consequent, rule.count
+        )?;
         write!(text, "{} {}|", rule.confidence, rule.lift)?;
     }
     Ok(text)

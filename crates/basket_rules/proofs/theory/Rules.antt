@@ -1,4 +1,4 @@
--- The confidence of rules falls as the right side grows, and the list of the frequent sets decides their rules.
+-- The confidence of rules falls as the consequent grows, and the list of the frequent sets decides their rules.
 use Rattle.std.proofs.Common.{leb, ◌≡◌, ◌≢◌, ℕ, ◌*◌, ◌<◌, ◌≤◌, true, false, not, ltb, List, [], length, map, filter, get_or, sym, ap, ◌∙◌, subst, inl, inr, arith}
 use Rattle.std.proofs.lemmas.Bool.{cases_Bool, leb-true, le-leb, ltb-true, true≢false, false_from_ne_true}
 use Rattle.std.proofs.lemmas.List.Kept.{IsStrictlySortedBy-filter}
@@ -18,7 +18,7 @@ use Rattle.basket_sets.proofs.theory.Support.{support_falls, subsets_are_frequen
 use Rattle.basket_rules.specs.declared.association.Rule.{Rule}
 use Rattle.basket_rules.specs.Consistency.{count_in, IsConsistent}
 use Rattle.basket_rules.specs.Listed.{IsListingOf, set_at}
-use Rattle.basket_rules.specs.Rules.{difference, right_sides_of, is_confident, rule_of, rules_with, is_confident_among, rule_among, rules_among_with, rules_among, ConfidenceFalls, ListDecidesRules, AreRules, AreRulesWith}
+use Rattle.basket_rules.specs.Rules.{difference, consequents_of, is_confident, rule_of, rules_with, is_confident_among, rule_among, rules_among_with, rules_among, ConfidenceFalls, ListDecidesRules, AreRules, AreRulesWith}
 use Rattle.basket_rules.proofs.SearchLemmas.{none, set_is, entry_listed}
 use Rattle.basket_rules.proofs.SubsetLemmas.{not_true, true_not, filter_same, map_same, flat_map_same}
 use Rattle.basket_rules.proofs.theory.Consistency.{count_is_support, frequent_is_consistent, sound_of}
@@ -59,11 +59,11 @@ pub scaled : (p s t c : ℕ) → s ≤ t → p * t ≤ c → p * s ≤ c
 scaled p s t c le h = grind arith
 
 pub confidence_falls : ConfidenceFalls
-confidence_falls baskets confidence union right part h k =
-    let bound = support_falls baskets (difference union part) (difference union right) (difference_falls union right part h) in
+confidence_falls baskets confidence union consequent part h k =
+    let bound = support_falls baskets (difference union part) (difference union consequent) (difference_falls union consequent part h) in
     le-leb (confidence.0 * support_of baskets (difference union part)) (support_of baskets union * confidence.1)
-    (scaled confidence.0 (support_of baskets (difference union part)) (support_of baskets (difference union right)) (support_of baskets union * confidence.1) bound
-    (leb-true (confidence.0 * support_of baskets (difference union right)) (support_of baskets union * confidence.1) k))
+    (scaled confidence.0 (support_of baskets (difference union part)) (support_of baskets (difference union consequent)) (support_of baskets union * confidence.1) bound
+    (leb-true (confidence.0 * support_of baskets (difference union consequent)) (support_of baskets union * confidence.1) k))
 
 -- ---- the list decides
 
@@ -72,42 +72,42 @@ listing_of baskets minimum = record { sets = frequent_of baskets minimum; total 
 
 module _ (baskets : List Weighted) (minimum : Minimum) (union : List ℕ) (nonempty : IsNonemptySet union) (often : is_frequent baskets minimum union ≡ true) where
   -- the counts of the union and of the sides of its rules are supports
-  pub record AreSupports (right : List ℕ) : Type 0 where
+  pub record AreSupports (consequent : List ℕ) : Type 0 where
     pub whole : support_of baskets union ≡ count_in (frequent_of baskets minimum) union
-    pub rest : support_of baskets (difference union right) ≡ count_in (frequent_of baskets minimum) (difference union right)
-    pub side : support_of baskets right ≡ count_in (frequent_of baskets minimum) right
+    pub rest : support_of baskets (difference union consequent) ≡ count_in (frequent_of baskets minimum) (difference union consequent)
+    pub side : support_of baskets consequent ≡ count_in (frequent_of baskets minimum) consequent
 
-  are_supports : (right : List ℕ) → Member right (right_sides_of union) → AreSupports right
-  are_supports right m =
-      let p = Member-filter (λ r. ltb (length r) (length union)) right (subsets_of union) m in
-      let s = subset_from_Member union right nonempty.0 p.0 in
-      let left = difference union right in
-      let some = difference_left union right nonempty.0 s.0 (ltb-true (length right) (length union) p.1) in
+  are_supports : (consequent : List ℕ) → Member consequent (consequents_of union) → AreSupports consequent
+  are_supports consequent m =
+      let p = Member-filter (λ r. ltb (length r) (length union)) consequent (subsets_of union) m in
+      let s = subset_from_Member union consequent nonempty.0 p.0 in
+      let antecedent = difference union consequent in
+      let some = difference_left union consequent nonempty.0 s.0 (ltb-true (length consequent) (length union) p.1) in
       record {
         whole = sym (count_is_support baskets minimum union nonempty often);
-        rest = sym (count_is_support baskets minimum left (difference-rises union right nonempty.0, some) (subsets_are_frequent baskets minimum union left (contains_difference union right) often));
-        side = sym (count_is_support baskets minimum right (s.0, s.1) (subsets_are_frequent baskets minimum union right (contains_each union right s.2) often));
+        rest = sym (count_is_support baskets minimum antecedent (difference-rises union consequent nonempty.0, some) (subsets_are_frequent baskets minimum union antecedent (contains_difference union consequent) often));
+        side = sym (count_is_support baskets minimum consequent (s.0, s.1) (subsets_are_frequent baskets minimum union consequent (contains_each union consequent s.2) often));
       }
 
   pub rules_with_by_list : (confidence : ℕ × ℕ) → rules_with baskets confidence union ≡ rules_among_with (listing_of baskets minimum) confidence union
   rules_with_by_list confidence =
-      map_same (rule_of baskets union) (rule_among (listing_of baskets minimum) union) (filter (is_confident baskets confidence union) (right_sides_of union))
-      (λ right m. rule right (are_supports right (Member-filter (is_confident baskets confidence union) right (right_sides_of union) m).0))
+      map_same (rule_of baskets union) (rule_among (listing_of baskets minimum) union) (filter (is_confident baskets confidence union) (consequents_of union))
+      (λ consequent m. rule consequent (are_supports consequent (Member-filter (is_confident baskets confidence union) consequent (consequents_of union) m).0))
       ∙ ap (map (rule_among (listing_of baskets minimum) union))
-      (filter_same (is_confident baskets confidence union) (is_confident_among (listing_of baskets minimum) confidence union) (right_sides_of union)
-      (λ right m. test right (are_supports right m)))
+      (filter_same (is_confident baskets confidence union) (is_confident_among (listing_of baskets minimum) confidence union) (consequents_of union)
+      (λ consequent m. test consequent (are_supports consequent m)))
     where
-      rule : (right : List ℕ) → AreSupports right → rule_of baskets union right ≡ rule_among (listing_of baskets minimum) union right
-      rule right are = λ i. record {
-        left = difference union right;
-        right = right;
+      rule : (consequent : List ℕ) → AreSupports consequent → rule_of baskets union consequent ≡ rule_among (listing_of baskets minimum) union consequent
+      rule consequent are = λ i. record {
+        antecedent = difference union consequent;
+        consequent = consequent;
         count = are.whole i;
         confidence = lowest (are.whole i) (are.rest i);
         lift = lowest (are.whole i * total_of baskets) (are.rest i * are.side i);
       }
 
-      test : (right : List ℕ) → AreSupports right → is_confident baskets confidence union right ≡ is_confident_among (listing_of baskets minimum) confidence union right
-      test right are = λ i. leb (confidence.0 * are.rest i) (are.whole i * confidence.1)
+      test : (consequent : List ℕ) → AreSupports consequent → is_confident baskets confidence union consequent ≡ is_confident_among (listing_of baskets minimum) confidence union consequent
+      test consequent are = λ i. leb (confidence.0 * are.rest i) (are.whole i * confidence.1)
 
 pub list_decides_rules : ListDecidesRules
 list_decides_rules baskets minimum confidence =

@@ -1,7 +1,7 @@
 use Rattle.std.proofs.Common.{◌≡◌, ◌<◌, ◌≤◌, ◌++◌, arith, length, ap, subst, sym}
 use Rattle.std.proofs.lemmas.Result.{IfOk-weaker}
 use Rattle.basket_rules.specs.Consistency.{IsConsistent}
-use Rattle.basket_rules.specs.Met.{rules_in}
+use Rattle.basket_rules.specs.Confident.{rules_in}
 use Rattle.basket_rules.specs.Rules.{rules_among}
 use Rattle.basket_report.specs.Rules.{ReportsRules}
 use Rattle.basket_report.specs.Report.{HasSoFar, rules_report_of}

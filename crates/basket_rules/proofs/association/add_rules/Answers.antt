@@ -1,6 +1,6 @@
 use Rattle.std.proofs.Common.{◌≡◌, ◌+◌, ◌++◌, ◌∷◌, [], take, sym, ap, ◌∙◌}
 use Rattle.std.proofs.lemmas.List.{append_assoc, map-append, take_more}
-use Rattle.basket_rules.specs.Met.{rule_in, rules_in}
+use Rattle.basket_rules.specs.Confident.{rule_in, rules_in}
 use Rattle.basket_rules.proofs.association.add_rules.Goals as goal
 
 pub loop-rule-preserved : goal.loop-rule-preserved
@@ -11,7 +11,7 @@ loop-rule-preserved c =
     let at = c.loop-rule.rule-index in
     let rule = c.rule-item.result in
     let so = rules_in listing number (take at met) in
-    let made = c.in_ok-rule_of_sides.ensures ∙ c.in_ok-figures.ensures.rule in
+    let made = c.in_ok-rule_of_sides.ensures ∙ c.in_ok-counts.ensures.rule in
     let next : take (at + 1) met ≡ take at met ++ rule ∷ [] = take_more met at rule c.loop-rule-test.true ∙ ap (λ r. take at met ++ r ∷ []) (sym c.rule-item.is) in
     c.in_ok-push.ensures.items
     ∙ (λ i. c.loop-rule.invariant i ++ made i ∷ [])

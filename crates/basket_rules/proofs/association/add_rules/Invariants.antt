@@ -1,5 +1,5 @@
 use Rattle.std.proofs.Common.{◌≡◌, ◌++◌, take}
-use Rattle.basket_rules.specs.Met.{rules_in}
+use Rattle.basket_rules.specs.Confident.{rules_in}
 use Rattle.basket_rules.proofs.association.add_rules.Given as goal
 
 abbrev pub invariant-loop-rule : goal.invariant-loop-rule

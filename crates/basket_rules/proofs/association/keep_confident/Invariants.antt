@@ -1,7 +1,7 @@
-use Rattle.basket_rules.specs.Met.{rules_in}
+use Rattle.basket_rules.specs.Confident.{rules_in}
 use Rattle.basket_rules.proofs.LevelLemmas.{IsKeptUpTo}
 use Rattle.basket_rules.proofs.association.keep_confident.Given as goal
 
-abbrev pub invariant-loop-right : goal.invariant-loop-right
-invariant-loop-right l =
-    IsKeptUpTo l.wanted.frequent.now l.wanted.confidence l.wanted.number l.right-index l.tried l.met.items (rules_in l.wanted.frequent.now l.wanted.number l.fn.rules.items) (rules_in l.wanted.frequent.now l.wanted.number l.rules.items)
+abbrev pub invariant-loop-consequent : goal.invariant-loop-consequent
+invariant-loop-consequent l =
+    IsKeptUpTo l.wanted.frequent.now l.wanted.confidence l.wanted.number l.consequent-index l.tried l.met.items (rules_in l.wanted.frequent.now l.wanted.number l.fn.rules.items) (rules_in l.wanted.frequent.now l.wanted.number l.rules.items)

@@ -1,9 +1,9 @@
 use Rattle.std.proofs.Common.{arith, ◌≡◌, ◌≤◌, ◌<◌, ◌+◌, ◌-◌, ◌^◌, [], ◌∷◌, length, sym, ap, ◌∙◌, subst}
-use Rattle.basket_rules.specs.declared.rights.TheConstants.{MOST_PLACES}
+use Rattle.basket_rules.specs.declared.consequents.TheConstants.{MOST_PLACES}
 use Rattle.basket_rules.specs.Consistency.{IsConsistent}
 use Rattle.basket_rules.specs.Listed.{set_at}
-use Rattle.basket_rules.specs.Rights.{longer, no_places}
-use Rattle.basket_rules.specs.Met.{rules_in}
+use Rattle.basket_rules.specs.Consequents.{longer, no_places}
+use Rattle.basket_rules.specs.Confident.{rules_in}
 use Rattle.basket_rules.specs.Rules.{KeepsConfident, rules_among_with}
 use Rattle.basket_rules.proofs.LevelLemmas.{IsLevelAt, first_level, next_level, all_levels}
 use Rattle.basket_rules.proofs.SizeLemmas.{none_so_large}
@@ -28,9 +28,9 @@ loop-size-init c =
     let listing = c.args.frequent.now in
     let number = c.args.number in
     let sized = ap length (c.items_at-items.ensures.is ∙ ap (λ l. set_at l number) c.sets-sets.ensures) in
-    let made : c.in_ok-rights.rights.items ≡ longer (length (set_at listing.sets number)) (no_places ∷ []) =
-    c.in_ok-rights.ensures ∙ (λ i. longer (sized i) (c.none.ensures i ∷ [])) in
-    subst (λ l. IsLevelAt listing c.args.confidence number 1 c.in_ok-rights.rights.items (rules_in listing number l)) (sym c.in_ok-rules.ensures.items)
+    let made : c.in_ok-consequents.consequents.items ≡ longer (length (set_at listing.sets number)) (no_places ∷ []) =
+    c.in_ok-consequents.ensures ∙ (λ i. longer (sized i) (c.none.ensures i ∷ [])) in
+    subst (λ l. IsLevelAt listing c.args.confidence number 1 c.in_ok-consequents.consequents.items (rules_in listing number l)) (sym c.in_ok-rules.ensures.items)
     (subst (λ l. IsLevelAt listing c.args.confidence number 1 l []) (sym made) (first_level listing c.args.confidence number (subst (λ n. n ≤ MOST_PLACES) sized c.if-count-gt-MOST_PLACES.false)))
 
 pub loop-size-preserved : goal.loop-size-preserved
@@ -40,13 +40,13 @@ loop-size-preserved c =
     let sized = ap length (c.items_at-items.ensures.is ∙ ap (λ l. set_at l number) c.sets-sets.ensures) in
     let size = c.loop-size.size + 1 in
     let met = c.in_ok-met.met.items in
-    let made : c.in_ok-rights-2.rights.items ≡ longer (length (set_at listing.sets number)) met = c.in_ok-rights-2.ensures ∙ (λ i. longer (sized i) (c.deref-in-loop-size.ensures.value i)) in
+    let made : c.in_ok-consequents-2.consequents.items ≡ longer (length (set_at listing.sets number)) met = c.in_ok-consequents-2.ensures ∙ (λ i. longer (sized i) (c.deref-in-loop-size.ensures.value i)) in
     let few : length (set_at listing.sets number) ≤ MOST_PLACES = subst (λ n. n ≤ MOST_PLACES) sized c.if-count-gt-MOST_PLACES.false in
-    let most : c.most_right_items-size-end.result ≡ length (set_at listing.sets number) - 1 = c.most_right_items-size-end.ensures ∙ ap (λ n. n - 1) sized in
+    let most : c.most_consequent_items-size-end.result ≡ length (set_at listing.sets number) - 1 = c.most_consequent_items-size-end.ensures ∙ ap (λ n. n - 1) sized in
     let some : 1 ≤ size = omega arith in
     let less : size < length (set_at listing.sets number) = omega (arith, most, c.loop-size-test.true) in
     subst (λ l. IsLevelAt listing c.args.confidence number (size + 1) l (rules_in listing number c.keep_confident.new.rules.items)) (sym made)
-    (λ consistent. next_level listing c.args.confidence number size c.requires few some less c.loop-size.rights.items met (rules_in listing number c.loop-size.rules.items) (rules_in listing number c.keep_confident.new.rules.items)
+    (λ consistent. next_level listing c.args.confidence number size c.requires few some less c.loop-size.consequents.items met (rules_in listing number c.loop-size.rules.items) (rules_in listing number c.keep_confident.new.rules.items)
     (subst (λ r. KeepsConfident listing c.args.confidence number r met (rules_in listing number c.loop-size.rules.items) (rules_in listing number c.keep_confident.new.rules.items)) c.deref.ensures.value c.in_ok-met.ensures) c.loop-size.invariant consistent)
 
 pub returns : goal.returns
@@ -55,8 +55,8 @@ returns c =
     let number = c.args.number in
     let sized = ap length (c.items_at-items.ensures.is ∙ ap (λ l. set_at l number) c.sets-sets.ensures) in
     let size = c.loop-size.size in
-    let most : c.most_right_items-size-end.result ≡ length (set_at listing.sets number) - 1 = c.most_right_items-size-end.ensures ∙ ap (λ n. n - 1) sized in
+    let most : c.most_consequent_items-size-end.result ≡ length (set_at listing.sets number) - 1 = c.most_consequent_items-size-end.ensures ∙ ap (λ n. n - 1) sized in
     let rules = rules_in listing number c.loop-size.rules.items in
-    let lists = all_levels listing c.args.confidence number (size + 1) c.loop-size.rights.items rules c.requires
+    let lists = all_levels listing c.args.confidence number (size + 1) c.loop-size.consequents.items rules c.requires
     (omega (arith, most, c.loop-size-test.false)) (λ some. omega (arith, most, c.loop-size.auto.size-end)) c.loop-size.invariant in
     record { baskets = rules_with_of_baskets listing c.args.confidence number rules c.requires lists; lists = lists }

@@ -1,8 +1,8 @@
 use Rattle.std.proofs.Common.{leb, ◌*◌, ◌≤◌, length, sym, ap, ◌∙◌, subst, arith}
 use Rattle.basket_rules.specs.Listed.{set_at}
-use Rattle.basket_rules.specs.Rights.{side_of}
+use Rattle.basket_rules.specs.Consequents.{side_of}
 use Rattle.basket_rules.specs.Rules.{IsCountIn}
-use Rattle.basket_rules.proofs.SideLemmas.{left_side}
+use Rattle.basket_rules.proofs.SideLemmas.{antecedent_side}
 use Rattle.basket_rules.proofs.RuleLemmas.{no_rule, a_found_rule}
 use Rattle.basket_rules.proofs.theory.Consistency.{set_nonempty}
 use Rattle.basket_rules.proofs.association.rule_for.Goals as goal
@@ -12,22 +12,22 @@ returns-then-not-meets c = λ consistent.
     let wanted = c.args.wanted.now in
     let listing = wanted.frequent.now in
     let union = set_at listing.sets wanted.number in
-    let left_count = c.in_ok-left_count.left_count in
+    let antecedent_count = c.in_ok-antecedent_count.antecedent_count in
     let few : length union ≤ 64 = subst (λ l. length l ≤ 64) wanted.is wanted.few in
-    let left = left_side c.args.right union (omega arith) few (set_nonempty listing.sets consistent wanted.number wanted.listed).0 in
-    let left_is = subst (λ l. IsCountIn listing.sets l left_count) left c.in_ok-left_count.ensures in
-    let test = c.meets.ensures ∙ ap (λ n. leb (wanted.confidence.0 * left_count) (n * wanted.confidence.1)) wanted.counted in
-    no_rule listing wanted.number wanted.listed (side_of union c.args.right) wanted.confidence left_count left_is (sym test ∙ c.if-not-meets.true) consistent
+    let antecedent = antecedent_side c.args.consequent union (omega arith) few (set_nonempty listing.sets consistent wanted.number wanted.listed).0 in
+    let antecedent_is = subst (λ l. IsCountIn listing.sets l antecedent_count) antecedent c.in_ok-antecedent_count.ensures in
+    let test = c.meets.ensures ∙ ap (λ n. leb (wanted.confidence.0 * antecedent_count) (n * wanted.confidence.1)) wanted.counted in
+    no_rule listing wanted.number wanted.listed (side_of union c.args.consequent) wanted.confidence antecedent_count antecedent_is (sym test ∙ c.if-not-meets.true) consistent
 
 pub returns : goal.returns
 returns c = λ consistent.
     let wanted = c.args.wanted.now in
     let listing = wanted.frequent.now in
     let union = set_at listing.sets wanted.number in
-    let left_count = c.in_ok-left_count.left_count in
+    let antecedent_count = c.in_ok-antecedent_count.antecedent_count in
     let few : length union ≤ 64 = subst (λ l. length l ≤ 64) wanted.is wanted.few in
-    let left = left_side c.args.right union (omega arith) few (set_nonempty listing.sets consistent wanted.number wanted.listed).0 in
-    let left_is = subst (λ l. IsCountIn listing.sets l left_count) left c.in_ok-left_count.ensures in
-    let test = c.meets.ensures ∙ ap (λ n. leb (wanted.confidence.0 * left_count) (n * wanted.confidence.1)) wanted.counted in
-    a_found_rule listing wanted.number wanted.listed c.args.right wanted.confidence left_count c.in_ok-right_count.right_count c.new.result left_is c.in_ok-right_count.ensures
+    let antecedent = antecedent_side c.args.consequent union (omega arith) few (set_nonempty listing.sets consistent wanted.number wanted.listed).0 in
+    let antecedent_is = subst (λ l. IsCountIn listing.sets l antecedent_count) antecedent c.in_ok-antecedent_count.ensures in
+    let test = c.meets.ensures ∙ ap (λ n. leb (wanted.confidence.0 * antecedent_count) (n * wanted.confidence.1)) wanted.counted in
+    a_found_rule listing wanted.number wanted.listed c.args.consequent wanted.confidence antecedent_count c.in_ok-consequent_count.consequent_count c.new.result antecedent_is c.in_ok-consequent_count.ensures
     (sym test ∙ c.if-not-meets.false) c.new.ensures.some c.new.ensures.none consistent

@@ -1,5 +1,5 @@
 use Rattle.std.proofs.Common.{◌+◌, ◌++◌, length, sym, ap, ◌∙◌, subst, arith}
-use Rattle.basket_rules.specs.Met.{rules_in}
+use Rattle.basket_rules.specs.Confident.{rules_in}
 use Rattle.basket_rules.proofs.LevelLemmas.{AreRulesUpTo, more_rules, all_rules}
 use Rattle.basket_rules.proofs.theory.Rules.{rules_of_baskets}
 use Rattle.basket_rules.proofs.association.rules.Goals as goal

@@ -2,7 +2,7 @@ use Rattle.std.proofs.Common.{◌≡◌, ◌<◌, ◌≤◌, ◌++◌, ◌∷◌
 use Rattle.std.specs.Int.{trailing_zeros}
 use Rattle.std.proofs.lemmas.Bool.{leb-true}
 use Rattle.std.proofs.lemmas.List.{append_assoc, append-nil, take_all, take_more}
-use Rattle.basket_rules.specs.Rights.{chosen, has_place}
+use Rattle.basket_rules.specs.Consequents.{chosen, has_place}
 use Rattle.basket_rules.proofs.SideLemmas.{first_of_word, next_word, none_of_word}
 use Rattle.basket_rules.proofs.supports.is_side.Goals as goal
 

@@ -1,5 +1,5 @@
 use Rattle.std.proofs.Common.{◌≡◌, ◌++◌, take}
-use Rattle.basket_rules.specs.Rights.{chosen, has_place}
+use Rattle.basket_rules.specs.Consequents.{chosen, has_place}
 use Rattle.basket_rules.proofs.supports.is_side.Given as goal
 
 abbrev pub invariant-loop-item : goal.invariant-loop-item

@@ -1,5 +1,5 @@
 use Rattle.std.proofs.Common.{◌++◌, ℕ, List, take}
-use Rattle.basket_rules.specs.Met.{rules_in}
+use Rattle.basket_rules.specs.Confident.{rules_in}
 use Rattle.basket_report.specs.Report.{HasSoFar, rules_report_of}
 use Rattle.basket_report.specs.Style.{Wording}
 use Rattle.basket_report.proofs.report.Report.put_rules.Given as goal

@@ -1,14 +1,14 @@
 use Rattle.std.proofs.Common.{◌≡◌, ◌++◌, ◌∷◌, [], decimal, ◌∙◌, subst}
 use Rattle.std.proofs.lemmas.Result.{on_ok_weaker}
 use Rattle.csv.specs.Writing.{row_text}
-use Rattle.basket_rules.specs.Met.{rule_from}
+use Rattle.basket_rules.specs.Confident.{rule_from}
 use Rattle.basket_report.specs.Table.{HasFields, names_of, rule_record, writer_of}
 use Rattle.basket_report.specs.Texts.{ratio_text}
 use Rattle.basket_report.proofs.table.Table.put_rule.Goals as goal
 
 pub returns : goal.returns
 returns c separator names text has =
-    let rule = rule_from c.args.sides.now c.args.figures.now in
+    let rule = rule_from c.args.sides.now c.args.counts.now in
     let count = decimal rule.count in
     let confidence = ratio_text rule.confidence in
     let lift = ratio_text rule.lift in
@@ -17,10 +17,10 @@ returns c separator names text has =
     let third = c.in_ok-put_lift_field.ensures separator text (count ∷ confidence ∷ []) second (λ e. cc) in
     let fourth = c.in_ok-put_number_field-2.ensures separator text (count ∷ confidence ∷ lift ∷ []) third in
     let numbers = count ∷ confidence ∷ lift ∷ decimal c.len.result ∷ [] in
-    let left = c.in_ok-put_names.ensures separator text numbers fourth (λ e. cc) in
-    let right = c.in_ok-put_names-2.ensures separator text (numbers ++ names_of c.args.self.now.names.now c.deref.result.now) left (λ e. cc) in
-    let ended = c.end_record.ensures separator text (numbers ++ names_of c.args.self.now.names.now c.deref.result.now ++ names_of c.args.self.now.names.now c.deref-2.result.now) right (λ e. cc) in
+    let antecedent = c.in_ok-put_names.ensures separator text numbers fourth (λ e. cc) in
+    let consequent = c.in_ok-put_names-2.ensures separator text (numbers ++ names_of c.args.self.now.names.now c.deref.result.now) antecedent (λ e. cc) in
+    let ended = c.end_record.ensures separator text (numbers ++ names_of c.args.self.now.names.now c.deref.result.now ++ names_of c.args.self.now.names.now c.deref-2.result.now) consequent (λ e. cc) in
     let same : text ++ row_text (writer_of separator) (numbers ++ names_of c.args.self.now.names.now c.deref.result.now ++ names_of c.args.self.now.names.now c.deref-2.result.now)
     ≡ text ++ rule_record separator names rule =
-    (λ i. text ++ row_text (writer_of separator) (count ∷ confidence ∷ lift ∷ decimal ((c.len.ensures ∙ c.args.sides.now.left.ok.0) i) ∷ names_of (has.0 i) (c.deref.ensures.value i) ++ names_of (has.0 i) (c.deref-2.ensures.value i))) in
+    (λ i. text ++ row_text (writer_of separator) (count ∷ confidence ∷ lift ∷ decimal ((c.len.ensures ∙ c.args.sides.now.antecedent.ok.0) i) ∷ names_of (has.0 i) (c.deref.ensures.value i) ++ names_of (has.0 i) (c.deref-2.ensures.value i))) in
     on_ok_weaker c.end_record.result (λ h. (has.0, subst (λ t. HasFields c.end_record.new.writer separator t []) same h)) ended

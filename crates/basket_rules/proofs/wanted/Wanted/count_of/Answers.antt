@@ -1,6 +1,6 @@
 use Rattle.std.proofs.Common.{ap, subst, ◌∙◌}
 use Rattle.basket_rules.specs.Listed.{set_at}
-use Rattle.basket_rules.specs.Rights.{chosen, has_place}
+use Rattle.basket_rules.specs.Consequents.{chosen, has_place}
 use Rattle.basket_rules.specs.Rules.{IsCountIn}
 use Rattle.basket_rules.proofs.theory.Consistency.{counted_there}
 use Rattle.basket_rules.proofs.wanted.Wanted.count_of.Goals as goal
@@ -15,6 +15,6 @@ returns-in-Some c =
 pub returns : goal.returns
 returns c =
     let wanted = c.args.self.now in
-    let items = c.in_ok-fill.ensures.right ∙ ap (chosen (has_place c.args.places)) wanted.is in
+    let items = c.in_ok-fill.ensures.consequent ∙ ap (chosen (has_place c.args.places)) wanted.is in
     subst (λ list. IsCountIn list (chosen (has_place c.args.places) (set_at wanted.frequent.now.sets wanted.number)) c.searched_count.result) c.sets-sets.ensures
     (subst (λ set. IsCountIn c.sets-sets.result.now set c.searched_count.result) (c.deref.ensures.value ∙ items) c.searched_count.ensures)

@@ -1,4 +1,4 @@
--- Right sides as the places of their items: those of a size are the subsets of that size, and a place before the others makes the next size.
+-- Consequents as the places of their items: those of a size are the subsets of that size, and a place before the others makes the next size.
 use Rattle.std.proofs.Common.{◌≡◌, ◌≢◌, ℕ, ◌+◌, ◌^◌, ◌<◌, ◌≤◌, Bool, true, false, not, cond, ◌||◌, add-one, eqb, ltb, List, [], ◌∷◌, ◌++◌, length, take, get_or, map, filter, refl, sym, ap, ◌∙◌, subst, inl, inr, arith, zero, suc}
 use Rattle.std.specs.Prelude.{bit_or, max}
 use Rattle.std.specs.Int.{bit_at}
@@ -12,9 +12,9 @@ use Rattle.basket_sets.specs.Itemset.{IsRising, has}
 use Rattle.basket_sets.specs.Subsets.{subsets_of_size}
 use Rattle.basket_sets.proofs.theory.Members.{Member, Member-append, Member-append_left, Member-append_right, Member-filter, Member-from_filter, Member-map, Member-from_map}
 use Rattle.basket_sets.proofs.theory.Rising.{has-from_Member, Member-from_has, cons_rises, first_below, rest_rises}
-use Rattle.basket_rules.specs.declared.rights.Right.{Right}
-use Rattle.basket_rules.specs.declared.rights.TheConstants.{MOST_PLACES}
-use Rattle.basket_rules.specs.Rights.{chosen, chosen_from, has_place, longer, longer_by, no_places, side_of, with_place}
+use Rattle.basket_rules.specs.declared.consequents.Consequent.{Consequent}
+use Rattle.basket_rules.specs.declared.consequents.TheConstants.{MOST_PLACES}
+use Rattle.basket_rules.specs.Consequents.{chosen, chosen_from, has_place, longer, longer_by, no_places, side_of, with_place}
 use Rattle.basket_rules.specs.Rules.{difference}
 
 -- ---- the items at places that pass a test
@@ -158,61 +158,61 @@ has_stays places place other h = elim (cases_eq other place) [
 ]
 
 -- the items of a set are among those of the set with a place more
-pub side_grows : (union : List ℕ) (place : ℕ) (right : Right) (item : ℕ) → Member item (side_of union right) → Member item (side_of union (with_place place right))
-side_grows union place right item = chosen_grows (has_place right.places) (has_place (bit_or right.places (2 ^ place))) 0 union item (has_stays right.places place)
+pub side_grows : (union : List ℕ) (place : ℕ) (consequent : Consequent) (item : ℕ) → Member item (side_of union consequent) → Member item (side_of union (with_place place consequent))
+side_grows union place consequent item = chosen_grows (has_place consequent.places) (has_place (bit_or consequent.places (2 ^ place))) 0 union item (has_stays consequent.places place)
 
--- ---- all right sides of a size
+-- ---- all consequents of a size
 
 -- those among the items from a place on
-pub sides_of : ℕ → ℕ → List ℕ → List Right
+pub sides_of : ℕ → ℕ → List ℕ → List Consequent
 sides_of zero place items = no_places ∷ []
 sides_of (suc size) place [] = []
 sides_of (suc size) place (item ∷ items) = map (with_place place) (sides_of size (suc place) items) ++ sides_of (suc size) (suc place) items
 
 -- none has a place before
-record IsFrom (place : ℕ) (right : Right) : Type 0 where
-  first : place ≤ right.first
-  lacks : (i : ℕ) → i < place → has_place right.places i ≡ false
+record IsFrom (place : ℕ) (consequent : Consequent) : Type 0 where
+  first : place ≤ consequent.first
+  lacks : (i : ℕ) → i < place → has_place consequent.places i ≡ false
 
-are_from : (size place : ℕ) (items : List ℕ) → place + length items ≤ MOST_PLACES → (right : Right) → Member right (sides_of size place items) → IsFrom place right
+are_from : (size place : ℕ) (items : List ℕ) → place + length items ≤ MOST_PLACES → (consequent : Consequent) → Member consequent (sides_of size place items) → IsFrom place consequent
 unfolding sides_of
-are_from zero place items bound right (inl e) = subst (IsFrom place) e (record { first = omega (arith, bound); lacks = λ i h. has_none i })
-are_from zero place items bound right (inr m) = absurd m
-are_from (suc size) place [] bound right m = absurd m
-are_from (suc size) place (x ∷ items) bound right m =
-    elim (Member-append right (map (with_place place) (sides_of size (suc place) items)) (sides_of (suc size) (suc place) items) m) [
+are_from zero place items bound consequent (inl e) = subst (IsFrom place) e (record { first = omega (arith, bound); lacks = λ i h. has_none i })
+are_from zero place items bound consequent (inr m) = absurd m
+are_from (suc size) place [] bound consequent m = absurd m
+are_from (suc size) place (x ∷ items) bound consequent m =
+    elim (Member-append consequent (map (with_place place) (sides_of size (suc place) items)) (sides_of (suc size) (suc place) items) m) [
       | inl n ↦
-          (let r = Member-from_map (with_place place) right (sides_of size (suc place) items) n in
+          (let r = Member-from_map (with_place place) consequent (sides_of size (suc place) items) n in
           let old = are_from size (suc place) items (omega (arith, bound)) r.0 r.1 in
           subst (IsFrom place) r.2 (record {
             first = omega arith;
             lacks = λ i h. has_other r.0.places place i (λ e. absurd (omega (arith, e, h))) ∙ old.lacks i (omega (arith, h));
           }))
       | inr n ↦
-          (let old = are_from (suc size) (suc place) items (omega (arith, bound)) right n in
+          (let old = are_from (suc size) (suc place) items (omega (arith, bound)) consequent n in
           record { first = (let f = old.first in omega arith); lacks = λ i h. old.lacks i (omega (arith, h)) })
     ]
 
-side_from : ℕ → List ℕ → Right → List ℕ
-side_from place items right = chosen_from (has_place right.places) place items
+side_from : ℕ → List ℕ → Consequent → List ℕ
+side_from place items consequent = chosen_from (has_place consequent.places) place items
 
 -- they have the items of the subsets of that size
-with_first : (place x : ℕ) (items : List ℕ) (rights : List Right) → map (side_from place (x ∷ items)) (map (with_place place) rights) ≡ map (λ set. x ∷ set) (map (side_from (suc place) items) rights)
+with_first : (place x : ℕ) (items : List ℕ) (consequents : List Consequent) → map (side_from place (x ∷ items)) (map (with_place place) consequents) ≡ map (λ set. x ∷ set) (map (side_from (suc place) items) consequents)
 unfolding side_from
 with_first place x items [] = refl
-with_first place x items (right ∷ rights) =
-    let p = bit_or right.places (2 ^ place) in
-    let one : side_from place (x ∷ items) (with_place place right) ≡ x ∷ side_from (suc place) items right =
-    ap (λ b. cond b (x ∷ chosen_from (has_place p) (suc place) items) (chosen_from (has_place p) (suc place) items)) (has_new right.places place)
-    ∙ ap (λ l. x ∷ l) (chosen_same (has_place p) (has_place right.places) (suc place) items (λ i h. has_other right.places place i (λ e. absurd (omega (arith, e, h))))) in
-    λ i. one i ∷ with_first place x items rights i
+with_first place x items (consequent ∷ consequents) =
+    let p = bit_or consequent.places (2 ^ place) in
+    let one : side_from place (x ∷ items) (with_place place consequent) ≡ x ∷ side_from (suc place) items consequent =
+    ap (λ b. cond b (x ∷ chosen_from (has_place p) (suc place) items) (chosen_from (has_place p) (suc place) items)) (has_new consequent.places place)
+    ∙ ap (λ l. x ∷ l) (chosen_same (has_place p) (has_place consequent.places) (suc place) items (λ i h. has_other consequent.places place i (λ e. absurd (omega (arith, e, h))))) in
+    λ i. one i ∷ with_first place x items consequents i
 
-without_first : (place x : ℕ) (items : List ℕ) (rights : List Right) → ((right : Right) → Member right rights → has_place right.places place ≡ false)
-    → map (side_from place (x ∷ items)) rights ≡ map (side_from (suc place) items) rights
+without_first : (place x : ℕ) (items : List ℕ) (consequents : List Consequent) → ((consequent : Consequent) → Member consequent consequents → has_place consequent.places place ≡ false)
+    → map (side_from place (x ∷ items)) consequents ≡ map (side_from (suc place) items) consequents
 unfolding side_from
 without_first place x items [] lack = refl
-without_first place x items (right ∷ rights) lack =
-    λ i. cond (lack right (inl refl) i) (x ∷ side_from (suc place) items right) (side_from (suc place) items right) ∷ without_first place x items rights (λ r m. lack r (inr m)) i
+without_first place x items (consequent ∷ consequents) lack =
+    λ i. cond (lack consequent (inl refl) i) (x ∷ side_from (suc place) items consequent) (side_from (suc place) items consequent) ∷ without_first place x items consequents (λ r m. lack r (inr m)) i
 
 nothing_from : (place : ℕ) (items : List ℕ) → chosen_from (has_place 0) place items ≡ []
 nothing_from place [] = refl
@@ -227,7 +227,7 @@ are_subsets (suc size) place (x ∷ items) bound =
     let others = sides_of (suc size) (suc place) items in
     map-append (side_from place (x ∷ items)) (map (with_place place) first) others
     ∙ (λ i. (with_first place x items first ∙ ap (map (λ set. x ∷ set)) (are_subsets size (suc place) items (omega (arith, bound)))) i
-    ++ (without_first place x items others (λ right m. (are_from (suc size) (suc place) items (omega (arith, bound)) right m).lacks place (omega arith)) ∙ are_subsets (suc size) (suc place) items (omega (arith, bound))) i)
+    ++ (without_first place x items others (λ consequent m. (are_from (suc size) (suc place) items (omega (arith, bound)) consequent m).lacks place (omega arith)) ∙ are_subsets (suc size) (suc place) items (omega (arith, bound))) i)
 
 pub sides_are_subsets : (size : ℕ) (union : List ℕ) → length union ≤ MOST_PLACES → map (side_of union) (sides_of size 0 union) ≡ subsets_of_size size union
 unfolding side_from
@@ -235,19 +235,19 @@ sides_are_subsets size union bound = are_subsets size 0 union (omega (arith, bou
 
 -- ---- the next size
 
-before : ℕ → Right → Bool
-before place right = ltb place right.first
+before : ℕ → Consequent → Bool
+before place consequent = ltb place consequent.first
 
-none_before : (place other : ℕ) (rights : List Right) → other ≤ place → filter (before place) (map (with_place other) rights) ≡ []
+none_before : (place other : ℕ) (consequents : List Consequent) → other ≤ place → filter (before place) (map (with_place other) consequents) ≡ []
 unfolding before
 none_before place other [] h = refl
-none_before place other (right ∷ rights) h =
-    ap (λ b. cond b (with_place other right ∷ filter (before place) (map (with_place other) rights)) (filter (before place) (map (with_place other) rights))) (le-ltb place other h)
-    ∙ none_before place other rights h
+none_before place other (consequent ∷ consequents) h =
+    ap (λ b. cond b (with_place other consequent ∷ filter (before place) (map (with_place other) consequents)) (filter (before place) (map (with_place other) consequents))) (le-ltb place other h)
+    ∙ none_before place other consequents h
 
-all_kept : (p : Right → Bool) (rights : List Right) → ((right : Right) → Member right rights → p right ≡ true) → filter p rights ≡ rights
+all_kept : (p : Consequent → Bool) (consequents : List Consequent) → ((consequent : Consequent) → Member consequent consequents → p consequent ≡ true) → filter p consequents ≡ consequents
 all_kept p [] h = refl
-all_kept p (right ∷ rights) h = ap (λ b. cond b (right ∷ filter p rights) (filter p rights)) (h right (inl refl)) ∙ ap (λ l. right ∷ l) (all_kept p rights (λ r m. h r (inr m)))
+all_kept p (consequent ∷ consequents) h = ap (λ b. cond b (consequent ∷ filter p consequents) (filter p consequents)) (h consequent (inl refl)) ∙ ap (λ l. consequent ∷ l) (all_kept p consequents (λ r m. h r (inr m)))
 
 -- those without the first place are those that have it before their first
 behind : (size place x : ℕ) (items : List ℕ) → place + length (x ∷ items) ≤ MOST_PLACES → filter (before place) (sides_of size place (x ∷ items)) ≡ sides_of size (suc place) items
@@ -257,7 +257,7 @@ behind (suc size) place x items bound =
     filter-append (before place) (map (with_place place) (sides_of size (suc place) items)) (sides_of (suc size) (suc place) items)
     ∙ (λ i. none_before place place (sides_of size (suc place) items) (omega arith) i
     ++ all_kept (before place) (sides_of (suc size) (suc place) items)
-    (λ right m. let f = (are_from (suc size) (suc place) items (omega (arith, bound)) right m).first in lt-ltb place right.first (omega arith)) i)
+    (λ consequent m. let f = (are_from (suc size) (suc place) items (omega (arith, bound)) consequent m).first in lt-ltb place consequent.first (omega arith)) i)
 
 -- for a later place the first makes no difference
 later : (size place x : ℕ) (items : List ℕ) (other : ℕ) → place ≤ other → filter (before other) (sides_of size place (x ∷ items)) ≡ filter (before other) (sides_of size (suc place) items)
@@ -267,15 +267,15 @@ later (suc size) place x items other h =
     filter-append (before other) (map (with_place place) (sides_of size (suc place) items)) (sides_of (suc size) (suc place) items)
     ∙ ap (λ l. l ++ filter (before other) (sides_of (suc size) (suc place) items)) (none_before other place (sides_of size (suc place) items) h)
 
-longer_from : (size place : ℕ) (items : List ℕ) (rights : List Right) → place + length items ≤ MOST_PLACES
-    → ((other : ℕ) → place ≤ other → filter (before other) rights ≡ filter (before other) (sides_of size place items))
-    → flat_map (longer_by rights) (range_with_len place (length items)) ≡ sides_of (suc size) place items
+longer_from : (size place : ℕ) (items : List ℕ) (consequents : List Consequent) → place + length items ≤ MOST_PLACES
+    → ((other : ℕ) → place ≤ other → filter (before other) consequents ≡ filter (before other) (sides_of size place items))
+    → flat_map (longer_by consequents) (range_with_len place (length items)) ≡ sides_of (suc size) place items
 unfolding sides_of before
-longer_from size place [] rights bound same = refl
-longer_from size place (x ∷ items) rights bound same =
+longer_from size place [] consequents bound same = refl
+longer_from size place (x ∷ items) consequents bound same =
     λ i. map (with_place place) ((same place (omega arith) ∙ behind size place x items bound) i)
-    ++ (ap (λ n. flat_map (longer_by rights) (range_with_len n (length items))) (add-one place)
-    ∙ longer_from size (suc place) items rights (omega (arith, bound)) (λ other h. same other (omega (arith, h)) ∙ later size place x items other (omega (arith, h)))) i
+    ++ (ap (λ n. flat_map (longer_by consequents) (range_with_len n (length items))) (add-one place)
+    ∙ longer_from size (suc place) items consequents (omega (arith, bound)) (λ other h. same other (omega (arith, h)) ∙ later size place x items other (omega (arith, h)))) i
 
 pub all_longer : (size : ℕ) (union : List ℕ) → length union ≤ MOST_PLACES → longer (length union) (sides_of size 0 union) ≡ sides_of (suc size) 0 union
 all_longer size union bound = longer_from size 0 union (sides_of size 0 union) (omega (arith, bound)) (λ other h. refl)
@@ -284,7 +284,7 @@ pub first_longer : (union : List ℕ) → length union ≤ MOST_PLACES → longe
 unfolding sides_of
 first_longer union bound = all_longer 0 union bound
 
-pub longer_more : (met : List Right) (place : ℕ) → longer (place + 1) met ≡ longer place met ++ longer_by met place
+pub longer_more : (met : List Consequent) (place : ℕ) → longer (place + 1) met ≡ longer place met ++ longer_by met place
 longer_more met place =
     ap (flat_map (longer_by met)) (ap (range_with_len 0) (add-one place) ∙ ends 0 place ∙ ap (λ n. range_with_len 0 place ++ n ∷ []) (from_zero place)) ∙ flat_map-append (longer_by met) (range_with_len 0 place) (place ∷ [])
     ∙ ap (λ l. flat_map (longer_by met) (range_with_len 0 place) ++ l) (append-nil (longer_by met place))
@@ -304,54 +304,54 @@ longer_more met place =
 
 -- ---- those that pass a test which holds of a set with a place more only where it holds of the set
 
-module _ (test : Right → Bool) where
-  module _ (falls : (place : ℕ) (right : Right) → test (with_place place right) ≡ true → test right ≡ true) where
-    kept_by : (place : ℕ) (rights : List Right) → filter test (longer_by (filter test rights) place) ≡ filter test (longer_by rights place)
+module _ (test : Consequent → Bool) where
+  module _ (falls : (place : ℕ) (consequent : Consequent) → test (with_place place consequent) ≡ true → test consequent ≡ true) where
+    kept_by : (place : ℕ) (consequents : List Consequent) → filter test (longer_by (filter test consequents) place) ≡ filter test (longer_by consequents place)
     kept_by place [] = refl
-    kept_by place (right ∷ rights) = at (kept_by place rights) (test right) refl
+    kept_by place (consequent ∷ consequents) = at (kept_by place consequents) (test consequent) refl
       where
-        old : List Right
-        old = filter (λ r. ltb place r.first) rights
+        old : List Consequent
+        old = filter (λ r. ltb place r.first) consequents
 
-        old_met : List Right
-        old_met = filter (λ r. ltb place r.first) (filter test rights)
+        old_met : List Consequent
+        old_met = filter (λ r. ltb place r.first) (filter test consequents)
 
         passed : filter test (map (with_place place) old_met) ≡ filter test (map (with_place place) old)
-            → (b : Bool) → filter test (map (with_place place) (cond b (right ∷ old_met) old_met)) ≡ filter test (map (with_place place) (cond b (right ∷ old) old))
-        passed same true = ap (λ l. cond (test (with_place place right)) (with_place place right ∷ l) l) same
+            → (b : Bool) → filter test (map (with_place place) (cond b (consequent ∷ old_met) old_met)) ≡ filter test (map (with_place place) (cond b (consequent ∷ old) old))
+        passed same true = ap (λ l. cond (test (with_place place consequent)) (with_place place consequent ∷ l) l) same
         passed same false = same
 
-        failed : filter test (map (with_place place) old_met) ≡ filter test (map (with_place place) old) → test (with_place place right) ≡ false
-            → (b : Bool) → filter test (map (with_place place) old_met) ≡ filter test (map (with_place place) (cond b (right ∷ old) old))
-        failed same e true = same ∙ sym (ap (λ b. cond b (with_place place right ∷ filter test (map (with_place place) old)) (filter test (map (with_place place) old))) e)
+        failed : filter test (map (with_place place) old_met) ≡ filter test (map (with_place place) old) → test (with_place place consequent) ≡ false
+            → (b : Bool) → filter test (map (with_place place) old_met) ≡ filter test (map (with_place place) (cond b (consequent ∷ old) old))
+        failed same e true = same ∙ sym (ap (λ b. cond b (with_place place consequent ∷ filter test (map (with_place place) old)) (filter test (map (with_place place) old))) e)
         failed same e false = same
 
-        at : filter test (map (with_place place) old_met) ≡ filter test (map (with_place place) old) → (b : Bool) → test right ≡ b
-            → filter test (longer_by (cond b (right ∷ filter test rights) (filter test rights)) place) ≡ filter test (longer_by (right ∷ rights) place)
-        at same true e = passed same (ltb place right.first)
-        at same false e = failed same (false_from_ne_true _ (λ h. true≢false (sym (falls place right h) ∙ e))) (ltb place right.first)
+        at : filter test (map (with_place place) old_met) ≡ filter test (map (with_place place) old) → (b : Bool) → test consequent ≡ b
+            → filter test (longer_by (cond b (consequent ∷ filter test consequents) (filter test consequents)) place) ≡ filter test (longer_by (consequent ∷ consequents) place)
+        at same true e = passed same (ltb place consequent.first)
+        at same false e = failed same (false_from_ne_true _ (λ h. true≢false (sym (falls place consequent h) ∙ e))) (ltb place consequent.first)
 
-    kept_of : (places : List ℕ) (rights : List Right) → filter test (flat_map (longer_by (filter test rights)) places) ≡ filter test (flat_map (longer_by rights) places)
-    kept_of [] rights = refl
-    kept_of (place ∷ places) rights =
-        filter-append test (longer_by (filter test rights) place) (flat_map (longer_by (filter test rights)) places)
-        ∙ (λ i. kept_by place rights i ++ kept_of places rights i)
-        ∙ sym (filter-append test (longer_by rights place) (flat_map (longer_by rights) places))
+    kept_of : (places : List ℕ) (consequents : List Consequent) → filter test (flat_map (longer_by (filter test consequents)) places) ≡ filter test (flat_map (longer_by consequents) places)
+    kept_of [] consequents = refl
+    kept_of (place ∷ places) consequents =
+        filter-append test (longer_by (filter test consequents) place) (flat_map (longer_by (filter test consequents)) places)
+        ∙ (λ i. kept_by place consequents i ++ kept_of places consequents i)
+        ∙ sym (filter-append test (longer_by consequents place) (flat_map (longer_by consequents) places))
 
-    pub kept_longer : (count : ℕ) (rights : List Right) → filter test (longer count (filter test rights)) ≡ filter test (longer count rights)
-    kept_longer count rights = kept_of (range_with_len 0 count) rights
+    pub kept_longer : (count : ℕ) (consequents : List Consequent) → filter test (longer count (filter test consequents)) ≡ filter test (longer count consequents)
+    kept_longer count consequents = kept_of (range_with_len 0 count) consequents
 
-  fewer_of : (places : List ℕ) (rights : List Right) (right : Right) → Member right (flat_map (longer_by (filter test rights)) places) → Member right (flat_map (longer_by rights) places)
-  fewer_of [] rights right m = m
-  fewer_of (place ∷ places) rights right m = elim (Member-append right (longer_by (filter test rights) place) (flat_map (longer_by (filter test rights)) places) m) [
+  fewer_of : (places : List ℕ) (consequents : List Consequent) (consequent : Consequent) → Member consequent (flat_map (longer_by (filter test consequents)) places) → Member consequent (flat_map (longer_by consequents) places)
+  fewer_of [] consequents consequent m = m
+  fewer_of (place ∷ places) consequents consequent m = elim (Member-append consequent (longer_by (filter test consequents) place) (flat_map (longer_by (filter test consequents)) places) m) [
     | inl n ↦
-        (let r = Member-from_map (with_place place) right (filter (λ r. ltb place r.first) (filter test rights)) n in
-        let f = Member-filter (λ r. ltb place r.first) r.0 (filter test rights) r.1 in
-        Member-append_left right (longer_by rights place) (flat_map (longer_by rights) places)
-        (subst (λ x. Member x (longer_by rights place)) r.2
-        (Member-map (with_place place) r.0 (filter (λ r. ltb place r.first) rights) (Member-from_filter (λ r. ltb place r.first) r.0 rights (Member-filter test r.0 rights f.0).0 f.1))))
-    | inr n ↦ Member-append_right right (longer_by rights place) (flat_map (longer_by rights) places) (fewer_of places rights right n)
+        (let r = Member-from_map (with_place place) consequent (filter (λ r. ltb place r.first) (filter test consequents)) n in
+        let f = Member-filter (λ r. ltb place r.first) r.0 (filter test consequents) r.1 in
+        Member-append_left consequent (longer_by consequents place) (flat_map (longer_by consequents) places)
+        (subst (λ x. Member x (longer_by consequents place)) r.2
+        (Member-map (with_place place) r.0 (filter (λ r. ltb place r.first) consequents) (Member-from_filter (λ r. ltb place r.first) r.0 consequents (Member-filter test r.0 consequents f.0).0 f.1))))
+    | inr n ↦ Member-append_right consequent (longer_by consequents place) (flat_map (longer_by consequents) places) (fewer_of places consequents consequent n)
   ]
 
-  pub fewer_longer : (count : ℕ) (rights : List Right) (right : Right) → Member right (longer count (filter test rights)) → Member right (longer count rights)
-  fewer_longer count rights = fewer_of (range_with_len 0 count) rights
+  pub fewer_longer : (count : ℕ) (consequents : List Consequent) (consequent : Consequent) → Member consequent (longer count (filter test consequents)) → Member consequent (longer count consequents)
+  fewer_longer count consequents = fewer_of (range_with_len 0 count) consequents

@@ -1,7 +1,7 @@
 use Rattle.std.proofs.Common.{ap, sym, ◌∙◌, ◌++◌}
-use Rattle.basket_rules.specs.Rights.{longer_by}
-use Rattle.basket_rules.proofs.RightLemmas.{longer_more}
-use Rattle.basket_rules.proofs.rights.longer_rights.Goals as goal
+use Rattle.basket_rules.specs.Consequents.{longer_by}
+use Rattle.basket_rules.proofs.ConsequentLemmas.{longer_more}
+use Rattle.basket_rules.proofs.consequents.longer_consequents.Goals as goal
 
 pub loop-place-preserved : goal.loop-place-preserved
 loop-place-preserved c =

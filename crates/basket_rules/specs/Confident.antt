@@ -1,0 +1,45 @@
+-- Rules that meet the confidence, before their items are put together.
+use Rattle.std.specs.Prelude.{ℕ, ◌*◌, List, map, Option, Some, None}
+use Rattle.basket_core.specs.Fraction.{Ratio, lowest}
+use Rattle.basket_core.specs.Listing.{Listing}
+use Rattle.basket_rules.specs.declared.association.Rule.{Rule}
+use Rattle.basket_rules.specs.declared.rule_counts.RuleCounts.{RuleCounts}
+use Rattle.basket_rules.specs.declared.confident.ConfidentRule.{ConfidentRule}
+use Rattle.basket_rules.specs.declared.consequents.Sides.{Sides}
+use Rattle.basket_rules.specs.Listed.{set_at, count_at}
+use Rattle.basket_rules.specs.Consequents.{side_of}
+use Rattle.basket_rules.specs.Rules.{difference}
+
+-- the confidence and the lift of a rule with these counts
+abbrev pub confidence_of : RuleCounts → Ratio
+confidence_of counts = lowest counts.count counts.antecedent_count
+
+abbrev pub lift_of : RuleCounts → Ratio
+lift_of counts = lowest (counts.count * counts.total) (counts.antecedent_count * counts.consequent_count)
+
+-- the rule with these sides and counts
+abbrev pub rule_from : Sides → RuleCounts → Rule
+rule_from sides counts = record {
+  antecedent = sides.antecedent.items;
+  consequent = sides.consequent.items;
+  count = counts.count;
+  confidence = confidence_of counts;
+  lift = lift_of counts;
+}
+
+-- the rule with the set at a place as its union
+abbrev pub rule_in : Listing → ℕ → ConfidentRule → Rule
+rule_in listing number met = record {
+  antecedent = difference (set_at listing.sets number) (side_of (set_at listing.sets number) met.consequent);
+  consequent = side_of (set_at listing.sets number) met.consequent;
+  count = count_at listing.sets number;
+  confidence = lowest (count_at listing.sets number) met.antecedent_count;
+  lift = lowest (count_at listing.sets number * listing.total) (met.antecedent_count * met.consequent_count);
+}
+
+abbrev pub rules_in : Listing → ℕ → List ConfidentRule → List Rule
+rules_in listing number rules = map (rule_in listing number) rules
+
+abbrev pub found_rule : Listing → ℕ → Option ConfidentRule → Option Rule
+found_rule listing number None = None
+found_rule listing number (Some met) = Some (rule_in listing number met)
