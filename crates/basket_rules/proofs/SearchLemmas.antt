@@ -92,24 +92,18 @@ stands_once list i j up low high e = elim (cases_lt i j) [
   ]
 ]
 
--- ---- a search begins
-
--- nothing was compared
-pub all_between : (list : List Counted) (set : List ℕ) (end : ℕ) → length list ≤ end → IsBetween 0 end list set
-all_between list set end whole = record { smaller = λ k d low high. absurd (omega arith); greater = λ k d low high. absurd (omega arith) }
-
 -- ---- the search is over
 
 pub stands : (list : List Counted) (set : List ℕ) (i : ℕ) → i < length list → HoldsAt (λ c. report_order c.set set ≡ Equal) list i → set_at list i ≡ set
 stands [] set i below same = absurd (omega (arith, below))
 stands (c ∷ list) set i below same = set_is (c ∷ list) i c below ∙ equal_sets (get_or (c ∷ list) i c).set set (same c)
 
-pub is_missing : (list : List Counted) (set : List ℕ) (i : ℕ) → IsBetween i i list set → (k : ℕ) → k < length list → set_at list k ≡ set → ⊥
-is_missing [] set i b k below e = absurd (omega (arith, below))
-is_missing (c ∷ list) set i b k below e =
+pub is_missing : (list : List Counted) (set : List ℕ) (start end : ℕ) → end ≤ start → IsBetween start end list set → (k : ℕ) → k < length list → set_at list k ≡ set → ⊥
+is_missing [] set start end over b k below e = absurd (omega (arith, below))
+is_missing (c ∷ list) set start end over b k below e =
     let tie : report_order (get_or (c ∷ list) k c).set set ≡ Equal =
     ap (λ s. report_order s set) (sym (set_is (c ∷ list) k c below) ∙ e) ∙ tied_itself report_order_total set in
-    elim (cases_lt k i) [
+    elim (cases_lt k start) [
       | inl less ↦ (let other = b.smaller k c (omega arith) less in cc)
-      | inr more ↦ (let other = b.greater k c more below in cc)
+      | inr more ↦ (let other = b.greater k c (omega (arith, over, more)) below in cc)
     ]

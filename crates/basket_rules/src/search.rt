@@ -1,5 +1,4 @@
-//! A search for a set in the list of the frequent sets, fast if it is close after a given place: an
-//! exponential search (Bentley and Yao 1976).
+//! A search for a set in the list of the frequent sets, fast if it is close after a given place.
 //!
 //! The set comes in two parts, the items of `front` and then those of `rest`, so that a set without
 //! one of its items need not be copied.
@@ -11,46 +10,26 @@ ghost use Rattle.basket_rules.specs.Search.{IsMissing};
 use crate::listed::items_at;
 use basket_core::{CountedSets, compare_parts};
 use basket_lists::MOST_ITEMS;
+use basket_order::NearSearch;
 use std::cmp::Ordering;
 
-/// The place of the set in a list as it is kept. The search begins at the place `near`, from which
-/// the steps to greater sets double; whatever `near` is, the set is found.
+/// The place of the set in a list as it is kept. The search begins at the place `near`; whatever
+/// that is, the set is found.
 pub fn find_near(sets: &CountedSets, front: &[u32], rest: &[u32], near: usize) -> Option<usize>
     ensures bound { IfSome result (λ at. at < length sets.now) }
     ensures found { IfSome result (λ at. set_at sets.now at ≡ front.now ++ rest.now) }
     ensures missing { IfNone result (IsMissing sets.now (front.now ++ rest.now)) }
 {
     let mut room = [0; MOST_ITEMS];
-    let mut start = 0;
-    let mut end = sets.len();
-    let mut guess = near;
-    while start < end {
-        let next = probe(start, end, guess);
-        match compare(items_at(sets, next, &mut room), front, rest) {
-            Ordering::Less => {
-                guess = next
-                    .saturating_add(next.saturating_sub(near))
-                    .saturating_add(1);
-                start = next + 1;
-            }
-            Ordering::Equal => return Some(next),
-            Ordering::Greater => end = next,
+    let mut search = NearSearch::new(near, sets.len());
+    while let Some(at) = search.next() {
+        match compare(items_at(sets, at, &mut room), front, rest) {
+            Ordering::Less => search.go_after(at),
+            Ordering::Equal => return Some(at),
+            Ordering::Greater => search.go_before(at),
         }
     }
     None
-}
-
-/// The guess, if it lies from `start` up to `end`, or else the place between them.
-fn probe(start: usize, end: usize, guess: usize) -> usize
-    requires { start < end }
-    ensures behind { start ≤ result }
-    ensures before { result < end }
-{
-    if start <= guess && guess < end {
-        guess
-    } else {
-        start + (end - start) / 2
-    }
 }
 
 /// Compares a set with the one that has the items of `front` and then those of `rest`.

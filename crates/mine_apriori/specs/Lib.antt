@@ -2,7 +2,6 @@ pub mod Sizes
 pub mod Candidates
 pub mod Extensions
 pub mod Join
-pub mod Search
 pub mod Shard
 pub mod Work
 pub mod Levels

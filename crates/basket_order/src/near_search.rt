@@ -1,0 +1,87 @@
+//! A search in a sorted list that is fast close to a given place.
+ghost use Rattle.std.specs.Prelude.{◌≡◌, ◌≤◌, ◌<◌, ◌+◌, IfSome, IfNone};
+
+/// The places of a sorted list among which an element is searched for: an exponential search
+/// (Bentley and Yao 1976). From a given place on the steps to greater elements double; once an element is
+/// too great, the places before it are halved. The caller compares the elements.
+#[derive(Debug, Drop)]
+pub struct NearSearch {
+    near: usize,
+    start: usize,
+    end: usize,
+    guess: usize,
+    bounded: bool,
+}
+
+impl NearSearch {
+    /// Searches a whole list. Whatever `near` is, each place may still be looked at.
+    pub fn new(near: usize, length: usize) -> Self
+        ensures start { result.start ≡ 0 }
+        ensures end { result.end ≡ length }
+    {
+        NearSearch {
+            near,
+            start: 0,
+            end: length,
+            guess: near,
+            bounded: false,
+        }
+    }
+
+    /// The place to look at next.
+    #[inline(always)]
+    pub fn next(&self) -> Option<usize>
+        ensures from { IfSome result (λ at. self.now.start ≤ at) }
+        ensures before { IfSome result (λ at. at < self.now.end) }
+        ensures over { IfNone result (self.now.end ≤ self.now.start) }
+    {
+        if self.start < self.end {
+            Some(self.guess.max(self.start).min(self.end - 1))
+        } else {
+            None
+        }
+    }
+
+    /// The element at this place is less: only those after it are left.
+    #[inline(always)]
+    pub fn go_after(&mut self, place: usize)
+        requires { place < self.old.end }
+        ensures start { self.new.start ≡ place + 1 }
+        ensures end { self.new.end ≡ self.old.end }
+    {
+        self.start = place + 1;
+        if self.bounded {
+            self.halve();
+        } else {
+            self.guess = self
+                .start
+                .saturating_add(self.start.saturating_sub(self.near));
+        }
+    }
+
+    /// The element at this place is greater: only those before it are left.
+    #[inline(always)]
+    pub fn go_before(&mut self, place: usize)
+        ensures start { self.new.start ≡ self.old.start }
+        ensures end { self.new.end ≡ place }
+    {
+        self.end = place;
+        self.bounded = true;
+        self.halve();
+    }
+
+    #[inline(always)]
+    fn halve(&mut self)
+        ensures start { self.new.start ≡ self.old.start }
+        ensures end { self.new.end ≡ self.old.end }
+    {
+        self.guess = self.start + self.end.saturating_sub(self.start) / 2;
+    }
+
+    /// The first place that is left.
+    pub fn start(&self) -> usize
+        ensures { result ≡ self.now.start }
+    {
+        self.start
+    }
+}
