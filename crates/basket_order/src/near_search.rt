@@ -2,8 +2,9 @@
 ghost use Rattle.std.specs.Prelude.{◌≡◌, ◌≤◌, ◌<◌, ◌+◌, IfSome, IfNone};
 
 /// The places of a sorted list among which an element is searched for: an exponential search
-/// (Bentley and Yao 1976). From a given place on the steps to greater elements double; once an element is
-/// too great, the places before it are halved. The caller compares the elements.
+/// (Bentley and Yao 1976). The steps away from a given place double, towards greater elements or towards
+/// lesser ones; once a lesser and a greater element are known, the places between them are halved. The
+/// caller compares the elements.
 #[derive(Debug, Drop)]
 pub struct NearSearch {
     near: usize,
@@ -50,13 +51,11 @@ impl NearSearch {
         ensures end { self.new.end ≡ self.old.end }
     {
         self.start = place + 1;
-        if self.bounded {
-            self.halve();
+        self.guess = if self.bounded {
+            self.middle()
         } else {
-            self.guess = self
-                .start
-                .saturating_add(self.start.saturating_sub(self.near));
-        }
+            place.saturating_add(self.start.saturating_sub(self.near))
+        };
     }
 
     /// The element at this place is greater: only those before it are left.
@@ -67,15 +66,16 @@ impl NearSearch {
     {
         self.end = place;
         self.bounded = true;
-        self.halve();
+        self.guess = if self.start > 0 {
+            self.middle()
+        } else {
+            place.saturating_sub(self.near.saturating_sub(place).saturating_add(1))
+        };
     }
 
     #[inline(always)]
-    fn halve(&mut self)
-        ensures start { self.new.start ≡ self.old.start }
-        ensures end { self.new.end ≡ self.old.end }
-    {
-        self.guess = self.start + self.end.saturating_sub(self.start) / 2;
+    fn middle(&self) -> usize {
+        self.start + self.end.saturating_sub(self.start) / 2
     }
 
     /// The first place that is left.
