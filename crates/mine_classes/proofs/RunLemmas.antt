@@ -46,26 +46,41 @@ length-lists_in of = length-map of (λ (v : Vec Span Global). v.items)
 
 -- ---- the runs of each rank
 
-module _ (path : List ℕ) (basket : Span) (shared : ℕ) (old : List (List Span)) (up : IsRising path) where
-  -- the runs of the next rank are as they were
-  pub untouched : (depth : ℕ) (now : List (List Span)) → HaveRuns path basket shared depth old now → depth < length path → get_or now (get_or path depth 0) [] ≡ get_or old (get_or path depth 0) []
-  untouched depth now have below = have.off (get_or path depth 0) (λ k less same. let rises = rising_at path k depth up less below in omega arith)
+module _ (path : List ℕ) (basket : Span) (shared first : ℕ) (old : List (List Span)) (up : IsRising path) (depth : ℕ) (now : List (List Span)) (have : HaveRuns path basket shared depth first old now)
+    (below : depth < length path) where
+  -- the runs of the next rank, which has a number, are as they were
+  pub untouched : (n : ℕ) → get_or path depth 0 ≡ first + n → get_or now n [] ≡ get_or old n []
+  untouched n is = have.off n (λ k less same. let rises = rising_at path k depth up less below in omega (arith, is, same))
 
-  pub have_more : (depth : ℕ) (now : List (List Span)) → HaveRuns path basket shared depth old now → depth < length path → get_or path depth 0 < length now
-      → HaveRuns path basket shared (depth + 1) old (set now (get_or path depth 0) (with_run (ltb depth shared) (span_front basket depth) (get_or now (get_or path depth 0) [])))
-  have_more depth now have below here = record {
-    long = length-set now (get_or path depth 0) (with_run (ltb depth shared) (span_front basket depth) (get_or now (get_or path depth 0) [])) ∙ have.long;
-    on = λ k less. elim (cases_lt k depth) [
+  pub have_more : (n : ℕ) → get_or path depth 0 ≡ first + n → n < length now
+      → HaveRuns path basket shared (depth + 1) first old (set now n (with_run (ltb depth shared) (span_front basket depth) (get_or now n [])))
+  have_more n is here = record {
+    long = length-set now n run ∙ have.long;
+    on = λ k m less inside at. elim (cases_lt k depth) [
       | inl before ↦ (let rises = rising_at path k depth up before below in
-          get_or-set_other now (get_or path depth 0) (get_or path k 0) (with_run (ltb depth shared) (span_front basket depth) (get_or now (get_or path depth 0) [])) [] (λ same. absurd (omega arith)) ∙ have.on k before)
-      | inr at ↦ (let is : depth ≡ k = omega arith in
-          subst (λ j. get_or (set now (get_or path depth 0) (with_run (ltb depth shared) (span_front basket depth) (get_or now (get_or path depth 0) []))) (get_or path j 0) []
-          ≡ with_run (ltb j shared) (span_front basket j) (get_or old (get_or path j 0) [])) is
-          (get_or-set_same now (get_or path depth 0) (with_run (ltb depth shared) (span_front basket depth) (get_or now (get_or path depth 0) [])) [] here
-          ∙ ap (with_run (ltb depth shared) (span_front basket depth)) (untouched depth now have below)))
+          get_or-set_other now n m run [] (λ same. absurd (omega (arith, is, at))) ∙ have.on k m before inside at)
+      | inr after ↦ (let same : depth ≡ k = omega arith in
+          let rank : get_or path depth 0 ≡ get_or path k 0 = ap (λ j. get_or path j 0) same in
+          let one : n ≡ m = omega (arith, is, at, rank) in
+          subst (λ j. get_or (set now n run) j [] ≡ with_run (ltb k shared) (span_front basket k) (get_or old j [])) one
+          (subst (λ j. get_or (set now n run) n [] ≡ with_run (ltb j shared) (span_front basket j) (get_or old n [])) same
+          (get_or-set_same now n run [] here ∙ ap (with_run (ltb depth shared) (span_front basket depth)) (untouched n is))))
     ];
-    off = λ rank other. get_or-set_other now (get_or path depth 0) rank (with_run (ltb depth shared) (span_front basket depth) (get_or now (get_or path depth 0) [])) []
-        (λ same. other depth (omega arith) (sym same)) ∙ have.off rank (λ k less. other k (omega arith));
+    off = λ m other. get_or-set_other now n m run [] (λ same. other depth (omega arith) (is ∙ ap (λ j. first + j) (sym same))) ∙ have.off m (λ k less. other k (omega arith));
+  }
+    where
+      run : List Span
+      run = with_run (ltb depth shared) (span_front basket depth) (get_or now n [])
+
+  -- the next rank has no number
+  pub have_outside : ((n : ℕ) → n < length old → get_or path depth 0 ≡ first + n → ⊥) → HaveRuns path basket shared (depth + 1) first old now
+  have_outside none = record {
+    long = have.long;
+    on = λ k m less inside at. elim (cases_lt k depth) [
+      | inl before ↦ have.on k m before inside at
+      | inr after ↦ absurd (none m inside (ap (λ j. get_or path j 0) (omega (arith, less, after)) ∙ at))
+    ];
+    off = λ m other. have.off m (λ k less. other k (omega arith));
   }
 
 pub length-range : (ranks : List ℕ) (span : Span) → IsWithin (length ranks) span → length (slice_range ranks span.start span.end) ≡ span.end - span.start

@@ -50,50 +50,53 @@ module _ (ranks : List ℕ) (count : ℕ) (basket : Span) (inside : IsWithin (le
     within = (let end = ends k here in let last = inside.within in omega arith);
   }
 
-  module _ (done : List Weighted) (shared : ℕ) (old new : List (List Span)) (have : HaveRuns path basket shared (length path) old new)
-      (are : (rank : ℕ) → rank < count → AreRunsOf ranks done rank (get_or old rank []))
-      (again : (k : ℕ) → k < shared → k < length path → repeats_last (baskets_at ranks (get_or old (get_or path k 0) [])) (take k path) ≡ true) where
+  module _ (done : List Weighted) (shared first : ℕ) (old new : List (List Span)) (have : HaveRuns path basket shared (length path) first old new)
+      (are : (n : ℕ) → n < length old → AreRunsOf ranks done (first + n) (get_or old n []))
+      (again : (k n : ℕ) → k < shared → k < length path → n < length old → get_or path k 0 ≡ first + n → repeats_last (baskets_at ranks (get_or old n [])) (take k path) ≡ true) where
     front_at : (k : ℕ) → k < length path → take k path ≡ (basket_at ranks (span_front basket k)).basket
     front_at k here = sym (front_range ranks basket.start basket.end k (ends k here))
 
-    with_are : (k : ℕ) → k < length path → get_or path k 0 < count → AreRunsOf ranks (done ++ basket_at ranks basket ∷ []) (get_or path k 0) (get_or new (get_or path k 0) [])
-    with_are k here below_count = subst (AreRunsOf ranks (done ++ basket_at ranks basket ∷ []) (get_or path k 0)) (sym (have.on k here)) (elim (cases_Bool (ltb k shared)) [
+    with_are : (k n : ℕ) → k < length path → n < length old → get_or path k 0 ≡ first + n → AreRunsOf ranks (done ++ basket_at ranks basket ∷ []) (get_or path k 0) (get_or new n [])
+    with_are k n here inside at = subst (AreRunsOf ranks (done ++ basket_at ranks basket ∷ []) (get_or path k 0)) (sym (have.on k n here inside at)) (elim (cases_Bool (ltb k shared)) [
       | inl e ↦ subst (AreRunsOf ranks (done ++ basket_at ranks basket ∷ []) (get_or path k 0)) (ap (λ b. with_run b (span_front basket k) runs) (sym e))
-          (heavier_are ranks (get_or path k 0) done (basket_at ranks basket) (span_front basket k) runs there (run_rank k here) (run_is k here) (run_inside k here) (are (get_or path k 0) below_count)
-          (subst (λ l. repeats_last (baskets_at ranks runs) l ≡ true) (front_at k here) (again k (ltb-true k shared e) here)))
+          (heavier_are ranks (get_or path k 0) done (basket_at ranks basket) (span_front basket k) runs there (run_rank k here) (run_is k here) (run_inside k here) before
+          (subst (λ l. repeats_last (baskets_at ranks runs) l ≡ true) (front_at k here) (again k n (ltb-true k shared e) here inside at)))
       | inr e ↦ subst (AreRunsOf ranks (done ++ basket_at ranks basket ∷ []) (get_or path k 0)) (ap (λ b. with_run b (span_front basket k) runs) (sym e))
-          (pushed_are ranks (get_or path k 0) done (basket_at ranks basket) (span_front basket k) runs there (run_rank k here) (run_is k here) (run_inside k here) (are (get_or path k 0) below_count))
+          (pushed_are ranks (get_or path k 0) done (basket_at ranks basket) (span_front basket k) runs there (run_rank k here) (run_is k here) (run_inside k here) before)
     ])
       where
         runs : List Span
-        runs = get_or old (get_or path k 0) []
+        runs = get_or old n []
+
+        before : AreRunsOf ranks done (get_or path k 0) runs
+        before = subst (λ r. AreRunsOf ranks done r runs) (sym at) (are n inside)
 
         there : has path (get_or path k 0) ≡ true
         there = has-from_Member path (get_or path k 0) (Member-at path k here)
 
-    without_are : (rank : ℕ) → rank < count → has path rank ≡ false → AreRunsOf ranks (done ++ basket_at ranks basket ∷ []) rank (get_or new rank [])
-    without_are rank below_count none =
-        let same = have.off rank (λ k here e. true≢false (sym (subst (λ r. has path r ≡ true) e (has-from_Member path (get_or path k 0) (Member-at path k here))) ∙ none)) in
-        subst (AreRunsOf ranks (done ++ basket_at ranks basket ∷ []) rank) (sym same) (record {
-          within = (are rank below_count).within;
-          places = (are rank below_count).places;
-          weights = λ test. ap (λ l. sum_by (λ (p : Weighted). cond (test p.basket) p.weight 0) l) (below_without rank (basket_at ranks basket) done none) ∙ (are rank below_count).weights test;
+    without_are : (n : ℕ) → n < length old → has path (first + n) ≡ false → AreRunsOf ranks (done ++ basket_at ranks basket ∷ []) (first + n) (get_or new n [])
+    without_are n inside none =
+        let same = have.off n (λ k here e. true≢false (sym (subst (λ r. has path r ≡ true) e (has-from_Member path (get_or path k 0) (Member-at path k here))) ∙ none)) in
+        subst (AreRunsOf ranks (done ++ basket_at ranks basket ∷ []) (first + n)) (sym same) (record {
+          within = (are n inside).within;
+          places = (are n inside).places;
+          weights = λ test. ap (λ l. sum_by (λ (p : Weighted). cond (test p.basket) p.weight 0) l) (below_without (first + n) (basket_at ranks basket) done none) ∙ (are n inside).weights test;
         })
 
-    pub next_are : (rank : ℕ) → rank < count → AreRunsOf ranks (done ++ basket_at ranks basket ∷ []) rank (get_or new rank [])
-    next_are rank below_count = elim (cases_Bool (has path rank)) [
+    pub next_are : (n : ℕ) → n < length old → AreRunsOf ranks (done ++ basket_at ranks basket ∷ []) (first + n) (get_or new n [])
+    next_are n inside = elim (cases_Bool (has path (first + n))) [
       | inl e ↦
-          (let c = Contains-from_Member rank path (Member-from_has path rank e) in
-          let at = get_or_default path c.0 0 rank c.1 ∙ c.2 in
-          subst (λ r. AreRunsOf ranks (done ++ basket_at ranks basket ∷ []) r (get_or new r [])) at (with_are c.0 c.1 (subst (λ r. r < count) (sym at) below_count)))
-      | inr e ↦ without_are rank below_count e
+          (let c = Contains-from_Member (first + n) path (Member-from_has path (first + n) e) in
+          let at = get_or_default path c.0 0 (first + n) c.1 ∙ c.2 in
+          subst (λ r. AreRunsOf ranks (done ++ basket_at ranks basket ∷ []) r (get_or new n [])) at (with_are c.0 n c.1 inside at))
+      | inr e ↦ without_are n inside e
     ]
 
-    pub next_again : (k : ℕ) → k < length path → repeats_last (baskets_at ranks (get_or new (get_or path k 0) [])) (take k path) ≡ true
-    next_again k here = ap (λ l. repeats_last (baskets_at ranks l) (take k path)) (have.on k here) ∙ (elim (cases_Bool (ltb k shared)) [
+    pub next_again : (k n : ℕ) → k < length path → n < length old → get_or path k 0 ≡ first + n → repeats_last (baskets_at ranks (get_or new n [])) (take k path) ≡ true
+    next_again k n here inside at = ap (λ l. repeats_last (baskets_at ranks l) (take k path)) (have.on k n here inside at) ∙ (elim (cases_Bool (ltb k shared)) [
       | inl e ↦ ap (λ b. repeats_last (baskets_at ranks (with_run b (span_front basket k) runs)) (take k path)) e
           ∙ ap (λ l. repeats_last l (take k path)) (heavier_baskets ranks basket.weight runs)
-          ∙ raised_repeats basket.weight (baskets_at ranks runs) (take k path) ∙ again k (ltb-true k shared e) here
+          ∙ raised_repeats basket.weight (baskets_at ranks runs) (take k path) ∙ again k n (ltb-true k shared e) here inside at
       | inr e ↦ ap (λ b. repeats_last (baskets_at ranks (with_run b (span_front basket k) runs)) (take k path)) e
           ∙ ap (λ l. repeats_last l (take k path)) (map-append (basket_at ranks) runs (span_front basket k ∷ []))
           ∙ ap (repeats_last (baskets_at ranks runs ++ basket_at ranks (span_front basket k) ∷ [])) (front_at k here)
@@ -101,7 +104,7 @@ module _ (ranks : List ℕ) (count : ℕ) (basket : Span) (inside : IsWithin (le
     ])
       where
         runs : List Span
-        runs = get_or old (get_or path k 0) []
+        runs = get_or old n []
 
 -- ---- the weights of runs
 
@@ -129,14 +132,13 @@ rank_basket_at ranks count spans i d all here =
     subst (IsRankBasket count) (get_or-map (basket_at ranks) spans i d (basket_at ranks d) here) (all i (basket_at ranks d) (omega (arith, length-map spans (basket_at ranks))))
 
 -- baskets that begin alike have runs alike there
-pub shared_again : (ranks : List ℕ) (of : List (List Span)) (last path : List ℕ) (shared : ℕ) → shared ≤ length last → take shared last ≡ take shared path
-    → ((k : ℕ) → k < length last → repeats_last (baskets_at ranks (get_or of (get_or last k 0) [])) (take k last) ≡ true)
-    → (k : ℕ) → k < shared → repeats_last (baskets_at ranks (get_or of (get_or path k 0) [])) (take k path) ≡ true
-shared_again ranks of last path shared within same again k here =
+pub shared_again : (ranks : List ℕ) (first : ℕ) (of : List (List Span)) (last path : List ℕ) (shared : ℕ) → shared ≤ length last → take shared last ≡ take shared path
+    → ((k n : ℕ) → k < length last → n < length of → get_or last k 0 ≡ first + n → repeats_last (baskets_at ranks (get_or of n [])) (take k last) ≡ true)
+    → (k n : ℕ) → k < shared → n < length of → get_or path k 0 ≡ first + n → repeats_last (baskets_at ranks (get_or of n [])) (take k path) ≡ true
+shared_again ranks first of last path shared within same again k n here inside at =
     let rank : get_or last k 0 ≡ get_or path k 0 = sym (get_or-take shared last k 0 here) ∙ ap (λ l. get_or l k 0) same ∙ get_or-take shared path k 0 here in
     let front : take k last ≡ take k path = sym (take-take k shared last (omega arith)) ∙ ap (take k) same ∙ take-take k shared path (omega arith) in
-    ap (λ r. repeats_last (baskets_at ranks (get_or of r [])) (take k path)) (sym rank) ∙ ap (repeats_last (baskets_at ranks (get_or of (get_or last k 0) []))) (sym front)
-    ∙ again k (omega arith)
+    ap (repeats_last (baskets_at ranks (get_or of n []))) (sym front) ∙ again k n (omega arith) inside (rank ∙ at)
 
 pub basket_more : (ranks : List ℕ) (spans : List Span) (i : ℕ) (d : Span) → i < length spans
     → take i (baskets_at ranks spans) ++ basket_at ranks (get_or spans i d) ∷ [] ≡ take (i + 1) (baskets_at ranks spans)

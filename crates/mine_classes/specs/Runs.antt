@@ -24,12 +24,12 @@ with_last_heavier weight (run ∷ next ∷ runs) = run ∷ with_last_heavier wei
 abbrev pub with_run : Bool → Span → List Span → List Span
 with_run same run runs = if same then with_last_heavier run.weight runs else runs ++ run ∷ []
 
--- the ranks of a basket up to a depth have its runs: below a depth that it shares with the basket before, the weight of a run that is there
-pub record HaveRuns (ranks : List ℕ) (basket : Span) (shared depth : ℕ) (old new : List (List Span)) : Type 0 where
+-- the ranks of a basket up to a depth, from a first rank on, have its runs: below a depth that it shares with the basket before, the weight of a run that is there
+pub record HaveRuns (ranks : List ℕ) (basket : Span) (shared depth first : ℕ) (old new : List (List Span)) : Type 0 where
   pub long : length new ≡ length old
-  pub on : (k : ℕ) → k < depth
-      → slice_index_or new (slice_index ranks k) [] ≡ with_run (nat_lt k shared) (span_front basket k) (slice_index_or old (slice_index ranks k) [])
-  pub off : (rank : ℕ) → ((k : ℕ) → k < depth → slice_index ranks k ≡ rank → ⊥) → slice_index_or new rank [] ≡ slice_index_or old rank []
+  pub on : (k n : ℕ) → k < depth → n < length old → slice_index ranks k ≡ first + n
+      → slice_index_or new n [] ≡ with_run (nat_lt k shared) (span_front basket k) (slice_index_or old n [])
+  pub off : (n : ℕ) → ((k : ℕ) → k < depth → slice_index ranks k ≡ first + n → ⊥) → slice_index_or new n [] ≡ slice_index_or old n []
 
 -- the lists of runs that vectors have
 abbrev pub lists_in : List (Vec Span Global) → List (List Span)
@@ -41,10 +41,10 @@ pub record AreRunsOf (ranks : List ℕ) (baskets : List Weighted) (rank : ℕ) (
   pub places : All (IsRankBasket rank) (baskets_at ranks runs)
   pub weights : HaveSameWeights (below rank baskets) (baskets_at ranks runs)
 
--- the runs of each rank below a number
-pub record HaveAllRuns (count : ℕ) (ranks : List ℕ) (baskets : List Weighted) (of : List (List Span)) : Type 0 where
+-- the runs of so many ranks from a first one on
+pub record HaveRunsFrom (first count : ℕ) (ranks : List ℕ) (baskets : List Weighted) (of : List (List Span)) : Type 0 where
   pub long : length of ≡ count
-  pub are : (rank : ℕ) → rank < count → AreRunsOf ranks baskets rank (slice_index_or of rank [])
+  pub are : (n : ℕ) → n < count → AreRunsOf ranks baskets (first + n) (slice_index_or of n [])
 
 -- the frequent pairs of each of the first ranks, by a least support
 abbrev pub ArePairsOf : List Weighted → ℕ → List (Vec (ℕ × ℕ) Global) → Type 0

@@ -19,6 +19,7 @@ mod pairs;
 mod paths;
 mod places;
 mod rank_range;
+mod rank_runs;
 mod room;
 mod runs;
 mod shift;
@@ -36,6 +37,7 @@ pub use pairs::{
 pub use paths::Paths;
 pub use places::Places;
 pub use rank_range::RankRange;
+pub use rank_runs::runs_of_range;
 pub use runs::Runs;
 pub use sums::Sums;
 pub use tables::Tables;

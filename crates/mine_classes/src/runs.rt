@@ -8,9 +8,11 @@ ghost use Rattle.basket_sets.specs.Support.{support_of};
 ghost use Rattle.mine_baskets.specs.declared.span.Span.{Span as Run};
 ghost use Rattle.mine_baskets.specs.ListBaskets.{AreRankBaskets};
 ghost use Rattle.mine_classes.specs.Pairs.{pairs_of};
-ghost use Rattle.mine_classes.specs.Runs.{ArePairsOf, AreRunsOf, HaveAllRuns, HaveRuns, lists_in, with_run};
+ghost use Rattle.mine_classes.specs.Runs.{ArePairsOf, AreRunsOf, HaveRunsFrom, HaveRuns, lists_in, with_run};
 ghost use Rattle.mine_baskets.specs.Span.{IsWithin, baskets_at};
 
+use crate::rank_range::RankRange;
+use crate::rank_runs::runs_of_range;
 use crate::sums::Sums;
 use mine_baskets::ListBaskets;
 use mine_baskets::span::Span;
@@ -35,7 +37,7 @@ pub struct Runs {
 
 impl Model for Runs {
     ghost use Rattle.mine_baskets.specs.ListBaskets.{RankBaskets, AreRankBaskets};
-    ghost use Rattle.mine_classes.specs.Runs.{ArePairsOf, AreRunsOf, HaveAllRuns, lists_in};
+    ghost use Rattle.mine_classes.specs.Runs.{ArePairsOf, AreRunsOf, HaveRunsFrom, lists_in};
     ghost use Rattle.mine_baskets.specs.Span.{baskets_at};
 
     ghost Value = { RankBaskets };
@@ -43,7 +45,7 @@ impl Model for Runs {
     ghost view = { λ r. record { ranks = r.count; baskets = baskets_at r.ranks.items r.baskets.items } };
 
     ghost invariant = { λ r. AreRankBaskets (record { ranks = r.count; baskets = baskets_at r.ranks.items r.baskets.items })
-        × HaveAllRuns r.count r.ranks.items (baskets_at r.ranks.items r.baskets.items) (lists_in r.of.items)
+        × HaveRunsFrom 0 r.count r.ranks.items (baskets_at r.ranks.items r.baskets.items) (lists_in r.of.items)
         × ArePairsOf (baskets_at r.ranks.items r.baskets.items) r.least r.pairs.items };
 }
 
@@ -53,15 +55,31 @@ impl Runs {
         ensures { IfOk result (λ runs. runs ≡ lists) }
     {
         let (count, ranks, baskets) = lists.into_parts();
-        let of = all_runs(alloc, count, &ranks, &baskets)?;
-        Ok(Runs {
+        let range = RankRange { first: 0, count };
+        let of = runs_of_range(alloc, &ranks, &baskets, range)?;
+        Ok(Runs::with(alloc, count, ranks, baskets, of))
+    }
+
+    /// The runs of baskets of this many ranks, which are parts of a list of ranks: these runs.
+    pub fn with(
+        alloc: Global,
+        count: u32,
+        ranks: Vec<u32>,
+        baskets: Vec<Span>,
+        of: Vec<Vec<Span>>,
+    ) -> Self
+        requires ranked { AreRankBaskets (record { ranks = count; baskets = baskets_at ranks.items baskets.items }) }
+        requires runs { HaveRunsFrom 0 count ranks.items (baskets_at ranks.items baskets.items) (lists_in of.items) }
+        ensures { result ≡ record { ranks = count; baskets = baskets_at ranks.items baskets.items } }
+    {
+        Runs {
             count,
             ranks,
             baskets,
             of,
             pairs: Vec::new(alloc),
             least: 0,
-        })
+        }
     }
 
     /// Keeps the frequent pairs of each rank by a least support, which then need not be summed.
@@ -126,89 +144,4 @@ impl Runs {
             }
         }
     }
-}
-
-/// The runs of each rank.
-fn all_runs(
-    alloc: Global,
-    count: u32,
-    ranks: &[u32],
-    baskets: &[Span],
-) -> Result<Vec<Vec<Span>>, AllocError>
-    requires within { All (IsWithin (length ranks.now)) baskets.now }
-    requires ranked { AreRankBaskets (record { ranks = count; baskets = baskets_at ranks.now baskets.now }) }
-    ensures { IfOk result (λ of. HaveAllRuns count ranks.now (baskets_at ranks.now baskets.now) (lists_in of.items)) }
-{
-    let mut of = no_runs(alloc, count)?;
-    let mut last = &ranks[..0];
-    for basket in baskets {
-        let path = basket.of(ranks);
-        add_runs(&mut of, ranks, *basket, shared(last, path))?;
-        last = path;
-    }
-    Ok(of)
-}
-
-/// An empty list for each rank.
-fn no_runs(alloc: Global, count: u32) -> Result<Vec<Vec<Span>>, AllocError>
-    ensures { IfOk result (λ of. lists_in of.items ≡ replicate count []) }
-{
-    let mut of = Vec::with_capacity(alloc, count as usize)?;
-    for _rank in 0..count {
-        of.push(Vec::new(alloc))?;
-    }
-    Ok(of)
-}
-
-/// The length of the common prefix of two baskets.
-fn shared(a: &[u32], b: &[u32]) -> usize
-    ensures in_first { result ≤ length a.now }
-    ensures in_second { result ≤ length b.now }
-    ensures same { take result a.now ≡ take result b.now }
-{
-    let most = a.len().min(b.len());
-    for place in 0..most {
-        if a[place] != b[place] {
-            return place;
-        }
-    }
-    most
-}
-
-/// Adds the runs of a basket that shares its first ranks with the basket before.
-fn add_runs(
-    of: &mut [Vec<Span>],
-    ranks: &[u32],
-    basket: Span,
-    shared: usize,
-) -> Result<(), AllocError>
-    requires within { IsWithin (length ranks.now) basket }
-    requires rises { IsRising (slice_range ranks.now basket.start basket.end) }
-    requires below { AllBelow (length of.old) (slice_range ranks.now basket.start basket.end) }
-    requires there { (k : ℕ) → k < shared → k < basket.end - basket.start
-        → 0 < length (slice_index_or (lists_in of.old) (slice_index (slice_range ranks.now basket.start basket.end) k) []) }
-    requires light { (rank : ℕ) → rank < length of.old → sum_by (λ (other : Run). other.weight) (slice_index_or (lists_in of.old) rank []) + basket.weight ≤ MOST_WEIGHT }
-    ensures { OnOk result (HaveRuns (slice_range ranks.now basket.start basket.end) basket shared (basket.end - basket.start) (lists_in of.old) (lists_in of.new)) }
-{
-    let path = basket.of(ranks);
-    for (depth, rank) in path.iter().enumerate() {
-        let run = basket.first(depth as u32);
-        add_run(&mut of[*rank as usize], run, depth < shared)?;
-    }
-    Ok(())
-}
-
-/// Adds a run to those of a rank, or its weight to the last one if that is the same.
-fn add_run(runs: &mut Vec<Span>, run: Span, same: bool) -> Result<(), AllocError>
-    requires some { IsTrue same → 0 < length runs.old.items }
-    requires light { sum_by (λ (other : Run). other.weight) runs.old.items + run.weight ≤ MOST_WEIGHT }
-    ensures { OnOk result (runs.new.items ≡ with_run same run runs.old.items) }
-{
-    if same {
-        let last = runs.len() - 1;
-        runs[last].add_weight(run.weight);
-        return Ok(());
-    }
-    runs.push(run)?;
-    Ok(())
 }

@@ -4,4 +4,5 @@ mod Parts
 mod Shares
 mod Numbers
 mod Ranks
+mod RunLemmas
 mod Sharing

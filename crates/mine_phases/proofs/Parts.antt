@@ -2,11 +2,11 @@
 use Rattle.std.proofs.Common.{◌≡◌, ℕ, ◌+◌, ◌≤◌, ◌<◌, ◌-◌, List, [], ◌∷◌, ◌++◌, map, take, drop, length, get_or, refl, sym, ap, ◌∙◌, arith}
 use Rattle.std.specs.Prelude.{slice_range}
 use Rattle.std.specs.List.{flat_map, range_with_len}
-use Rattle.std.proofs.lemmas.List.{append-nil, drop-map, get_or-map, length-map, take-append-drop, take-map}
+use Rattle.std.proofs.lemmas.List.{append-nil, drop-map, get_or-map, length-map, map-append, take-append-drop, take-map}
 use Rattle.std.proofs.lemmas.List.Folds.{flat_map-map}
 use Rattle.std.proofs.lemmas.List.FromFn.{fill_by_all}
 use Rattle.std.proofs.lemmas.Simd.{map-map}
-use Rattle.std.proofs.lemmas.List.Concat.{flat_map-append}
+use Rattle.std.proofs.lemmas.List.Concat.{flat_map-append, flat_map-cons}
 use Rattle.std.proofs.lemmas.List.Sums.{sum_by-take-le, sum_by-take-drop}
 use Rattle.basket_ranks.proofs.theory.Shards.{shards_are_all}
 use Rattle.basket_ranks.specs.Shards.{shard_start, shard_of}
@@ -16,6 +16,11 @@ use Rattle.basket_sets.specs.Counts.{item_supports}
 use Rattle.basket_sets.specs.Support.{total_of, weight_at}
 use Rattle.mine_phases.specs.Counting.{CountParts}
 use Rattle.mine_phases.specs.Pieces.{HasEach}
+
+pub map_flat : {X Y Z : Type 0} (f : Y → Z) (g : X → List Y) (xs : List X) → map f (flat_map g xs) ≡ flat_map (λ x. map f (g x)) xs
+map_flat f g [] = refl
+map_flat f g (x ∷ xs) =
+    ap (map f) (flat_map-cons g x xs) ∙ map-append f (g x) (flat_map g xs) ∙ ap (λ l. map f (g x) ++ l) (map_flat f g xs) ∙ sym (flat_map-cons (λ y. map f (g y)) x xs)
 
 -- a part weighs no more than the list
 pub shard_is_light : (i pieces : ℕ) (baskets : List Weighted) → total_of (shard_of i pieces baskets) ≤ total_of baskets

@@ -1,5 +1,6 @@
-//! The classes of all ranks and their work.
+//! What the parts of a phase have, together.
 ghost use Rattle.std.specs.Prelude.{◌≡◌, ◌<◌, ◌^◌, IfOk, map, sum};
+ghost use Rattle.std.specs.List.{flat_map};
 
 use basket_core::CountedSets;
 use std::alloc::{AllocError, Global};
@@ -20,4 +21,11 @@ pub fn joined(alloc: Global, mined: Vec<Class>) -> Result<(Vec<CountedSets>, u64
         work += done;
     }
     Ok((classes, work))
+}
+
+/// The elements of all lists, one list after another.
+pub fn in_a_row<T: Drop>(alloc: Global, lists: Vec<Vec<T>>) -> Result<Vec<T>, AllocError>
+    ensures { IfOk result (λ all. all.items ≡ flat_map (λ list. list.items) lists.items) }
+{
+    lists.into_iter().flatten().collect(alloc)
 }

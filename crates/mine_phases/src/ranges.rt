@@ -4,21 +4,33 @@ ghost use Rattle.std.specs.List.{flat_map, range_with_len};
 ghost use Rattle.basket_sets.specs.Counts.{AllBelow};
 ghost use Rattle.mine_classes.specs.Triangle.{ranks_in};
 
+use crate::cutting::Cutting;
 use basket_core::{Coded, Weighted};
 use mine_classes::RankRange;
 use std::alloc::{AllocError, Global};
 
+/// How many ranges there are for each of several workers. With more, all baskets are looked at more often;
+/// with fewer, one that takes long keeps the other workers waiting.
+const RANGES_FOR_EACH: u32 = 2;
+
 /// About this many baskets show how long the pairs of each rank take.
 const SAMPLE: usize = 4_096;
 
-/// All ranks, as at most this many ranges. To count the pairs of a rank with lesser ones takes as
+/// All ranks as ranges for a number of workers; one worker has one range. To count the pairs of a rank with lesser ones takes as
 /// many steps as such ranks stand before it in the baskets, and one for each basket that has it.
 /// Each range but the last has a little more than its share of the steps in a sample.
-pub fn ranges_of(alloc: Global, coded: &Coded, parts: u32) -> Result<Vec<RankRange>, AllocError>
-    requires { 1 ≤ parts }
+pub fn ranges_of(
+    alloc: Global,
+    coded: &Coded,
+    cutting: Cutting,
+) -> Result<Vec<RankRange>, AllocError>
     ensures ranges { IfOk result (λ ranges. flat_map ranks_in ranges.items ≡ range_with_len 0 (length coded.now.items)) }
     ensures few { IfOk result (λ ranges. length ranges.items < 2 ^ 32) }
 {
+    let parts = match cutting.workers {
+        1 => 1,
+        workers => workers * RANGES_FOR_EACH,
+    };
     let mut steps = vec![in alloc; 0; coded.ranks() as usize]?;
     if parts > 1 {
         add_sample(&mut steps, coded.baskets());

@@ -1,20 +1,93 @@
 //! The runs of coded baskets, before their classes are mined.
-ghost use Rattle.std.specs.Prelude.{◌≡◌, ℕ, List, IfOk, length};
+ghost use Rattle.std.specs.Prelude.{◌≡◌, ◌<◌, ◌^◌, ℕ, List, All, IfOk, length, slice_index_or};
+ghost use Rattle.std.proofs.Props.{props};
 ghost use Rattle.basket_sets.specs.Support.{support_of};
 ghost use Rattle.mine_baskets.specs.ListBaskets.{AreRankBaskets, HaveSameWeights};
+ghost use Rattle.mine_baskets.specs.Span.{IsWithin, baskets_at};
+ghost use Rattle.mine_classes.specs.Runs.{HaveRunsFrom, lists_in};
+ghost use Rattle.mine_classes.specs.declared.rank_range.RankRange.{RankRange as Range};
 
 use crate::cutting::Cutting;
 use crate::gate::Open;
+use crate::joined::in_a_row;
+use crate::pairs::PHASE;
+use crate::phase::Phase;
+use crate::pieces::{PartWork, by_pieces};
+use crate::ranges::ranges_of;
 use crate::triangle::triangle_pairs;
 use basket_core::Coded;
-use mine_baskets::ListBaskets;
-use mine_classes::{Runs, pays_for_classes, runs_keeping};
+use mine_baskets::{ListBaskets, Span};
+use mine_classes::{RankRange, Runs, pays_for_classes, runs_keeping, runs_of_range};
 use std::alloc::{AllocError, Global};
 use std::thread::Threads;
 
+/// Ranks whose runs are found, a range of them at a time.
+#[derive(Drop)]
+struct RankRuns<'a> {
+    count: u32,
+    ranks: &'a [u32],
+    baskets: &'a [Span],
+    ranges: Vec<RankRange>,
+    ghost few: { length ranges.items < 2 ^ 32 },
+    ghost within: { All (IsWithin (length ranks.now)) baskets.now },
+    ghost ranked: { AreRankBaskets (record { ranks = count; baskets = baskets_at ranks.now baskets.now }) } by { Prim.hlevel props },
+}
+
+impl PartWork<Vec<Vec<Span>>> for RankRuns<'_> {
+    type Tools = ();
+
+    ghost part_count = { λ work. length work.ranges.items };
+
+    ghost are_tools = { λ work tools. Unit {0} };
+
+    ghost is_value = { λ work part of. (range : Range) → slice_index_or work.ranges.items part range ≡ range
+        → HaveRunsFrom range.first range.count work.ranks.now (baskets_at work.ranks.now work.baskets.now) (lists_in of.items) };
+
+    fn parts(&self) -> u32 {
+        self.ranges.len() as u32
+    }
+
+    fn tools(&self, _alloc: Global) -> Result<(), AllocError> {
+        Ok(())
+    }
+
+    fn value(
+        &self,
+        alloc: Global,
+        _tools: &mut (),
+        part: u32,
+    ) -> Result<Vec<Vec<Span>>, AllocError> {
+        runs_of_range(alloc, self.ranks, self.baskets, self.ranges[part as usize])
+    }
+}
+
+/// The runs of each rank, found by a number of workers over ranges of the ranks.
+fn runs_by_ranges<R: Threads + Sync>(
+    rt: &R,
+    alloc: Global,
+    coded: &Coded,
+    ranks: &[u32],
+    baskets: &[Span],
+    cutting: Cutting,
+) -> Result<Vec<Vec<Span>>, AllocError>
+    requires within { All (IsWithin (length ranks.now)) baskets.now }
+    requires ranked { AreRankBaskets (record { ranks = length coded.now.items; baskets = baskets_at ranks.now baskets.now }) }
+    ensures { IfOk result (λ of. HaveRunsFrom 0 (length coded.now.items) ranks.now (baskets_at ranks.now baskets.now) (lists_in of.items)) }
+{
+    let ranges = ranges_of(alloc, coded, cutting)?;
+    let work = RankRuns {
+        count: coded.ranks(),
+        ranks,
+        baskets,
+        ranges,
+    };
+    let lists = by_pieces(rt, alloc, &work, &Phase::new(PHASE, cutting, &Open))?;
+    in_a_row(alloc, lists)
+}
+
 /// The runs of the coded baskets, which a number of workers sort. They keep the frequent pairs of
-/// each rank if it pays to count each pair of ranks, which the workers do over parts of the
-/// baskets.
+/// each rank if it pays to count each pair of ranks. The workers count these pairs and find the runs
+/// over ranges of the ranks.
 pub fn runs_shared<R: Threads + Sync>(
     rt: &R,
     alloc: Global,
@@ -32,5 +105,8 @@ pub fn runs_shared<R: Threads + Sync>(
     } else {
         Vec::new(alloc)
     };
-    Ok(runs_keeping(coded, Runs::of(alloc, lists)?, pairs))
+    let (count, ranks, baskets) = lists.into_parts();
+    let of = runs_by_ranges(rt, alloc, coded, &ranks, &baskets, cutting)?;
+    let runs = Runs::with(alloc, count, ranks, baskets, of);
+    Ok(runs_keeping(coded, runs, pairs))
 }

@@ -1,11 +1,11 @@
 //! The frequent pairs of few ranks, over ranges of their greater ranks.
 ghost use Rattle.std.specs.Prelude.{◌≡◌, ◌<◌, ◌^◌, [], IfOk, length, map, slice_index_or};
-ghost use Rattle.std.specs.List.{flat_map};
 ghost use Rattle.mine_classes.specs.Pairs.{ArePairs, lists_of};
 ghost use Rattle.mine_classes.specs.Triangle.{pairs_in_range};
 
 use crate::cutting::Cutting;
 use crate::gate::Gate;
+use crate::joined::in_a_row;
 use crate::pairs::{PHASE, Pairs};
 use crate::phase::Phase;
 use crate::pieces::{PartWork, by_pieces};
@@ -14,10 +14,6 @@ use basket_core::Coded;
 use mine_classes::{RankRange, least_support, pairs_of_range};
 use std::alloc::{AllocError, Global};
 use std::thread::Threads;
-
-/// With more ranges all baskets are looked at more often; with fewer, one that takes long keeps the
-/// other workers waiting.
-const RANGES_FOR_EACH: u32 = 2;
 
 /// Ranks whose pairs with lesser ones are counted, a range of them at a time.
 #[derive(Drop)]
@@ -61,22 +57,11 @@ pub fn triangle_pairs<R: Threads + Sync, G: Gate + Sync>(
 ) -> Result<Vec<Pairs>, AllocError>
     ensures { IfOk result (λ lists. ArePairs coded.now (lists_of lists.items)) }
 {
-    let parts = match cutting.workers {
-        1 => 1,
-        workers => workers * RANGES_FOR_EACH,
-    };
     let counting = Counting {
         coded,
         least: least_support(coded),
-        ranges: ranges_of(alloc, coded, parts)?,
+        ranges: ranges_of(alloc, coded, cutting)?,
     };
     let lists = by_pieces(rt, alloc, &counting, &Phase::new(PHASE, cutting, gate))?;
     in_a_row(alloc, lists)
-}
-
-/// The elements of all lists, one list after another.
-fn in_a_row(alloc: Global, lists: Vec<Vec<Pairs>>) -> Result<Vec<Pairs>, AllocError>
-    ensures { IfOk result (λ all. all.items ≡ flat_map (λ list. list.items) lists.items) }
-{
-    lists.into_iter().flatten().collect(alloc)
 }

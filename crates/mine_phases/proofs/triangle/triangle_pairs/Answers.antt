@@ -12,13 +12,8 @@ use Rattle.mine_classes.specs.declared.rank_range.RankRange.{RankRange}
 use Rattle.mine_classes.specs.Pairs.{ArePairs, lists_of, pairs_by_greater, pairs_of}
 use Rattle.mine_classes.specs.Triangle.{pairs_in_range, ranks_in}
 use Rattle.mine_phases.specs.Pieces.{HasEach}
-use Rattle.mine_phases.proofs.Parts.{entries_by_part}
+use Rattle.mine_phases.proofs.Parts.{entries_by_part, map_flat}
 use Rattle.mine_phases.proofs.triangle.triangle_pairs.Goals as goal
-
-map_flat : {X Y Z : Type 0} (f : Y → Z) (g : X → List Y) (xs : List X) → map f (flat_map g xs) ≡ flat_map (λ x. map f (g x)) xs
-map_flat f g [] = refl
-map_flat f g (x ∷ xs) =
-    ap (map f) (flat_map-cons g x xs) ∙ map-append f (g x) (flat_map g xs) ∙ ap (λ l. map f (g x) ++ l) (map_flat f g xs) ∙ sym (flat_map-cons (λ y. map f (g y)) x xs)
 
 -- the pairs of the ranges, one after another, are those of all ranks
 module _ (baskets : List Weighted) (least ranks : ℕ) (ranges : List RankRange) (values : List (Vec (Vec (ℕ × ℕ) Global) Global)) where

@@ -1,8 +1,9 @@
-use Rattle.std.proofs.Common.{◌≡◌, ◌<◌, [], get_or, length, subst, sym, ap, ◌∙◌, arith}
+use Rattle.std.proofs.Common.{◌≡◌, ◌<◌, [], get_or, length, subst, sym, ap, ◌∙◌, arith, zero-add}
 use Rattle.std.specs.declared.alloc.Global.{Global}
 use Rattle.std.specs.declared.vec.Vec.{Vec}
 use Rattle.mine_baskets.specs.declared.span.Span.{Span}
 use Rattle.mine_baskets.specs.ListBaskets.{RankBaskets}
+use Rattle.mine_baskets.specs.Span.{baskets_at}
 use Rattle.mine_classes.specs.Runs.{AreRunsOf, lists_in}
 use Rattle.mine_classes.proofs.RunLemmas.{length-lists_in, list_at}
 use Rattle.mine_classes.proofs.runs.Runs.of_rank.Goals as goal
@@ -17,4 +18,5 @@ returns-clause-runs c =
     c.deref-2.ensures.value ∙ ap (λ (v : Vec Span Global). v.items) c.index.ensures ∙ sym (list_at inside.of.items rank c.index.result.now below) in
     rw c.deref.ensures.value
     (subst (AreRunsOf inside.ranks.items c.args.self.now.baskets rank) (sym list)
-    (subst (λ (v : RankBaskets). AreRunsOf inside.ranks.items v.baskets rank (get_or (lists_in inside.of.items) rank [])) c.self.view_is (c.self.invariant.1.are rank here)))
+    (subst (λ (v : RankBaskets). AreRunsOf inside.ranks.items v.baskets rank (get_or (lists_in inside.of.items) rank [])) c.self.view_is
+    (subst (λ r. AreRunsOf inside.ranks.items (baskets_at inside.ranks.items inside.baskets.items) r (get_or (lists_in inside.of.items) rank [])) (zero-add rank) (c.self.invariant.1.are rank here))))

@@ -2,7 +2,7 @@ use Rattle.std.proofs.Common.{◌-◌, set, ap, ◌∙◌, arith}
 use Rattle.std.proofs.lemmas.List.Sums.{sum_by_more_le}
 use Rattle.mine_baskets.specs.declared.span.Span.{Span}
 use Rattle.mine_classes.proofs.RunLemmas.{heavier_is, other_run, same_run}
-use Rattle.mine_classes.proofs.runs.add_run.Goals as goal
+use Rattle.mine_classes.proofs.rank_runs.add_run.Goals as goal
 
 pub add_weight-requires : goal.add_weight-requires
 add_weight-requires c =

@@ -5,7 +5,7 @@ use Rattle.std.specs.declared.alloc.Global.{Global}
 use Rattle.std.proofs.lemmas.List.{map-append, replicate_more}
 use Rattle.mine_baskets.specs.declared.span.Span.{Span}
 use Rattle.mine_classes.specs.Runs.{lists_in}
-use Rattle.mine_classes.proofs.runs.no_runs.Goals as goal
+use Rattle.mine_classes.proofs.rank_runs.no_runs.Goals as goal
 
 pub loop-rank-preserved : goal.loop-rank-preserved
 loop-rank-preserved c =
