@@ -11,7 +11,7 @@ use crate::text::Text;
 use std::thread::{Threads, join};
 
 /// How many bytes are worth a worker.
-pub const PART: usize = 262_144;
+pub const PART: usize = 524_288;
 
 /// Takes more of a text, up to its first fault, as `Text::feed` does, by this many workers. If they
 /// count, each counts the baskets of its part.
