@@ -16,6 +16,7 @@ use basket_read::ReadFault;
 use basket_report::rules_report;
 use basket_sets::Minimum;
 use std::alloc::{AllocError, Global};
+use std::thread::Threads;
 
 /// The sets that meet the minimum among merged counted sets, if all is there that matters.
 pub fn listing(alloc: Global, plan: &Plan, together: &Together) -> Result<Frequent, ReadFault>
@@ -58,7 +59,8 @@ fn needs_subsets(ask: Ask) -> bool
 }
 
 /// The report that the plan asks for, of counted sets that meet the minimum.
-pub fn report_listing(
+pub fn report_listing<R: Threads + Sync>(
+    rt: &R,
     alloc: Global,
     frequent: Frequent,
     names: &Option<Names>,
@@ -88,7 +90,8 @@ pub fn report_listing(
         Ask::Closed => Ok(PreparedReport::of_closed(alloc, frequent, style, workers)?),
         Ask::Maximal => Ok(PreparedReport::of_maximal(alloc, frequent, style, workers)?),
         Ask::Rules(confidence) => {
-            Ok(PreparedReport::Text(rules_report(alloc, &frequent, confidence, style)?))
+            let texts = rules_report(rt, alloc, &frequent, confidence, style, workers)?;
+            Ok(PreparedReport::Texts(texts))
         }
     }
 }

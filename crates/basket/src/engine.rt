@@ -112,7 +112,7 @@ fn report_contents<R: Threads + Sync>(
             Ok(report_baskets(rt, alloc, database, &names, plan)?)
         }
         Contents::Counts(together, names) => match listing(alloc, plan, &together) {
-            Ok(frequent) => Ok(report_listing(alloc, frequent, &names, plan)?),
+            Ok(frequent) => Ok(report_listing(rt, alloc, frequent, &names, plan)?),
             Err(fault) => Err(RunFault::Input(fault)),
         },
     }
@@ -157,7 +157,8 @@ fn report_baskets<R: Threads + Sync>(
         }
         Ask::Rules(confidence) => {
             let (frequent, _) = mine_in_place(rt, alloc, database, plan, &Open)?;
-            Ok(PreparedReport::Text(rules_report(alloc, &frequent, confidence, style)?))
+            let texts = rules_report(rt, alloc, &frequent, confidence, style, workers)?;
+            Ok(PreparedReport::Texts(texts))
         }
     }
 }

@@ -1,7 +1,7 @@
 //! A report that is made but not written yet.
 ghost use Rattle.std.specs.Prelude.{◌≡◌, ◌↔◌, List, true, false, IfOk, IsOk, OnErr, OnOk};
 ghost use Rattle.std.specs.Io.KnownBytes.{Appends};
-ghost use Rattle.basket_report.specs.Bytes.{TakesFront};
+ghost use Rattle.basket_report.specs.Bytes.{TakesFront, joined};
 ghost use Rattle.basket_report.specs.Report.{report_of};
 ghost use Rattle.basket_report.specs.Style.{wording_of};
 ghost use Rattle.basket_rules.specs.Condensed.{closed_in, closed_of, maximal_in, maximal_of};
@@ -12,15 +12,17 @@ ghost use Rattle.basket_sets.specs.declared.weighted.Weighted.{Weighted as Baske
 ghost use Rattle.basket.specs.Prepared.{prepared_text};
 
 use basket_core::{CountedSets, Failed, Frequent, MemSink, Sink};
-use basket_report::{SetLines, Style, sets_report, write_bytes};
+use basket_report::{SetLines, Style, sets_report, write_texts};
 use basket_rules::{closed, maximal};
 use std::alloc::{AllocError, Global};
 use std::thread::Threads;
 
-/// A report: its text, or the sets whose lines are made while they are written.
+/// A report: its text, texts that are it one after another, or the sets whose lines are made while
+/// they are written.
 #[derive(Drop)]
 pub enum PreparedReport {
     Text(Vec<u8>),
+    Texts(Vec<Vec<u8>>),
     Sets(CountedSets, SetLines),
 }
 
@@ -82,7 +84,8 @@ impl PreparedReport {
         ensures failed { (W.has_failed writer.new ≡ false) ↔ IsOk result }
     {
         match self {
-            PreparedReport::Text(text) => write_all(writer, &text),
+            PreparedReport::Text(text) => write_texts(writer, &[text]),
+            PreparedReport::Texts(texts) => write_texts(writer, &texts),
             PreparedReport::Sets(sets, mut lines) => lines.write(rt, &sets, writer),
         }
     }
@@ -93,6 +96,7 @@ impl PreparedReport {
     {
         match self {
             PreparedReport::Text(text) => Ok(text),
+            PreparedReport::Texts(texts) => text_of(alloc, texts),
             PreparedReport::Sets(sets, mut lines) => {
                 let mut sink = MemSink::unbounded(alloc);
                 match lines.write(rt, &sets, &mut sink) {
@@ -104,16 +108,17 @@ impl PreparedReport {
     }
 }
 
-/// Writes all bytes and flushes. If the sink fails, it has taken a prefix of them, and all of them
-/// if only the flush failed.
-fn write_all<W: Sink>(writer: &mut W, bytes: &[u8]) -> Result<(), Failed>
-    requires { W.has_failed writer.old ≡ false }
-    ensures ok { OnOk result (Appends (W.taken writer.old) (W.taken writer.new) bytes.now) }
-    ensures err { OnErr result (TakesFront (W.taken writer.old) (W.taken writer.new) bytes.now) }
-    ensures whole { W.ends_in_flush writer.new ≡ true → Appends (W.taken writer.old) (W.taken writer.new) bytes.now }
-    ensures flushed { OnOk result (W.ends_in_flush writer.new ≡ true) }
-    ensures failed { (W.has_failed writer.new ≡ false) ↔ IsOk result }
+/// The texts as one. If there is only one, it is not copied.
+fn text_of(alloc: Global, texts: Vec<Vec<u8>>) -> Result<Vec<u8>, AllocError>
+    ensures { IfOk result (λ all. all.items ≡ joined texts.items) }
 {
-    write_bytes(writer, bytes)?;
-    writer.flush()
+    let mut all = Vec::new(alloc);
+    for mut text in texts {
+        if all.is_empty() {
+            all = text;
+        } else {
+            all.append(&mut text)?;
+        }
+    }
+    Ok(all)
 }

@@ -1,7 +1,10 @@
 -- The lines of the rules of a listing, union after union.
-use Rattle.std.proofs.Common.{◌≡◌, ◌∙◌, ◌+◌, ◌<◌, ◌≤◌, ◌++◌, ℕ, List, [], ◌∷◌, get_or, length, take, refl, ap, subst, sym}
+use Rattle.std.proofs.Common.{◌≡◌, ◌∙◌, Result, Ok, suc, arith, map, ◌+◌, ◌<◌, ◌≤◌, ◌++◌, ℕ, List, [], ◌∷◌, get_or, length, take, refl, ap, subst, sym}
+use Rattle.std.specs.Prelude.{IfOk, Vec}
+use Rattle.std.specs.declared.alloc.AllocError.{AllocError}
+use Rattle.std.specs.Global.{Global}
 use Rattle.std.specs.List.{flat_map}
-use Rattle.std.proofs.lemmas.List.{append-nil, get_or-map, take_all, take_more}
+use Rattle.std.proofs.lemmas.List.{append-nil, append_assoc, get_or-map, length-map, take_all, take_more}
 use Rattle.std.proofs.lemmas.List.Concat.{flat_map-append}
 use Rattle.basket_core.specs.Listing.{Listing}
 use Rattle.basket_sets.specs.declared.counted.Counted.{Counted}
@@ -11,31 +14,59 @@ use Rattle.basket_rules.specs.Listed.{set_at}
 use Rattle.basket_rules.specs.Rules.{rules_among, rules_among_with}
 use Rattle.basket_rules.proofs.theory.Consistency.{frequent_is_consistent}
 use Rattle.basket_rules.proofs.theory.Rules.{rules_of_baskets}
+use Rattle.basket_report.specs.Bytes.{joined}
 use Rattle.basket_report.specs.Report.{rule_text, rules_report_of}
-use Rattle.basket_report.specs.Rules.{ReportsRules}
+use Rattle.basket_report.specs.Rules.{ReportsRules, ReportsUnions, first_rules}
 use Rattle.basket_report.specs.Style.{Wording}
 
 none : Counted
 none = record { set = []; count = 0 }
 
-module _ (wording : Wording) (listing : Listing) (confidence : ℕ × ℕ) where
-  -- the text is that of the rules of so many unions
-  abbrev pub ReportsUpTo : ℕ → List ℕ → Type 0
-  ReportsUpTo number text = IsConsistent listing.sets → text ≡ rules_report_of wording (flat_map (λ c. rules_among_with listing confidence c.set) (take number listing.sets))
+abbrev the_made : Vec ℕ Global → Result (Vec ℕ Global) AllocError
+the_made = Ok
 
-  pub more_rules : (number : ℕ) (text : List ℕ) (more : List Rule) → number < length listing.sets → ReportsUpTo number text
-      → (IsConsistent listing.sets → more ≡ rules_among_with listing confidence (set_at listing.sets number)) → ReportsUpTo (number + 1) (text ++ rules_report_of wording more)
-  more_rules number text more below so new consistent =
+pub length_made : (texts : List (Vec ℕ Global)) (made : List (Result (Vec ℕ Global) AllocError)) → map Ok texts ≡ made → length texts ≡ length made
+length_made texts made same = sym (length-map texts the_made) ∙ ap length same
+
+module _ (wording : Wording) (listing : Listing) (confidence : ℕ × ℕ) where
+  abbrev Reports : ℕ → ℕ → List ℕ → Type 0
+  Reports = ReportsUnions wording listing confidence
+
+  pub no_rules : (from : ℕ) → Reports from from []
+  no_rules from consistent = append-nil (first_rules wording listing confidence from)
+
+  pub more_rules : (from number : ℕ) (text : List ℕ) (more : List Rule) → number < length listing.sets → Reports from number text
+      → (IsConsistent listing.sets → more ≡ rules_among_with listing confidence (set_at listing.sets number)) → Reports from (number + 1) (text ++ rules_report_of wording more)
+  more_rules from number text more below so new consistent =
       let f = λ (c : Counted). rules_among_with listing confidence c.set in
       let before = flat_map f (take number listing.sets) in
       let set = get_or listing.sets number none in
       let here : more ≡ f set = new consistent ∙ ap (rules_among_with listing confidence) (get_or-map (λ (c : Counted). c.set) listing.sets number none [] below) in
-      (λ i. so consistent i ++ rules_report_of wording (here i))
+      sym (append_assoc (first_rules wording listing confidence from) text (rules_report_of wording more))
+      ∙ (λ i. so consistent i ++ rules_report_of wording (here i))
       ∙ sym (flat_map-append (rule_text wording) before (f set))
       ∙ ap (λ rules. rules_report_of wording (before ++ rules)) (sym (append-nil (f set)))
       ∙ ap (rules_report_of wording) (sym (flat_map-append f (take number listing.sets) (set ∷ [])) ∙ ap (flat_map f) (sym (take_more listing.sets number none below)))
 
-  pub all_rules : (number : ℕ) (text : List ℕ) → length listing.sets ≤ number → ReportsUpTo number text → IsConsistent listing.sets → text ≡ rules_report_of wording (rules_among listing confidence)
+  both : (from middle to : ℕ) (front rest : List ℕ) → Reports from middle front → Reports middle to rest → Reports from to (front ++ rest)
+  both from middle to front rest before behind consistent =
+      sym (append_assoc (first_rules wording listing confidence from) front rest) ∙ ap (λ text. text ++ rest) (before consistent) ∙ behind consistent
+
+  -- texts of unions and of those behind them
+  pub both_texts : (from middle to : ℕ) (front rest : List (Vec ℕ Global)) → Reports from middle (joined front) → Reports middle to (joined rest) → Reports from to (joined (front ++ rest))
+  both_texts from middle to front rest before behind =
+      subst (Reports from to) (sym (flat_map-append (λ (text : Vec ℕ Global). text.items) front rest)) (both from middle to (joined front) (joined rest) before behind)
+
+  -- the texts between cuts
+  pub cut_texts : (cut : ℕ → ℕ) (texts : List (Vec ℕ Global))
+      → ((i : ℕ) (made : Result (Vec ℕ Global) AllocError) → i < length texts → IfOk (get_or (map Ok texts) i made) (λ text. Reports (cut i) (cut (suc i)) text.items))
+      → Reports (cut 0) (cut (length texts)) (joined texts)
+  cut_texts cut [] each = no_rules (cut 0)
+  cut_texts cut (text ∷ texts) each =
+      both (cut 0) (cut 1) (cut (suc (length texts))) text.items (joined texts) (each 0 (Ok text) (omega arith))
+      (cut_texts (λ i. cut (suc i)) texts (λ i made below. each (suc i) made (omega (arith, below))))
+
+  pub all_rules : (number : ℕ) (text : List ℕ) → length listing.sets ≤ number → Reports 0 number text → IsConsistent listing.sets → text ≡ rules_report_of wording (rules_among listing confidence)
   all_rules number text whole so consistent =
       so consistent ∙ ap (λ sets. rules_report_of wording (flat_map (λ (c : Counted). rules_among_with listing confidence c.set) sets)) (take_all number listing.sets whole)
 

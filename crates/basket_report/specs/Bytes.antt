@@ -1,6 +1,12 @@
 -- Bytes that are written.
-use Rattle.std.specs.Prelude.{◌≡◌, ◌≤◌, ℕ, Bool, true, false, List, Option, length, take}
+use Rattle.std.specs.Prelude.{◌≡◌, ◌≤◌, ℕ, Bool, true, false, List, Option, Vec, length, take}
+use Rattle.std.specs.Global.{Global}
 use Rattle.std.specs.Io.KnownBytes.{Appends}
+use Rattle.std.specs.List.{flat_map}
+
+-- the bytes of texts, one after another
+abbrev pub joined : List (Vec ℕ Global) → List ℕ
+joined texts = flat_map (λ text. text.items) texts
 
 -- the writer took a prefix of the text, which may be all of it
 abbrev pub TakesFront : Option (List ℕ) → Option (List ℕ) → List ℕ → Type 0

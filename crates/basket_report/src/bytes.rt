@@ -1,7 +1,7 @@
 //! Bytes that are written.
-ghost use Rattle.std.specs.Prelude.{◌≡◌, ◌↔◌, ◌++◌, ℕ, List, Option, false, IsOk, OnErr, OnOk};
+ghost use Rattle.std.specs.Prelude.{◌≡◌, ◌↔◌, ◌++◌, ℕ, List, Option, true, false, IsOk, OnErr, OnOk};
 ghost use Rattle.std.specs.Io.KnownBytes.{Appends};
-ghost use Rattle.basket_report.specs.Bytes.{IsWritten, TakesFront};
+ghost use Rattle.basket_report.specs.Bytes.{IsWritten, TakesFront, joined};
 
 use basket_core::{Failed, Sink};
 
@@ -33,4 +33,23 @@ pub fn write_bytes<W: Sink>(writer: &mut W, bytes: &[u8]) -> Result<(), Failed>
         written += count;
     }
     Ok(())
+}
+
+/// Writes all texts, one after another, and flushes. If the sink fails, it has taken a prefix of
+/// them, and all of them if only the flush failed.
+pub fn write_texts<W: Sink>(writer: &mut W, texts: &[Vec<u8>]) -> Result<(), Failed>
+    requires { W.has_failed writer.old ≡ false }
+    ensures ok { OnOk result (Appends (W.taken writer.old) (W.taken writer.new) (joined texts.now)) }
+    ensures err { OnErr result (TakesFront (W.taken writer.old) (W.taken writer.new) (joined texts.now)) }
+    ensures whole { W.ends_in_flush writer.new ≡ true → Appends (W.taken writer.old) (W.taken writer.new) (joined texts.now) }
+    ensures flushed { OnOk result (W.ends_in_flush writer.new ≡ true) }
+    ensures failed { (W.has_failed writer.new ≡ false) ↔ IsOk result }
+{
+    for text in texts {
+        send_bytes(writer, text);
+    }
+    if writer.failed() {
+        return Err(Failed);
+    }
+    writer.flush()
 }

@@ -6,6 +6,7 @@ ghost use Rattle.basket_report.specs.Style.{wording_of};
 
 use crate::report::Report;
 use crate::style::Style;
+use crate::texts::Texts;
 use basket_core::Minimum;
 use std::alloc::{AllocError, Global};
 
@@ -19,7 +20,8 @@ pub fn items_report(
 ) -> Result<Vec<u8>, AllocError>
     ensures { IfOk result (λ report. report.items ≡ report_of (wording_of style.entry) (items_met counts.now minimum total)) }
 {
-    let mut report = Report::new(alloc, style)?;
+    let texts = Texts::below(alloc, 0)?;
+    let mut report = Report::new(alloc, style, &texts);
     for (item, support) in counts {
         if minimum.met(*support, total) {
             report.put_set(&[*item], *support)?;

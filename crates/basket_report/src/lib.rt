@@ -19,7 +19,7 @@ mod style;
 mod table;
 mod texts;
 
-pub use bytes::write_bytes;
+pub use bytes::{write_bytes, write_texts};
 pub use items::items_report;
 pub use rules::rules_report;
 pub use set_lines::SetLines;

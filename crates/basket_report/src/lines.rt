@@ -5,25 +5,23 @@ ghost use Rattle.basket_report.specs.Report.{set_of};
 ghost use Rattle.basket_rules.specs.Confident.{confidence_of, lift_of, rule_from};
 
 use crate::count_text::CountText;
-use crate::extent::Extent;
 use crate::ratios::Ratios;
 use crate::texts::{Texts, put_front};
-use basket_core::CountedSets;
 use basket_rules::{RuleCounts, Sides};
 use std::alloc::{AllocError, Global};
 use std::marker::Model;
 
 /// Lines so far. If one can't be added, all are lost.
 #[derive(Debug, Drop)]
-pub struct Lines {
-    texts: Texts,
+pub struct Lines<'a> {
+    texts: &'a Texts,
     /// The count of the last set or rule.
     count: CountText,
     ratios: Ratios,
     text: Vec<u8>,
 }
 
-impl Model for Lines {
+impl<'a> Model for Lines<'a> {
     ghost use Rattle.std.specs.Prelude.{ℕ, List};
 
     ghost Value = { List ℕ };
@@ -31,29 +29,26 @@ impl Model for Lines {
     ghost view = { λ lines. lines.text.items };
 }
 
-impl Lines {
+impl<'a> Lines<'a> {
     /// No lines.
-    pub fn new(alloc: Global) -> Result<Self, AllocError>
-        ensures { IfOk result (λ lines. lines ≡ []) }
+    pub fn new(alloc: Global, texts: &'a Texts) -> Self
+        ensures { result ≡ [] }
     {
-        Ok(Lines {
-            texts: Texts::below(alloc, 0)?,
+        Lines {
+            texts,
             count: CountText::new(0),
             ratios: Ratios::none(alloc),
             text: Vec::new(alloc),
-        })
+        }
     }
 
-    /// No lines, for rules between the sets.
-    pub fn for_rules(alloc: Global, sets: &CountedSets) -> Result<Self, AllocError>
+    /// No lines, for those of rules.
+    pub fn for_rules(alloc: Global, texts: &'a Texts) -> Result<Self, AllocError>
         ensures { IfOk result (λ lines. lines ≡ []) }
     {
-        Ok(Lines {
-            texts: Extent::of(sets).texts(alloc)?,
-            count: CountText::new(0),
-            ratios: Ratios::new(alloc)?,
-            text: Vec::new(alloc),
-        })
+        let mut lines = Lines::new(alloc, texts);
+        lines.ratios = Ratios::new(alloc)?;
+        Ok(lines)
     }
 
     /// Adds the line of a set with its count.
@@ -61,7 +56,7 @@ impl Lines {
         ensures { OnOk result (self.new ≡ self.old ++ set_line (set_of items.now count)) }
     {
         self.count.set(count);
-        put_items(&mut self.text, &self.texts, items)?;
+        put_items(&mut self.text, self.texts, items)?;
         put_count(&mut self.text, &self.count)?;
         self.text.push(b'\n')?;
         Ok(())
@@ -72,14 +67,14 @@ impl Lines {
         ensures { OnOk result (self.new ≡ self.old ++ rule_line (rule_from sides.now counts.now)) }
     {
         self.count.set(counts.count);
-        put_sides(&mut self.text, &self.texts, sides)?;
+        put_sides(&mut self.text, self.texts, sides)?;
         put_count(&mut self.text, &self.count)?;
         put_ratios(&mut self.text, &mut self.ratios, counts)
     }
 
     /// The text of all lines.
     pub fn into_text(self) -> Vec<u8>
-        ensures { result.items ≡ self }
+        ensures { result.items ≡ self.entry }
     {
         let Lines { text, .. } = self;
         text

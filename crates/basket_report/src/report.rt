@@ -7,38 +7,35 @@ ghost use Rattle.basket_report.specs.Style.{Wording, wording_of};
 use crate::lines::Lines;
 use crate::style::Style;
 use crate::table::Table;
-use basket_core::{CountedSets, Frequent};
+use crate::texts::Texts;
+use basket_core::Frequent;
 use basket_rules::{ConfidentRule, Lookups, RuleCounts, Sides};
 use std::alloc::{AllocError, Global};
 
 /// A report so far. If something can't be added to it, all of it is lost.
 #[derive(Drop)]
 pub enum Report<'a> {
-    Lines(Lines),
+    Lines(Lines<'a>),
     Table(Table<'a>),
 }
 
 impl<'a> Report<'a> {
     /// An empty report.
-    pub fn new(alloc: Global, style: Style<'a>) -> Result<Self, AllocError>
-        ensures { IfOk result (λ report. HasSoFar report (wording_of style.entry) []) }
+    pub fn new(alloc: Global, style: Style<'a>, texts: &'a Texts) -> Self
+        ensures { HasSoFar result (wording_of style.entry) [] }
     {
-        Ok(match style {
-            Style::Numbers => Report::Lines(Lines::new(alloc)?),
+        match style {
+            Style::Numbers => Report::Lines(Lines::new(alloc, texts)),
             Style::Names { names, separator } => Report::Table(Table::new(alloc, names, separator)),
-        })
+        }
     }
 
-    /// An empty report, for rules between the sets.
-    pub fn for_rules(
-        alloc: Global,
-        style: Style<'a>,
-        sets: &CountedSets,
-    ) -> Result<Self, AllocError>
+    /// An empty report, for rules.
+    pub fn for_rules(alloc: Global, style: Style<'a>, texts: &'a Texts) -> Result<Self, AllocError>
         ensures { IfOk result (λ report. HasSoFar report (wording_of style.entry) []) }
     {
         match style {
-            Style::Numbers => Ok(Report::Lines(Lines::for_rules(alloc, sets)?)),
+            Style::Numbers => Ok(Report::Lines(Lines::for_rules(alloc, texts)?)),
             Style::Names { names, separator } => Ok(Report::Table(Table::for_rules(
                 alloc, names, separator,
             )?)),
@@ -73,7 +70,7 @@ impl<'a> Report<'a> {
         frequent: &Frequent,
         number: usize,
         met: &[ConfidentRule],
-        lookups: &mut Lookups,
+        lookups: &mut Lookups<'_>,
     ) -> Result<(), AllocError>
         requires { number < length frequent.now.sets }
         ensures { (wording : Wording) (text : List ℕ) → HasSoFar self.old wording text

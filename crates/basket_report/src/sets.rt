@@ -5,6 +5,7 @@ ghost use Rattle.basket_report.specs.Style.{wording_of};
 
 use crate::report::Report;
 use crate::style::Style;
+use crate::texts::Texts;
 use basket_core::{CountedSets, MOST_ITEMS};
 use std::alloc::{AllocError, Global};
 
@@ -16,7 +17,8 @@ pub fn sets_report(
 ) -> Result<Vec<u8>, AllocError>
     ensures { IfOk result (λ report. report.items ≡ report_of (wording_of style.entry) sets.now) }
 {
-    let mut report = Report::new(alloc, style)?;
+    let texts = Texts::below(alloc, 0)?;
+    let mut report = Report::new(alloc, style, &texts);
     let mut room = [0u32; MOST_ITEMS];
     for place in 0..sets.len() {
         report.put_set(sets.items(place, &mut room), sets.count(place))?;

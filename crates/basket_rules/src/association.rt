@@ -10,10 +10,11 @@ ghost use Rattle.basket_rules.specs.Rules.{KeepsConfident, AreRules, AreRulesWit
 use crate::confident::ConfidentRule;
 use crate::consequents::{Consequent, MOST_PLACES, Sides, longer_consequents};
 use crate::listed::items_at;
-use crate::lookups::Lookups;
+use crate::lookups::{Lookups, places_of};
 use crate::rule_counts::RuleCounts;
 use crate::wanted::Wanted;
 use basket_core::{Fraction, Frequent, Itemset, MOST_ITEMS, Share};
+use basket_order::Places;
 use std::alloc::{AllocError, Global};
 
 /// The rules of a union of up to this many items have room before they are made.
@@ -40,7 +41,8 @@ pub fn rules(alloc: Global, frequent: &Frequent, confidence: Share) -> Result<Ve
     ensures lists { IfOk result (λ rules. IsConsistent frequent.now.sets → rules.items ≡ rules_among frequent.now confidence) }
 {
     let sets = frequent.sets();
-    let mut lookups = Lookups::of(alloc, sets)?;
+    let places = places_of(alloc, sets)?;
+    let mut lookups = Lookups::new(alloc, &places);
     let mut rules = Vec::new(alloc);
     for number in 0..sets.len() {
         let met = met_rules(alloc, frequent, number, confidence, &mut lookups)?;
@@ -60,7 +62,8 @@ pub fn rules_with(
     ensures baskets { IfOk result (λ rules. AreRulesWith frequent.now confidence number rules.items) }
     ensures lists { IfOk result (λ rules. IsConsistent frequent.now.sets → rules.items ≡ rules_among_with frequent.now confidence (set_at frequent.now.sets number)) }
 {
-    let mut lookups = Lookups::none(alloc);
+    let places = Places::none(alloc);
+    let mut lookups = Lookups::new(alloc, &places);
     let met = met_rules(alloc, frequent, number, confidence, &mut lookups)?;
     let mut rules = Vec::with_capacity(alloc, met.len())?;
     add_rules(alloc, frequent, number, &met, &mut lookups, &mut rules)?;
@@ -73,7 +76,7 @@ fn add_rules(
     frequent: &Frequent,
     number: usize,
     met: &[ConfidentRule],
-    lookups: &mut Lookups,
+    lookups: &mut Lookups<'_>,
     rules: &mut Vec<Rule>,
 ) -> Result<(), AllocError>
     requires { number < length frequent.now.sets }
@@ -109,7 +112,7 @@ pub fn met_rules(
     frequent: &Frequent,
     number: usize,
     confidence: Share,
-    lookups: &mut Lookups,
+    lookups: &mut Lookups<'_>,
 ) -> Result<Vec<ConfidentRule>, AllocError>
     requires { number < length frequent.now.sets }
     ensures baskets { IfOk result (λ rules. AreRulesWith frequent.now confidence number (rules_in frequent.now number rules.items)) }
@@ -152,7 +155,7 @@ fn keep_confident(
     alloc: Global,
     wanted: &Wanted<'_>,
     tried: &[Consequent],
-    lookups: &mut Lookups,
+    lookups: &mut Lookups<'_>,
     rules: &mut Vec<ConfidentRule>,
 ) -> Result<Vec<Consequent>, AllocError>
     ensures { IfOk result (λ met. KeepsConfident wanted.now.frequent.now wanted.now.confidence wanted.now.number tried.now met.items
@@ -174,7 +177,7 @@ fn rule_for(
     wanted: &Wanted<'_>,
     consequent: Consequent,
     whole: u64,
-    lookups: &mut Lookups,
+    lookups: &mut Lookups<'_>,
 ) -> Result<Option<ConfidentRule>, AllocError>
     ensures { IfOk result (λ found. IsRuleFor wanted.now.frequent.now wanted.now.confidence wanted.now.number (side_of (set_at wanted.now.frequent.now.sets wanted.now.number) consequent) (found_rule wanted.now.frequent.now wanted.now.number found)) }
 {

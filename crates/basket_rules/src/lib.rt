@@ -20,5 +20,5 @@ pub use association::{Rule, met_rules, rules, rules_with};
 pub use condensed::{closed, maximal};
 pub use confident::ConfidentRule;
 pub use consequents::Sides;
-pub use lookups::Lookups;
+pub use lookups::{Lookups, places_of};
 pub use rule_counts::RuleCounts;

@@ -12,11 +12,11 @@ use basket_core::{CountedSets, Frequent, MOST_ITEMS};
 use basket_order::{Places, items_hash};
 use std::alloc::{AllocError, Global};
 
-/// What is kept from union to union while the rules of a list are made: places of its sets by
-/// hashes, and room that is used again. No rule depends on it.
+/// What a thread keeps from union to union while it makes the rules of a list: places of its sets by
+/// hashes, which threads share, and room that is used again. No rule depends on it.
 #[derive(Debug, Drop)]
-pub struct Lookups {
-    pub(crate) places: Places,
+pub struct Lookups<'a> {
+    pub(crate) places: &'a Places,
     /// The items of the set that was looked at last, if it is kept as a word.
     pub(crate) room: [u32; MOST_ITEMS],
     /// The hashes of the items of the last union.
@@ -25,26 +25,25 @@ pub struct Lookups {
     pub sides: Sides,
 }
 
-impl Lookups {
-    /// Nothing is kept, and nothing is allocated.
-    pub fn none(alloc: Global) -> Self {
+/// The places of the sets of a list by their hashes.
+pub fn places_of(alloc: Global, sets: &CountedSets) -> Result<Places, AllocError> {
+    let mut places = Places::with_room(alloc, sets.len())?;
+    let mut room = [0; MOST_ITEMS];
+    for place in 0..sets.len() {
+        places.keep(items_hash(items_at(sets, place, &mut room)), place);
+    }
+    Ok(places)
+}
+
+impl<'a> Lookups<'a> {
+    /// Nothing is allocated.
+    pub fn new(alloc: Global, places: &'a Places) -> Self {
         Lookups {
-            places: Places::none(alloc),
+            places,
             room: [0; MOST_ITEMS],
             hashes: ItemHashes::none(alloc),
             sides: Sides::new(alloc),
         }
-    }
-
-    /// The look-ups for the sets of a list, each of which is kept.
-    pub fn of(alloc: Global, sets: &CountedSets) -> Result<Self, AllocError> {
-        let mut lookups = Lookups::none(alloc);
-        lookups.places = Places::with_room(alloc, sets.len())?;
-        for place in 0..sets.len() {
-            let items = items_at(sets, place, &mut lookups.room);
-            lookups.places.keep(items_hash(items), place);
-        }
-        Ok(lookups)
     }
 
     /// Puts the items of both sides of a rule of the set at the place into `sides`, and returns its

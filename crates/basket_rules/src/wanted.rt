@@ -28,12 +28,17 @@ pub struct Wanted<'a> {
 impl Wanted<'_> {
     /// The count of the set with the items of the union at the places of a word, or 0 if the list
     /// doesn't have it. The items are put together only if it isn't found by its hash.
-    pub fn count_of(&self, places: u64, hash: u64, lookups: &mut Lookups) -> Result<u64, AllocError>
+    pub fn count_of(
+        &self,
+        places: u64,
+        hash: u64,
+        lookups: &mut Lookups<'_>,
+    ) -> Result<u64, AllocError>
         ensures { IfOk result (λ count. IsCountIn self.now.frequent.now.sets (chosen (has_place places) (set_at self.now.frequent.now.sets self.now.number)) count) }
     {
         let sets = self.frequent.sets();
         let room = &mut lookups.room;
-        if let Some(place) = place_of(sets, self.items, places, hash, &lookups.places, room) {
+        if let Some(place) = place_of(sets, self.items, places, hash, lookups.places, room) {
             return Ok(sets.count(place));
         }
         lookups.sides.fill(self.items, places)?;
