@@ -1,7 +1,7 @@
 -- What a read of blocks answers.
 use Rattle.std.proofs.Common.{◌≡◌, ◌≢◌, ◌≤◌, ℕ, Bool, true, false, List, [], ◌∷◌, ◌++◌, cond, Option, Some, None, Result, Ok, Err, append-nil, refl, sym, ap, ◌∙◌, subst, append_assoc, leb, ltb, take, length}
 use Rattle.std.proofs.lemmas.Bool.{leb-true}
-use Rattle.std.specs.Prelude.{IfErr, IfOk, IfSome, IsErr, OnErr, unwrap_or}
+use Rattle.std.specs.Prelude.{IfErr, IfOk, IfSome, IsErr, unwrap_or}
 use Rattle.std.specs.Io.KnownBytes.{Consumes, IsAtEnd, Keeps}
 use Rattle.basket_sets.specs.declared.weighted.Weighted.{Weighted}
 use Rattle.basket_sets.specs.Number.{is_digit}
@@ -11,7 +11,7 @@ use Rattle.basket_read.specs.declared.fault.ReadFault.{ReadFault}
 use Rattle.basket_read.specs.declared.fault.ReadFault.TheVariants.{Memory, Read, TooLong, Byte, Number, Heavy}
 use Rattle.basket_read.specs.Fimi.{is_good, line_after, fault_after, first_fault, or_else, fault_in, text_of, settled_fault, baskets_of, answer_of, fimi_of, MOST_BYTES}
 use Rattle.basket_read.specs.ItemCounts.{AreLightCounts, Counts}
-use Rattle.basket_read.specs.Read.{CountsAs, FailsAfter, Fills, Reads, ReadsAs, Stops}
+use Rattle.basket_read.specs.Read.{CountsAs, FailsAfter, Reads, ReadsAs, Stops}
 use Rattle.basket_read.specs.Text.{Answers, CountsBehind, GoesOn, Tells}
 use Rattle.basket_read.specs.declared.item_counts.ItemCounts.{ItemCounts}
 use Rattle.basket_read.proofs.InputLemmas.{settled_stays, fault-settled}
@@ -109,27 +109,14 @@ unlike false e t = absurd cc
 pub told_fault : (given : List ℕ) (fault : ReadFault) → Tells fault (settled_fault given) → fault ≢ Memory → fault ≡ unwrap_or (fault_in given) Read
 told_fault given fault told no_memory = ap (λ f. unwrap_or f Read) (sym (fault-settled given fault (told no_memory)))
 
--- at a fault in the bytes that a reader gave, whether it failed behind them or not, and perhaps gave more before it failed
-pub stops_before : (old now new : Option (List ℕ)) (failed : Bool) (given : List ℕ) (fault : ReadFault) → Consumes old now given → Tells fault (settled_fault given)
-    → (failed ≡ true → (more : List ℕ) × Consumes now new more) → Stops old new failed fault
-stops_before old now new failed given fault p told gave = record {
-  exact = λ _. refused_answer old now given fault p told;
-  fails = λ broken.
-      let more = gave broken in
-      fails_after old new new (given ++ more.0) fault (consumes_more old now new given more.0 p more.1) (keeps_all new)
-      (told_fault (given ++ more.0) fault (λ no_memory. settled_stays given more.0 fault (told no_memory)));
-  read_is_failed = λ e. absurd (not_settled given (subst (λ f. Tells f (settled_fault given)) e told (λ m. absurd cc)));
-}
-
+-- at a fault in the bytes that a reader gave, whether it failed behind them or not
 pub stops_fault : (old new : Option (List ℕ)) (failed : Bool) (given : List ℕ) (fault : ReadFault) → Consumes old new given → Tells fault (settled_fault given)
     → Stops old new failed fault
-stops_fault old new failed given fault p told = stops_before old new new failed given fault p told (λ _. ([], consumes_none new))
-
--- what a reader gave until it failed, if it did
-pub gave_until : {E : Type 0} (filled : Result ℕ E) (most : ℕ) (now new : Option (List ℕ)) (failed : Bool) (items : List ℕ) → IfOk filled (Fills most now new failed items) → OnErr filled (failed ≡ false)
-    → failed ≡ true → (more : List ℕ) × Consumes now new more
-gave_until (Ok count) most now new failed items fills memory broken = (take count items, fills.given)
-gave_until (Err error) most now new failed items fills memory broken = unlike failed memory broken
+stops_fault old new failed given fault p told = record {
+  exact = λ _. refused_answer old new given fault p told;
+  fails = λ _. fails_after old new new given fault p (keeps_all new) (told_fault given fault told);
+  read_is_failed = λ e. absurd (not_settled given (subst (λ f. Tells f (settled_fault given)) e told (λ m. absurd cc)));
+}
 
 -- where the reader failed behind the bytes that it gave
 pub stops_failed : (old now new : Option (List ℕ)) (failed : Bool) (given : List ℕ) (fault : ReadFault) → failed ≡ true → Consumes old now given → Keeps now new

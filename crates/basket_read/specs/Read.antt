@@ -1,6 +1,6 @@
 -- What reading returns, by the bytes that the reader had and has left, and by whether it failed.
-use Rattle.std.specs.Prelude.{◌≡◌, ◌≢◌, ◌<◌, ◌≤◌, ℕ, Bool, true, false, List, [], ◌++◌, length, take, Option, Some, Result, Ok, Err, IfErr, IfOk, IfSome, IsErr, MatchResult, unwrap_or}
-use Rattle.std.specs.Io.KnownBytes.{Consumes, IsAtEnd}
+use Rattle.std.specs.Prelude.{◌≡◌, ◌≢◌, ℕ, Bool, true, false, List, [], ◌++◌, Option, Some, Result, Ok, Err, IfErr, IfOk, IfSome, IsErr, MatchResult, unwrap_or}
+use Rattle.std.specs.Io.KnownBytes.{Consumes}
 use Rattle.basket_sets.specs.declared.weighted.Weighted.{Weighted}
 use Rattle.basket_sets.specs.ItemTable.{HasCounted}
 use Rattle.basket_read.specs.declared.fault.ReadFault.{ReadFault}
@@ -52,10 +52,3 @@ pub record Stops (old new : Option (List ℕ)) (failed : Bool) (fault : ReadFaul
 
 abbrev pub Reads : Bool → Option (List ℕ) → Option (List ℕ) → Bool → Result ItemCounts ReadFault → Type 0
 Reads counting old new failed answer = MatchResult answer (Ends counting old failed) (Stops old new failed)
-
--- a buffer begins with what a reader gave: so many bytes of at most this many, fewer only if the reader ended or failed
-pub record Fills (most : ℕ) (old new : Option (List ℕ)) (failed : Bool) (items : List ℕ) (count : ℕ) : Type 0 where
-  pub within : count ≤ length items
-  pub given : Consumes old new (take count items)
-  pub full : most ≤ count → failed ≡ false
-  pub ended : failed ≡ false → count < most → IsAtEnd new

@@ -1,11 +1,8 @@
 //! Reading a FIMI input by several workers.
-ghost use Rattle.std.specs.Prelude.{◌≡◌, ◌<◌, ◌^◌, ◌++◌, ℕ, List, false, IfOk, MatchResult, OnErr};
-ghost use Rattle.std.specs.Thread.{IsSync};
-ghost use Rattle.basket_sets.specs.declared.weighted.Weighted.{Weighted};
-ghost use Rattle.basket_read.specs.Fimi.{fimi_of, settled_fault};
-ghost use Rattle.basket_read.specs.Input.{IsInputSoFar, IsSomeInput};
-ghost use Rattle.basket_read.specs.Read.{CountsAs, Fills, Reads, ReadsAs};
-ghost use Rattle.basket_read.specs.Text.{GoesOn, Tells};
+ghost use Rattle.std.specs.Prelude.{◌≡◌, ◌<◌, ◌≤◌, ◌^◌, false, length, take, IfOk, OnErr};
+ghost use Rattle.std.specs.Io.KnownBytes.{Consumes, IsAtEnd};
+ghost use Rattle.basket_read.specs.Fimi.{fimi_of};
+ghost use Rattle.basket_read.specs.Read.{CountsAs, Reads, ReadsAs};
 
 use crate::fault::ReadFault;
 use crate::input::Input;
@@ -14,8 +11,7 @@ use crate::read::{BLOCK, count_fimi, read_fimi};
 use basket_sets::Database;
 use basket_stream::Source;
 use std::alloc::{AllocError, Global};
-use std::mem;
-use std::thread::{Threads, join_mut};
+use std::thread::Threads;
 
 /// How many bytes a batch has if its baskets are kept, since they take more than their text.
 const BATCH: usize = 2_097_152;
@@ -23,16 +19,6 @@ const BATCH: usize = 2_097_152;
 /// How many bytes a batch has if its baskets are counted, since each batch has a table for each
 /// worker.
 const COUNTING_BATCH: usize = 8_388_608;
-
-/// How an input is read by several workers.
-#[derive(Clone, Copy)]
-struct Batches {
-    /// How many bytes a batch has.
-    most: usize,
-    workers: u32,
-    /// Whether the baskets of a batch are counted.
-    counting: bool,
-}
 
 /// Reads a FIMI input to its end, as `read_fimi` does, by this many workers.
 pub fn read_fimi_shared<R: Threads + Sync, S: Source>(
@@ -47,12 +33,7 @@ pub fn read_fimi_shared<R: Threads + Sync, S: Source>(
     if workers < 2 {
         return read_fimi(alloc, reader);
     }
-    let batches = Batches {
-        most: BATCH,
-        workers,
-        counting: false,
-    };
-    read_batches(rt, alloc, reader, batches).map(ItemCounts::into_rest)
+    read_batches(rt, alloc, reader, BATCH, workers, false).map(ItemCounts::into_rest)
 }
 
 /// Reads a FIMI input to its end and counts its items, as `count_fimi` does, by this many workers.
@@ -68,78 +49,35 @@ pub fn count_fimi_shared<R: Threads + Sync, S: Source>(
     if workers < 2 {
         return count_fimi(alloc, reader);
     }
-    let batches = Batches {
-        most: COUNTING_BATCH,
-        workers,
-        counting: true,
-    };
-    read_batches(rt, alloc, reader, batches)
+    read_batches(rt, alloc, reader, COUNTING_BATCH, workers, true)
 }
 
-/// Reads an input to its end in batches. While the workers take a batch, this thread reads the next.
+/// Reads an input to its end in batches of this many bytes, whose baskets may be counted.
 fn read_batches<R: Threads + Sync, S: Source>(
     rt: &R,
     alloc: Global,
     reader: &mut S,
-    batches: Batches,
+    most: usize,
+    workers: u32,
+    counting: bool,
 ) -> Result<ItemCounts, ReadFault>
     requires fresh { S.has_failed reader.old ≡ false }
-    requires some { 0 < batches.most }
-    requires few { batches.most < 2 ^ 32 }
-    ensures { Reads batches.counting (S.left reader.old) (S.left reader.new) (S.has_failed reader.new) result }
+    requires some { 0 < most }
+    requires few { most < 2 ^ 32 }
+    ensures { Reads counting (S.left reader.old) (S.left reader.new) (S.has_failed reader.new) result }
 {
-    let mut batch = Vec::new(alloc);
-    let mut next = Vec::new(alloc);
+    let mut buffer = Vec::new(alloc);
     let mut input = Input::new(alloc);
-    let mut count = fill(reader, &mut batch, batches.most)?;
-    'reading: while count >= batches.most {
-        let (taken, filled) = take_beside(
-            rt,
-            batches,
-            &mut input,
-            &batch[..count],
-            reader,
-            &mut next,
-        );
-        taken?;
-        count = filled?;
-        mem::swap(&mut batch, &mut next);
+    'reading: loop {
+        let count = fill(reader, &mut buffer, most)?;
+        input.take_shared(rt, &buffer[..count], workers, counting)?;
+        if reader.failed() {
+            return Err(input.fault_so_far().unwrap_or(ReadFault::Read));
+        }
+        if count < most {
+            return input.finish();
+        }
     }
-    input.take_shared(rt, &batch[..count], batches.workers, batches.counting)?;
-    if reader.failed() {
-        return Err(input.fault_so_far().unwrap_or(ReadFault::Read));
-    }
-    input.finish()
-}
-
-/// Takes a batch by the workers, while this thread fills the buffer with the next.
-fn take_beside<R: Threads + Sync, S: Source>(
-    rt: &R,
-    batches: Batches,
-    input: &mut Input,
-    batch: &[u8],
-    reader: &mut S,
-    next: &mut Vec<u8>,
-) -> (Result<(), ReadFault>, Result<usize, AllocError>)
-    requires some { IsSomeInput input.old }
-    requires fresh { S.has_failed reader.old ≡ false }
-    requires few { batches.most < 2 ^ 32 }
-    ensures taken { (past : List Weighted) (bytes : List ℕ) → IsInputSoFar input.old past bytes →
-        MatchResult result.0 (λ _. GoesOn batches.counting past (λ now. IsInputSoFar input.new now (bytes ++ batch.now))) (λ fault. Tells fault (settled_fault (bytes ++ batch.now))) }
-    ensures filled { IfOk result.1 (Fills batches.most (S.left reader.old) (S.left reader.new) (S.has_failed reader.new) next.new.items) }
-    ensures memory { OnErr result.1 (S.has_failed reader.new ≡ false) }
-{
-    let mut parse = || -> Result<(), ReadFault>
-        requires { IsSync R.row × IsSomeInput input.now }
-        ensures { (past : List Weighted) (bytes : List ℕ) → IsInputSoFar input.entry.now past bytes →
-            MatchResult result (λ _. GoesOn batches.counting past (λ now. IsInputSoFar input.exit.now now (bytes ++ batch.entry.now))) (λ fault. Tells fault (settled_fault (bytes ++ batch.entry.now))) }
-    { input.take_shared(rt, batch, batches.workers, batches.counting) };
-    let mut read = || -> Result<usize, AllocError>
-        requires { (S.has_failed reader.now ≡ false) × (batches.most < 2 ^ 32) }
-        ensures filled { IfOk result (Fills batches.most (S.left reader.entry.now) (S.left reader.exit.now) (S.has_failed reader.exit.now) next.exit.now.items) }
-        ensures memory { OnErr result (S.has_failed reader.exit.now ≡ false) }
-    { fill(reader, next, batches.most) };
-    join_mut(rt, &mut parse, &mut read)
 }
 
 /// Fills the buffer, which grows up to this many bytes, from its beginning, and returns how much of
@@ -147,7 +85,9 @@ fn take_beside<R: Threads + Sync, S: Source>(
 fn fill<S: Source>(reader: &mut S, buffer: &mut Vec<u8>, most: usize) -> Result<usize, AllocError>
     requires fresh { S.has_failed reader.old ≡ false }
     requires few { most < 2 ^ 32 }
-    ensures filled { IfOk result (Fills most (S.left reader.old) (S.left reader.new) (S.has_failed reader.new) buffer.new.items) }
+    ensures within { IfOk result (λ count. count ≤ length buffer.new.items) }
+    ensures given { IfOk result (λ count. Consumes (S.left reader.old) (S.left reader.new) (take count buffer.new.items)) }
+    ensures ended { IfOk result (λ count. S.has_failed reader.new ≡ false → count < most → IsAtEnd (S.left reader.new)) }
     ensures memory { OnErr result (S.has_failed reader.new ≡ false) }
 {
     let mut filled = 0;

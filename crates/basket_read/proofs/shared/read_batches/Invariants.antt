@@ -1,14 +1,14 @@
-use Rattle.std.proofs.Common.{◌≡◌, ◌-◌, ℕ, List, [], Option, false}
+use Rattle.std.proofs.Common.{◌≡◌, ◌-◌, ℕ, List, [], false}
 use Rattle.std.specs.Io.KnownBytes.{Consumes}
 use Rattle.basket_read.specs.Input.{IsInputSoFar}
-use Rattle.basket_read.specs.Read.{Fills}
 use Rattle.basket_read.specs.Text.{GoesOn}
 use Rattle.basket_read.proofs.shared.read_batches.Given as goal
 
 abbrev pub invariant-reading : goal.invariant-reading
-invariant-reading g l = (now : Option (List ℕ)) × (given : List ℕ) × Consumes (g.S.Source.left l.fn.reader) now given
-    × Fills l.batches.most now (g.S.Source.left l.reader) (g.S.Source.has_failed l.reader) l.batch.items l.count
-    × GoesOn l.batches.counting [] (λ past. IsInputSoFar l.input past given)
+invariant-reading g l = record {
+  unfailed : g.S.Source.has_failed l.reader ≡ false;
+  read : (given : List ℕ) × Consumes (g.S.Source.left l.initial.reader) (g.S.Source.left l.reader) given × GoesOn l.counting [] (λ past. IsInputSoFar l.input past given);
+}
 
 abbrev pub decreases-reading : goal.decreases-reading
 decreases-reading g l = 4294967295 - l.input.taken
