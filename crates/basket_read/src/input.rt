@@ -7,7 +7,7 @@ ghost use Rattle.basket_read.specs.Input.{IsInputSoFar, IsSomeInput};
 
 use crate::fault::ReadFault;
 use crate::item_counts::ItemCounts;
-use crate::lines::{PART, feed_part, feed_shared};
+use crate::lines::{feed_part, feed_shared};
 use crate::text::Text;
 use std::alloc::Global;
 use std::mem;
@@ -125,7 +125,7 @@ impl Input {
         Ok(())
     }
 
-    /// Takes more of the input as `take` does, by this many workers, or fewer if it is short.
+    /// Takes more of the input as `take` does, by this many workers.
     pub fn take_shared<R: Threads + Sync>(
         &mut self,
         rt: &R,
@@ -160,7 +160,6 @@ impl Input {
         if piece.len() > (MAX_BYTES - self.taken) as usize {
             return self.take(piece, counting);
         }
-        let workers = workers.min((piece.len() / PART) as u32);
         let empty = Text::new(self.text.alloc());
         let before = mem::replace(&mut self.text, empty);
         let text = feed_shared(rt, before, piece, workers, counting)?;

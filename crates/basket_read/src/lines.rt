@@ -6,12 +6,11 @@ ghost use Rattle.basket_read.specs.Fimi.{first_fault, MOST_BYTES};
 ghost use Rattle.basket_read.specs.Text.{EndsLine, GoesOn, HasRoom, IsTextSoFar, Tells};
 
 use crate::fault::ReadFault;
-use crate::read::BLOCK;
 use crate::text::Text;
 use std::thread::{Threads, join};
 
-/// How many bytes are worth a worker.
-pub const PART: usize = 524_288;
+/// A shorter text is not worth a thread.
+const LEAST: usize = 65_536;
 
 /// Takes more of a text, up to its first fault, as `Text::feed` does, by this many workers. If they
 /// count, each counts the baskets of its part.
@@ -91,7 +90,7 @@ pub fn feed_part(text: &mut Text, piece: &[u8], counting: bool) -> Result<(), Re
 {
     let mut taken = 0;
     while taken < piece.len() {
-        let end = piece.len().min(taken + BLOCK);
+        let end = piece.len().min(taken + LEAST);
         text.feed(&piece[taken..end])?;
         text.count(counting)?;
         taken = end;
@@ -99,13 +98,13 @@ pub fn feed_part(text: &mut Text, piece: &[u8], counting: bool) -> Result<(), Re
     Ok(())
 }
 
-/// Where a piece is cut in two for several workers, after a line feed.
+/// Where a piece is cut in two, after a line feed, if that is worth a thread.
 fn middle_of(piece: &[u8], workers: u32) -> Option<usize>
     ensures several { IfSome result (λ _. 2 ≤ workers) }
     ensures within { IfSome result (λ end. end ≤ length piece.now) }
     ensures ends { IfSome result (λ end. EndsLine (take end piece.now)) }
 {
-    if workers < 2 {
+    if workers < 2 || piece.len() < LEAST {
         return None;
     }
     let middle = piece.len() as u128 * u128::from(workers / 2) / u128::from(workers);
