@@ -19,6 +19,7 @@ mod gates;
 mod limits;
 mod mined;
 mod programs;
+mod rules;
 mod streams;
 
 /// A runtime that has threads and no random bytes.
