@@ -46,6 +46,9 @@ SHARED = [
     (DENSE, "sets --min 10% --miner eclat-bits"),
     (DENSE, "sets --min 5% --miner eclat-bits"),
     (DENSE, "sets --min 5% --miner apriori"),
+    (STORE, "sets --min 3% --miner eclat-bits"),
+    (CLICKS, "sets --min 1/1000 --miner fpgrowth"),
+    (SPARSE, "rules --min 1/1000 --conf 1/2 --miner eclat-bits"),
 ]
 
 # Of which sets `count` has to write the supports: those that are frequent at a minimum.

@@ -7,7 +7,7 @@ use Rattle.basket_counts.specs.Read.{Answers as CountsAnswers}
 use Rattle.basket_csv.specs.Csv.{Named}
 use Rattle.basket_csv.specs.Read.{Answers as CsvAnswers}
 use Rattle.basket_parts.specs.Merge.{Answers as TogetherAnswers}
-use Rattle.basket_parts.specs.Together.{together_of}
+use Rattle.basket_parts.specs.CombinedCounts.{combined_of}
 use Rattle.basket_read.specs.declared.counted_line.CountedLine.{CountedLine}
 use Rattle.basket_read.specs.declared.fault.ReadFault.{ReadFault}
 use Rattle.basket_read.specs.declared.fault.ReadFault.TheVariants.{Read}
@@ -69,12 +69,12 @@ fimi_fails say left after (Err fault) h = h
 -- ---- counted sets
 
 pub counts_refused : (left : Option (List ℕ)) (fault : ReadFault) → IfSome left (λ bytes. CountsAnswers {X = CountedLine} {A = Global} (Err fault) (counts_of bytes))
-    → IfSome left (λ bytes. Answers (Err fault) (where_read together_of (counts_of bytes)))
+    → IfSome left (λ bytes. Answers (Err fault) (where_read combined_of (counts_of bytes)))
 counts_refused None fault read = tt
-counts_refused (Some bytes) fault read = λ other. ap (where_read together_of) (read other)
+counts_refused (Some bytes) fault read = λ other. ap (where_read combined_of) (read other)
 
 pub counts_together : (left : Option (List ℕ)) (lines : List CountedLine) (answer : Result (List CountedLine) ReadFault) → IfSome left (λ bytes. counts_of bytes ≡ Ok lines)
-    → TogetherAnswers answer (together_of lines) → IfSome left (λ bytes. Answers answer (where_read together_of (counts_of bytes)))
+    → TogetherAnswers answer (combined_of lines) → IfSome left (λ bytes. Answers answer (where_read combined_of (counts_of bytes)))
 counts_together None lines answer read then = tt
-counts_together (Some bytes) lines (Ok together) read then = ap (where_read together_of) read ∙ then
-counts_together (Some bytes) lines (Err fault) read then = λ other. ap (where_read together_of) read ∙ then other
+counts_together (Some bytes) lines (Ok combined) read then = ap (where_read combined_of) read ∙ then
+counts_together (Some bytes) lines (Err fault) read then = λ other. ap (where_read combined_of) read ∙ then other

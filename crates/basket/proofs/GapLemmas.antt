@@ -11,7 +11,7 @@ use Rattle.std.proofs.lemmas.List.Kept.{IsStrictlySortedBy-filter}
 use Rattle.basket_core.specs.Listing.{Listing}
 use Rattle.basket_parts.specs.Frequent.{HasRisingSet}
 use Rattle.basket_parts.specs.Gap.{first_gap, has_gap, is_gap}
-use Rattle.basket_parts.specs.Together.{count_if, count_in, counted_in, frequent_in, has_set, is_frequent_in, sets_of, total_in}
+use Rattle.basket_parts.specs.CombinedCounts.{count_if, count_in, counted_in, frequent_in, has_set, is_frequent_in, sets_of, total_in}
 use Rattle.basket_parts.proofs.theory.Sets.{has_from_sets, listed_from_has, sets-in_order, sets_from_has}
 use Rattle.basket_plan.specs.Plan.{Question}
 use Rattle.basket_read.specs.declared.counted_line.CountedLine.{CountedLine}

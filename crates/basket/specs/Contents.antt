@@ -3,7 +3,7 @@ use Rattle.std.specs.Prelude.{◌≡◌, ◌≢◌, ℕ, List, [], Vec, map, fal
 use Rattle.basket_counts.specs.Counts.{counts_of, sets_of_bytes}
 use Rattle.basket_csv.specs.Counts.{named_counts_of}
 use Rattle.basket_csv.specs.Csv.{baskets_of_csv, pairs_of_csv}
-use Rattle.basket_parts.specs.Together.{together_of}
+use Rattle.basket_parts.specs.CombinedCounts.{combined_of}
 use Rattle.basket_plan.specs.declared.layout.Form.{Form}
 use Rattle.basket_plan.specs.declared.layout.Form.TheVariants.{Fimi, Baskets, Single, Counts, CsvCounts}
 use Rattle.basket_plan.specs.declared.layout.Layout.{Layout}
@@ -38,16 +38,16 @@ by_names say read = where_read (λ both. Ok (say both.0 (Some both.1))) read
 abbrev pub with_names : {A : Type 0} → List (List ℕ) → Result A ReadFault → Result (A × List (List ℕ)) ReadFault
 with_names names read = where_read (λ a. Ok (a, names)) read
 
-abbrev pub named_together_of : List CountedLine × List (List ℕ) → Result (List CountedLine × List (List ℕ)) ReadFault
-named_together_of both = with_names both.1 (together_of both.0)
+abbrev pub named_combined_of : List CountedLine × List (List ℕ) → Result (List CountedLine × List (List ℕ)) ReadFault
+named_combined_of both = with_names both.1 (combined_of both.0)
 
 -- what the bytes say in a form, or their fault, where these names have numbers beforehand
 abbrev pub contents_in : Form → Layout → List (List ℕ) → List ℕ → Result Contents ReadFault
 contents_in Fimi layout known bytes = by_numbers contents.Baskets (fimi_of bytes)
 contents_in Baskets layout known bytes = by_names contents.Baskets (baskets_of_csv layout.separator layout.header layout.weighted known bytes)
 contents_in Single layout known bytes = by_names contents.Baskets (pairs_of_csv layout.separator layout.header known bytes)
-contents_in Counts layout known bytes = by_numbers contents.Counts (where_read together_of (counts_of bytes))
-contents_in CsvCounts layout known bytes = by_names contents.Counts (where_read named_together_of (named_counts_of layout.separator layout.header known bytes))
+contents_in Counts layout known bytes = by_numbers contents.Counts (where_read combined_of (counts_of bytes))
+contents_in CsvCounts layout known bytes = by_names contents.Counts (where_read named_combined_of (named_counts_of layout.separator layout.header known bytes))
 
 abbrev pub contents_of : Layout → List (List ℕ) → List ℕ → Result Contents ReadFault
 contents_of layout known bytes = contents_in layout.form layout known bytes

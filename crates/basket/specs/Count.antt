@@ -2,7 +2,7 @@
 use Rattle.std.specs.Prelude.{◌≡◌, ◌≢◌, ◌≤◌, ◌+◌, ℕ, Bool, true, false, List, [], ◌∷◌, Option, Some, None, IfSome, Result, Ok, Err, length, map, take, if◌then◌else◌}
 use Rattle.std.specs.Io.KnownBytes.{Appends}
 use Rattle.basket_core.specs.declared.fault.MineFault.TheVariants as mine
-use Rattle.basket_parts.specs.Together.{count_in, has_set}
+use Rattle.basket_parts.specs.CombinedCounts.{count_in, has_set}
 use Rattle.basket_plan.specs.declared.layout.Layout.{Layout}
 use Rattle.basket_read.specs.declared.counted_line.CountedLine.{CountedLine}
 use Rattle.basket_read.specs.declared.fault.ReadFault.{ReadFault}
@@ -106,13 +106,13 @@ MakesCounts layout asked asked_failed left after failed (Ok made) =
     OfBoth asked left (λ sets bytes. count_outcome layout sets bytes ≡ Ok (prepared_text made)) × (asked_failed ≡ false) × (failed ≡ false)
 MakesCounts layout asked asked_failed left after failed (Err fault) = IsCountFault layout asked asked_failed left after failed fault × (fault ≢ Write)
 
--- why there are no counts of sets over what an input says: one has none, or memory is wanting
+-- why there are no counts of sets over what an input says: one has none, or it runs out of memory
 abbrev pub IsCountsFault : Result (List ℕ) RunFault → RunFault → Type 0
 IsCountsFault answer (Uncounted nth) = answer ≡ Err (Uncounted nth)
 IsCountsFault answer (Mine fault) = fault ≡ mine.Memory
 IsCountsFault answer _ = ⊥
 
--- why some sets have no sums in a counted input: one has none, or memory is wanting
+-- why some sets have no sums in a counted input: one has none, or it runs out of memory
 abbrev pub IsSumsFault : List CountedLine → List (List ℕ) → RunFault → Type 0
 IsSumsFault lines sets (Uncounted nth) = counts_over lines sets ≡ Err (Uncounted nth)
 IsSumsFault lines sets (Mine fault) = fault ≡ mine.Memory

@@ -2,7 +2,7 @@
 use Rattle.std.specs.Prelude.{◌≡◌, Bool, true, false, ◌&&◌, not, if◌then◌else◌, List, [], Option, Some, None, Result, Ok, Err}
 use Rattle.basket_core.specs.Listing.{Listing}
 use Rattle.basket_parts.specs.Gap.{first_gap}
-use Rattle.basket_parts.specs.Together.{frequent_in, has_set, total_in}
+use Rattle.basket_parts.specs.CombinedCounts.{frequent_in, has_set, total_in}
 use Rattle.basket_plan.specs.declared.plan.Ask.{Ask}
 use Rattle.basket_plan.specs.declared.plan.Ask.TheVariants.{Items, Sets, Rules}
 use Rattle.basket_plan.specs.Plan.{Question}

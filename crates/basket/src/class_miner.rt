@@ -11,12 +11,12 @@ use std::marker::PhantomData;
 
 /// Eclat over rows of one type (Zaki 2000; Zaki and Gouda 2003).
 #[derive(Debug, Drop)]
-pub struct Joining<'a, R> {
+pub struct EclatMiner<'a, R> {
     pub vertical: Vertical<'a>,
     pub rows: PhantomData<R>,
 }
 
-impl<R: Row> ClassMiner for Joining<'_, R> {
+impl<R: Row> ClassMiner for EclatMiner<'_, R> {
     ghost coding_of = { λ miner. miner.vertical };
 
     ghost is_work = { λ miner. IsJoins miner.vertical };
@@ -34,9 +34,9 @@ impl<R: Row> ClassMiner for Joining<'_, R> {
 
 /// FP-growth (Han, Pei and Yin 2000).
 #[derive(Debug, Drop)]
-pub struct Growth<'a>(pub Forest<'a>);
+pub struct FpGrowthMiner<'a>(pub Forest<'a>);
 
-impl ClassMiner for Growth<'_> {
+impl ClassMiner for FpGrowthMiner<'_> {
     ghost coding_of = { λ miner. miner.0 };
 
     ghost is_work = { λ miner. IsTrees miner.0 };

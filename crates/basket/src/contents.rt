@@ -2,15 +2,15 @@
 ghost use Rattle.std.specs.Prelude.{◌≡◌, true, false, Err, IfErr, IfSome, IsErr};
 ghost use Rattle.basket_counts.specs.Counts.{counts_of};
 ghost use Rattle.basket_csv.specs.Counts.{named_counts_of};
-ghost use Rattle.basket_parts.specs.Together.{together_of};
+ghost use Rattle.basket_parts.specs.CombinedCounts.{combined_of};
 ghost use Rattle.basket.specs.declared.contents.Contents.TheVariants as contents;
-ghost use Rattle.basket.specs.Contents.{Answers, FailsIn, by_names, by_numbers, contents_of, named_together_of, where_read, wording_with};
+ghost use Rattle.basket.specs.Contents.{Answers, FailsIn, by_names, by_numbers, contents_of, named_combined_of, where_read, wording_with};
 ghost use Rattle.basket_report.specs.Style.{wording_of};
 
 use basket_core::{Database, Source};
 use basket_counts::read_counts;
 use basket_csv::{Dialect, Names, read_baskets, read_named_counts, read_single};
-use basket_parts::Together;
+use basket_parts::CombinedCounts;
 use basket_plan::{Form, Layout};
 use basket_read::{ReadFault, read_fimi_shared};
 use basket_report::Style;
@@ -23,7 +23,7 @@ use std::thread::Threads;
 pub enum Contents {
     Baskets(Database, Option<Names>),
     /// Sets with their counts.
-    Counts(Together, Option<Names>),
+    Counts(CombinedCounts, Option<Names>),
 }
 
 impl Contents {
@@ -58,8 +58,8 @@ impl Contents {
                 known,
             )),
             Form::Single => named(read_single(rt, alloc, reader, dialect, known)),
-            Form::Counts => counted(read_together(alloc, reader)),
-            Form::CsvCounts => named_counts(read_named_together(rt, alloc, reader, dialect, known)),
+            Form::Counts => counted(read_combined(alloc, reader)),
+            Form::CsvCounts => named_counts(read_named_combined(rt, alloc, reader, dialect, known)),
         }
     }
 }
@@ -75,28 +75,28 @@ pub fn style_of(names: &Option<Names>, separator: u8) -> Style<'_>
 }
 
 /// Reads counted sets to their end, and merges equal ones.
-fn read_together<S: Source>(alloc: Global, reader: &mut S) -> Result<Together, ReadFault>
+fn read_combined<S: Source>(alloc: Global, reader: &mut S) -> Result<CombinedCounts, ReadFault>
     requires { S.has_failed reader.old ≡ false }
-    ensures exact { S.has_failed reader.new ≡ false → IfSome (S.left reader.old) (λ bytes. Answers result (where_read together_of (counts_of bytes))) }
+    ensures exact { S.has_failed reader.new ≡ false → IfSome (S.left reader.old) (λ bytes. Answers result (where_read combined_of (counts_of bytes))) }
     ensures failed { S.has_failed reader.new ≡ true → result ≡ Err ReadFault.Read }
     ensures read_is_failed { result ≡ Err ReadFault.Read → S.has_failed reader.new ≡ true }
 {
     match read_counts(alloc, reader) {
-        Ok(lines) => Together::of(alloc, lines),
+        Ok(lines) => CombinedCounts::of(alloc, lines),
         Err(fault) => Err(fault),
     }
 }
 
 /// Reads counted sets of names to their end, and merges equal ones.
-fn read_named_together<R: RandomSource, S: Source>(
+fn read_named_combined<R: RandomSource, S: Source>(
     rt: &R,
     alloc: Global,
     reader: &mut S,
     dialect: Dialect,
     known: Names,
-) -> Result<(Together, Names), ReadFault>
+) -> Result<(CombinedCounts, Names), ReadFault>
     requires { S.has_failed reader.old ≡ false }
-    ensures exact { S.has_failed reader.new ≡ false → IfSome (S.left reader.old) (λ bytes. Answers result (where_read named_together_of (named_counts_of dialect.separator dialect.header known bytes))) }
+    ensures exact { S.has_failed reader.new ≡ false → IfSome (S.left reader.old) (λ bytes. Answers result (where_read named_combined_of (named_counts_of dialect.separator dialect.header known bytes))) }
     ensures failed { S.has_failed reader.new ≡ true → result ≡ Err ReadFault.Read }
     ensures read_is_failed { result ≡ Err ReadFault.Read → S.has_failed reader.new ≡ true }
 {
@@ -104,8 +104,8 @@ fn read_named_together<R: RandomSource, S: Source>(
         Ok(read) => read,
         Err(fault) => return Err(fault),
     };
-    match Together::of(alloc, lines) {
-        Ok(together) => Ok((together, names)),
+    match CombinedCounts::of(alloc, lines) {
+        Ok(combined) => Ok((combined, names)),
         Err(fault) => Err(fault),
     }
 }
@@ -123,15 +123,15 @@ fn named(read: Result<(Database, Names), ReadFault>) -> Result<Contents, ReadFau
     Ok(Contents::Baskets(database, Some(names)))
 }
 
-fn counted(read: Result<Together, ReadFault>) -> Result<Contents, ReadFault>
+fn counted(read: Result<CombinedCounts, ReadFault>) -> Result<Contents, ReadFault>
     ensures { result ≡ by_numbers contents.Counts read }
 {
     Ok(Contents::Counts(read?, None))
 }
 
-fn named_counts(read: Result<(Together, Names), ReadFault>) -> Result<Contents, ReadFault>
+fn named_counts(read: Result<(CombinedCounts, Names), ReadFault>) -> Result<Contents, ReadFault>
     ensures { result ≡ by_names contents.Counts read }
 {
-    let (together, names) = read?;
-    Ok(Contents::Counts(together, Some(names)))
+    let (combined, names) = read?;
+    Ok(Contents::Counts(combined, Some(names)))
 }

@@ -14,7 +14,7 @@ use crate::fault::RunFault;
 use crate::prepared::PreparedReport;
 use basket_core::{Counted, CountedSets, Itemset, Sink, Source};
 use basket_csv::Names;
-use basket_parts::Together;
+use basket_parts::CombinedCounts;
 use basket_plan::CountPlan;
 use mine_phases::{Cutting, Open};
 use mine_sets::{asked_for, count_sets};
@@ -102,9 +102,9 @@ fn counted<R: RandomSource + Threads + Sync>(
             let counted = count_sets(rt, alloc, &database, sets, cutting, &Open)?;
             Ok(listed(alloc, &counted, &names, plan)?)
         }
-        Contents::Counts(together, names) => {
+        Contents::Counts(combined, names) => {
             let asked = asked_for(rt, alloc, sets)?;
-            let counted = match sums(alloc, &together, &asked) {
+            let counted = match sums(alloc, &combined, &asked) {
                 Ok(counted) => counted,
                 Err(fault) => return Err(fault),
             };
@@ -128,12 +128,16 @@ fn listed(
 }
 
 /// The sets with the sums of their counts, or the first set without a count.
-fn sums(alloc: Global, together: &Together, sets: &[Itemset]) -> Result<Vec<Counted>, RunFault>
-    ensures { MatchResult result (λ list. counts_over together.now sets.now ≡ Ok list.items) (IsSumsFault together.now sets.now) }
+fn sums(
+    alloc: Global,
+    combined: &CombinedCounts,
+    sets: &[Itemset],
+) -> Result<Vec<Counted>, RunFault>
+    ensures { MatchResult result (λ list. counts_over combined.now sets.now ≡ Ok list.items) (IsSumsFault combined.now sets.now) }
 {
     let mut counted = Vec::with_capacity(alloc, sets.len())?;
     for (nth, set) in sets.iter().enumerate() {
-        let Some(count) = together.count_of(set.items()) else {
+        let Some(count) = combined.count_of(set.items()) else {
             return Err(RunFault::Uncounted { nth });
         };
         counted.push(Counted {

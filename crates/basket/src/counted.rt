@@ -10,7 +10,7 @@ use crate::contents::style_of;
 use crate::prepared::PreparedReport;
 use basket_core::{CountedSets, Frequent, MineFault};
 use basket_csv::Names;
-use basket_parts::Together;
+use basket_parts::CombinedCounts;
 use basket_plan::{Ask, Plan};
 use basket_read::ReadFault;
 use basket_report::rules_report;
@@ -19,26 +19,30 @@ use std::alloc::{AllocError, Global};
 use std::thread::Threads;
 
 /// The sets that meet the minimum among merged counted sets, if all is there that matters.
-pub fn listing(alloc: Global, plan: &Plan, together: &Together) -> Result<Frequent, ReadFault>
-    ensures exact { Answers result (listing_in plan.now.question together.now) }
+pub fn listing(alloc: Global, plan: &Plan, combined: &CombinedCounts) -> Result<Frequent, ReadFault>
+    ensures exact { Answers result (listing_in plan.now.question combined.now) }
     ensures not_read { result ≢ Err ReadFault.Read }
     ensures whole { IfOk result (IsWhole plan.now.question.ask) }
 {
-    if needs_total(plan.ask(), plan.minimum()) && together.total().is_none() {
+    if needs_total(plan.ask(), plan.minimum()) && combined.total().is_none() {
         return Err(ReadFault::NoTotal);
     }
-    match gap(alloc, plan, together)? {
+    match gap(alloc, plan, combined)? {
         Some(fault) => Err(fault),
-        None => Ok(together.frequent(alloc, plan.minimum())?),
+        None => Ok(combined.frequent(alloc, plan.minimum())?),
     }
 }
 
 /// The first of the sets that meet the minimum which lacks a subset, if that matters.
-fn gap(alloc: Global, plan: &Plan, together: &Together) -> Result<Option<ReadFault>, AllocError>
-    ensures { IfOk result (λ gap. gap ≡ gap_in plan.now.question together.now) }
+fn gap(
+    alloc: Global,
+    plan: &Plan,
+    combined: &CombinedCounts,
+) -> Result<Option<ReadFault>, AllocError>
+    ensures { IfOk result (λ gap. gap ≡ gap_in plan.now.question combined.now) }
 {
     if needs_subsets(plan.ask()) {
-        together.first_gap(alloc, plan.minimum())
+        combined.first_gap(alloc, plan.minimum())
     } else {
         Ok(None)
     }

@@ -111,7 +111,7 @@ fn report_contents<R: Threads + Sync>(
         Contents::Baskets(database, names) => {
             Ok(report_baskets(rt, alloc, database, &names, plan)?)
         }
-        Contents::Counts(together, names) => match listing(alloc, plan, &together) {
+        Contents::Counts(combined, names) => match listing(alloc, plan, &combined) {
             Ok(frequent) => Ok(report_listing(rt, alloc, frequent, &names, plan)?),
             Err(fault) => Err(RunFault::Input(fault)),
         },

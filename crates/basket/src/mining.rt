@@ -7,7 +7,7 @@ ghost use Rattle.basket_core.specs.Listing.{listing_of};
 ghost use Rattle.basket_sets.specs.Frequent.{frequent_of};
 ghost use Rattle.basket_sets.specs.Support.{total_of};
 
-use crate::class_miner::{Growth, Joining};
+use crate::class_miner::{EclatMiner, FpGrowthMiner};
 use crate::merging::merged_if_it_pays;
 use basket_core::{Coded, Codes, Database, Frequent, MineFault, Minimum, deep};
 use basket_plan::{Miner, Plan};
@@ -197,7 +197,7 @@ fn by_eclat<R: Threads + Sync, G: Gate + Sync, T: Row + Sync>(
     coded_ranks_are_frequent();
     class_joins_add_up();
     let runs = runs_shared(rt, alloc, coded, cutting)?;
-    let miner = Joining::<T> {
+    let miner = EclatMiner::<T> {
         vertical: Vertical::of_runs(coded, runs),
         rows: PhantomData,
     };
@@ -224,7 +224,7 @@ fn by_fp_growth<R: Threads + Sync, G: Gate + Sync>(
     let _coding = coded.baskets();
     let runs = runs_shared(rt, alloc, coded, cutting)?;
     let forest = Forest::of_runs(alloc, coded, runs)?;
-    let miner = Growth(forest);
+    let miner = FpGrowthMiner(forest);
     let phase = Phase::of_classes(cutting, gate);
     let (frequent, trees) = mine_shared(rt, alloc, coded, miner, limit, &phase)?;
     Ok((frequent, Work::of_trees(trees)))

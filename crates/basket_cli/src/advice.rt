@@ -1,7 +1,7 @@
 //! Lines of advice on standard error if it is a terminal.
 use crate::again::{asked_at, baskets_in, gap_at, may_be_header};
 use crate::fault_advice::input_advice;
-use crate::place::{Place, Places};
+use crate::location::{Location, Locations};
 use crate::words_advice::words_advice;
 use basket::{Ask, Form, MineFault, PlanFault, ReadFault, RunFault, Task};
 use basket_main::Ending;
@@ -35,7 +35,7 @@ pub fn advise<R: RandomSource + Threads + Sync>(
             say(rt, words_advice(rt.alloc(), text.as_str(), seen.words));
         }
         Ending::Ran(invocation, Ok(())) => {
-            let place = Places::of(invocation).input;
+            let place = Locations::of(invocation).input;
             if let Task::Report(plan) = &invocation.task
                 && !seen.has_lines
             {
@@ -45,7 +45,7 @@ pub fn advise<R: RandomSource + Threads + Sync>(
             advise_on_input(rt, threads, place);
         }
         Ending::Ran(invocation, Err(fault)) => {
-            let places = Places::of(invocation);
+            let places = Locations::of(invocation);
             say(rt, fault_advice(rt, threads, fault, places, seen.code));
         }
         _ => {}
@@ -63,7 +63,7 @@ fn say(rt: &HostRuntime, advice: Result<Option<String>, AllocError>) {
 fn advise_on_input<R: RandomSource + Threads + Sync>(
     rt: &HostRuntime,
     threads: &R,
-    place: Place<'_>,
+    place: Location<'_>,
 ) {
     let alloc = rt.alloc();
     let (form, name) = (place.form_name(), place.name());
@@ -89,7 +89,7 @@ fn advise_on_input<R: RandomSource + Threads + Sync>(
 fn empty_advice(
     alloc: Global,
     ask: Ask,
-    place: Place<'_>,
+    place: Location<'_>,
     baskets: Option<u64>,
 ) -> Result<Option<String>, AllocError> {
     let name = place.name();
@@ -110,7 +110,7 @@ fn fault_advice<R: RandomSource + Threads + Sync>(
     rt: &HostRuntime,
     threads: &R,
     fault: &RunFault,
-    places: Places<'_>,
+    places: Locations<'_>,
     code: Option<i32>,
 ) -> Result<Option<String>, AllocError> {
     let alloc = rt.alloc();

@@ -1,9 +1,9 @@
 //! What a second look at the input files tells, for advice.
-use crate::place::Place;
+use crate::location::Location;
 use basket::{Contents, Form, SliceSource, StdSource, read_asked};
 use basket_core::count_items;
 use basket_csv::Names;
-use basket_parts::Together;
+use basket_parts::CombinedCounts;
 use mine_sets::asked_for;
 use std::alloc::Global;
 use std::fs::File;
@@ -17,7 +17,7 @@ const GLANCE: u64 = 1 << 20;
 fn contents<R: RandomSource + Threads + Sync>(
     rt: &HostRuntime,
     threads: &R,
-    place: Place<'_>,
+    place: Location<'_>,
 ) -> Option<Contents> {
     let mut input = StdSource::new(File::open(rt, place.path?).ok()?);
     let names = Names::none(rt.alloc());
@@ -28,11 +28,11 @@ fn contents<R: RandomSource + Threads + Sync>(
 pub fn baskets_in<R: RandomSource + Threads + Sync>(
     rt: &HostRuntime,
     threads: &R,
-    place: Place<'_>,
+    place: Location<'_>,
 ) -> Option<u64> {
     match contents(rt, threads, place)? {
         Contents::Baskets(database, _) => Some(database.total()),
-        Contents::Counts(together, _) => together.total(),
+        Contents::Counts(combined, _) => combined.total(),
     }
 }
 
@@ -41,18 +41,18 @@ pub fn baskets_in<R: RandomSource + Threads + Sync>(
 pub fn gap_at<R: RandomSource + Threads + Sync>(
     rt: &HostRuntime,
     threads: &R,
-    place: Place<'_>,
+    place: Location<'_>,
     line: u32,
 ) -> Option<String> {
     let alloc = rt.alloc();
-    let Contents::Counts(together, names) = contents(rt, threads, place)? else {
+    let Contents::Counts(combined, names) = contents(rt, threads, place)? else {
         return None;
     };
-    let counted = together
+    let counted = combined
         .lines()
         .iter()
         .find(|counted| counted.line == line)?;
-    let subset = lacking(alloc, &together, counted.set.items(), counted.count)?;
+    let subset = lacking(alloc, &combined, counted.set.items(), counted.count)?;
     let set = shown(alloc, counted.set.items(), &names)?;
     let lacks = shown(alloc, &subset, &names)?;
     format!(in alloc;
@@ -63,7 +63,12 @@ pub fn gap_at<R: RandomSource + Threads + Sync>(
 }
 
 /// The first subset with one item less that lacks a count or has a lower one.
-fn lacking(alloc: Global, together: &Together, items: &[u32], count: u64) -> Option<Vec<u32>> {
+fn lacking(
+    alloc: Global,
+    combined: &CombinedCounts,
+    items: &[u32],
+    count: u64,
+) -> Option<Vec<u32>> {
     for left_out in items {
         let mut subset = Vec::new(alloc);
         for item in items {
@@ -71,7 +76,7 @@ fn lacking(alloc: Global, together: &Together, items: &[u32], count: u64) -> Opt
                 subset.push(*item).ok()?;
             }
         }
-        let is_enough = match together.count_of(&subset) {
+        let is_enough = match combined.count_of(&subset) {
             Some(least) => least >= count,
             None => subset.is_empty(),
         };
@@ -86,7 +91,7 @@ fn lacking(alloc: Global, together: &Together, items: &[u32], count: u64) -> Opt
 pub fn asked_at<R: RandomSource + Threads + Sync>(
     rt: &HostRuntime,
     threads: &R,
-    place: Place<'_>,
+    place: Location<'_>,
     nth: usize,
 ) -> Option<String> {
     let alloc = rt.alloc();
@@ -105,7 +110,7 @@ pub fn asked_at<R: RandomSource + Threads + Sync>(
 pub fn may_be_header<R: RandomSource + Threads + Sync>(
     rt: &HostRuntime,
     threads: &R,
-    place: Place<'_>,
+    place: Location<'_>,
 ) -> Option<bool> {
     let alloc = rt.alloc();
     if place.layout.header || !matches!(place.layout.form, Form::Baskets | Form::Single) {

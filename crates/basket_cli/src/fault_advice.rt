@@ -1,5 +1,5 @@
 //! Advice on the faults of a run, by what a fault says of itself.
-use crate::place::Place;
+use crate::location::Location;
 use basket::{Form, ReadFault};
 use std::alloc::{AllocError, Global};
 
@@ -7,7 +7,7 @@ use std::alloc::{AllocError, Global};
 pub fn input_advice(
     alloc: Global,
     fault: ReadFault,
-    place: Place<'_>,
+    place: Location<'_>,
 ) -> Result<String, AllocError> {
     let name = place.name();
     match fault {
@@ -36,7 +36,7 @@ pub fn input_advice(
 }
 
 /// What to do about a first record that may be a header.
-fn header_advice(nth: u32, place: Place<'_>) -> &'static str {
+fn header_advice(nth: u32, place: Location<'_>) -> &'static str {
     if nth == 1 && !place.layout.header {
         "; if this record is a header, add --header"
     } else {
@@ -45,7 +45,7 @@ fn header_advice(nth: u32, place: Place<'_>) -> &'static str {
 }
 
 /// Advice on a byte that is not of the form.
-fn byte_advice(alloc: Global, byte: u8, place: Place<'_>) -> Result<String, AllocError> {
+fn byte_advice(alloc: Global, byte: u8, place: Location<'_>) -> Result<String, AllocError> {
     let name = place.name();
     let forms = match place.layout.form {
         Form::Counts => "--form csv-counts",

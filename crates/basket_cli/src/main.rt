@@ -6,7 +6,7 @@ mod advice;
 mod again;
 mod fault_advice;
 mod kept;
-mod place;
+mod location;
 mod streams;
 mod system;
 mod words_advice;

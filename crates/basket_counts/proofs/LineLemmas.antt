@@ -9,7 +9,7 @@ use Rattle.basket_read.specs.Cut.{Cut, cut_at}
 use Rattle.basket_read.specs.Fimi.{is_blank, is_line_feed, is_nil, are_numbers}
 use Rattle.basket_read.specs.Numbers.{NumbersState, numbers_state, numbers_at, number_ended, IsNumbersSoFar, AreTaken}
 use Rattle.basket_read.specs.declared.fault.ReadFault.TheVariants.{Number as TooGreat}
-use Rattle.basket_counts.specs.declared.line.Line.{Line}
+use Rattle.basket_counts.specs.declared.line.SetLine.{SetLine}
 use Rattle.basket_counts.specs.declared.tail.Tail.{Tail}
 use Rattle.basket_counts.specs.declared.tail.Tail.TheVariants.{Absent, Opened, Count, Closed}
 use Rattle.basket_counts.specs.Counts.{is_open, is_close, is_count, is_tail_of, is_tail, is_line_of, is_line, count_fault, digit_fault, bare_entry, entry, count_before, entry_of_parts, entry_of}
@@ -108,7 +108,7 @@ tail_is_there [] [] = refl
 tail_is_there [] (d ∷ word) = refl
 tail_is_there (count ∷ others) last = refl
 
-module _ (old : Line) (line : List ℕ) (so_far : IsLineSoFar old line) where
+module _ (old : SetLine) (line : List ℕ) (so_far : IsLineSoFar old line) where
   abbrev heads : List (List ℕ)
   heads = (cut_at is_open line).ended
 
@@ -137,7 +137,7 @@ module _ (old : Line) (line : List ℕ) (so_far : IsLineSoFar old line) where
       state = ap (λ (s : LineState). s.numbers) so_far.state ∙ ap (λ h. (state_of_parts h last).numbers) no_heads;
     }
 
-    pub goes_on : (new : Line) (run : List ℕ) → new.tail ≡ old.tail → IsNumbersSoFar new.numbers (last ++ run) → IsLineSoFar new (line ++ run)
+    pub goes_on : (new : SetLine) (run : List ℕ) → new.tail ≡ old.tail → IsNumbersSoFar new.numbers (last ++ run) → IsLineSoFar new (line ++ run)
     goes_on new run same numbers =
         let joined = numbers_joined 40 refl refl line run numbers.good ∙ ap (λ h. cut h (last ++ run)) no_heads in
         record {
@@ -146,12 +146,12 @@ module _ (old : Line) (line : List ℕ) (so_far : IsLineSoFar old line) where
         }
 
     -- a byte that was asked of the numbers
-    pub took : (taken : Bool) (new : Line) (byte : ℕ) → is_open byte ≡ false → new.tail ≡ old.tail → AreTaken taken new.numbers (last ++ byte ∷ []) → IsTaken taken new (line ++ byte ∷ [])
+    pub took : (taken : Bool) (new : SetLine) (byte : ℕ) → is_open byte ≡ false → new.tail ≡ old.tail → AreTaken taken new.numbers (last ++ byte ∷ []) → IsTaken taken new (line ++ byte ∷ [])
     took true new byte e same numbers = goes_on new (byte ∷ []) same numbers
     took false new byte e same bad =
         ap (λ (k : Cut). is_line_of k.ended k.last) (cut_joined is_open line byte e ∙ ap (λ h. cut h (last ++ byte ∷ [])) no_heads) ∙ bad
 
-    pub opens : (new : Line) (byte : ℕ) → is_open byte ≡ true → numbers_state new.numbers ≡ number_ended (numbers_state old.numbers) → new.tail ≡ Opened → IsLineSoFar new (line ++ byte ∷ [])
+    pub opens : (new : SetLine) (byte : ℕ) → is_open byte ≡ true → numbers_state new.numbers ≡ number_ended (numbers_state old.numbers) → new.tail ≡ Opened → IsLineSoFar new (line ++ byte ∷ [])
     opens new byte e numbers tail =
         let ended = cut_ended is_open line byte e ∙ ap (λ h. cut (h ++ last ∷ []) []) no_heads in
         record {
@@ -183,7 +183,7 @@ module _ (old : Line) (line : List ℕ) (so_far : IsLineSoFar old line) where
     tail_so_far = tail_is ∙ ap (λ h. (state_of_parts h last).tail) split.only
 
     -- a line that a byte was asked of, by the tail with it
-    pub tail_took : (new : Line) (byte : ℕ) (next : Tail) → Some next ≡ tail_with last byte → new.tail ≡ next → new.numbers ≡ old.numbers → IsLineSoFar new (line ++ byte ∷ [])
+    pub tail_took : (new : SetLine) (byte : ℕ) (next : Tail) → Some next ≡ tail_with last byte → new.tail ≡ next → new.numbers ≡ old.numbers → IsLineSoFar new (line ++ byte ∷ [])
     tail_took new byte next is tail numbers =
         let k = grammar.chosen next (tail_at (last ++ byte ∷ [])) (is_tail (last ++ byte ∷ [])) is in
         let joined = cut_joined is_open line byte (no_open k.0) ∙ ap (λ h. cut h (last ++ byte ∷ [])) split.only in

@@ -10,9 +10,9 @@ use Rattle.basket_read.specs.declared.fault.ReadFault.TheVariants.{Byte}
 use Rattle.basket_read.specs.Cut.{Cut, cut_more, cut_at}
 use Rattle.basket_read.specs.Fimi.{line_after, is_line_feed}
 use Rattle.basket_read.specs.Text.{Tells}
-use Rattle.basket_counts.specs.declared.entry.Entry.{Entry}
-use Rattle.basket_counts.specs.declared.line.Line.{Line}
-use Rattle.basket_counts.specs.declared.text.Text.{Text}
+use Rattle.basket_counts.specs.declared.listed_set.ListedSet.{ListedSet}
+use Rattle.basket_counts.specs.declared.line.SetLine.{SetLine}
+use Rattle.basket_counts.specs.declared.text.SetText.{SetText}
 use Rattle.basket_counts.specs.Counts.{is_line, fault_at, first_fault, entry_of, entries_from}
 use Rattle.basket_counts.specs.Line.{LineState, line_state, line_at, said_at, digit_fault_in, IsLineSoFar}
 use Rattle.basket_counts.specs.Text.{IsTextSoFar}
@@ -34,7 +34,7 @@ entries_push line (first ∷ texts) text =
     same : length texts + (line + 1) ≡ suc (length texts) + line
     same = omega arith
 
-module _ (text : Text) (bytes : List ℕ) (t : IsTextSoFar text bytes) where
+module _ (text : SetText) (bytes : List ℕ) (t : IsTextSoFar text bytes) where
   abbrev last : List ℕ
   last = (cut_at is_line_feed bytes).last
 
@@ -42,7 +42,7 @@ module _ (text : Text) (bytes : List ℕ) (t : IsTextSoFar text bytes) where
   line_so_far = record { good = (grammar.lines_good is_line fault_at refl bytes t.faultless).1; state = t.line }
 
   -- the text goes on as its line does
-  pub goes_on : (line : Line) (run : List ℕ) → IsLineSoFar line (last ++ run) → IsTextSoFar (record text { line = line }) (bytes ++ run)
+  pub goes_on : (line : SetLine) (run : List ℕ) → IsLineSoFar line (last ++ run) → IsTextSoFar (record text { line = line }) (bytes ++ run)
   goes_on line run s =
       let k = cut_at is_line_feed bytes in
       let joined = cut_on is_line_feed is_line line_fronts_are_good no_line_feed bytes run s.good in
@@ -64,13 +64,13 @@ module _ (text : Text) (bytes : List ℕ) (t : IsTextSoFar text bytes) where
       ∙ (λ i. Some (cond (is_digit byte) (digit_fault_in (sym t.line i).tail (sym t.ended i + 1) byte) (Byte (sym t.ended i + 1) byte)))
 
   -- what the text says once its last line has ended
-  pub says_all : (entries : List Entry) → entries ≡ text.entries.items ++ said_at (line_state text.line) (text.ended + 1) → entries ≡ entries_from 1 ((cut_at is_line_feed bytes).ended ++ last ∷ [])
+  pub says_all : (entries : List ListedSet) → entries ≡ text.entries.items ++ said_at (line_state text.line) (text.ended + 1) → entries ≡ entries_from 1 ((cut_at is_line_feed bytes).ended ++ last ∷ [])
   says_all entries e =
       e ∙ (λ i. t.entries i ++ said_at (t.line i) (t.ended i + 1))
       ∙ ap (λ l. entries_from 1 (cut_at is_line_feed bytes).ended ++ l) (line_says last (length (cut_at is_line_feed bytes).ended + 1))
       ∙ sym (entries_push 1 (cut_at is_line_feed bytes).ended last)
 
-  pub takes_line_feed : (new : Text) (byte : ℕ) → is_line_feed byte ≡ true → line_state new.line ≡ line_at [] → new.ended ≡ text.ended + 1
+  pub takes_line_feed : (new : SetText) (byte : ℕ) → is_line_feed byte ≡ true → line_state new.line ≡ line_at [] → new.ended ≡ text.ended + 1
       → new.entries.items ≡ text.entries.items ++ said_at (line_state text.line) (text.ended + 1) → IsTextSoFar new (bytes ++ byte ∷ [])
   takes_line_feed new byte e is lines more =
       let ended = cut_ended is_line_feed bytes byte e in
@@ -84,11 +84,11 @@ module _ (text : Text) (bytes : List ℕ) (t : IsTextSoFar text bytes) where
 -- ---- a text of few bytes has few lines
 
 -- a line feed for each line that has ended
-pub few_lines : (text : Text) (bytes : List ℕ) → IsTextSoFar text bytes → text.ended ≤ length bytes
+pub few_lines : (text : SetText) (bytes : List ℕ) → IsTextSoFar text bytes → text.ended ≤ length bytes
 few_lines text bytes t = let few = size_after is_line_feed (cut [] []) bytes in let lines = t.ended in omega arith
 
 -- and more bytes where a line has begun
-pub fewer_lines : (text : Text) (bytes : List ℕ) → IsTextSoFar text bytes → line_state text.line ≢ line_at [] → text.ended < length bytes
+pub fewer_lines : (text : SetText) (bytes : List ℕ) → IsTextSoFar text bytes → line_state text.line ≢ line_at [] → text.ended < length bytes
 fewer_lines text bytes t some = at (cut_at is_line_feed bytes).last refl
   where
     at : (last : List ℕ) → (cut_at is_line_feed bytes).last ≡ last → text.ended < length bytes
@@ -98,7 +98,7 @@ fewer_lines text bytes t some = at (cut_at is_line_feed bytes).last refl
 -- ---- bytes up to a place
 
 -- bytes that the line took behind a place
-pub run_taken : (text : Text) (line : Line) (bytes piece : List ℕ) (i count : ℕ) → IsTextSoFar text (take i bytes) → piece ≡ drop i bytes
+pub run_taken : (text : SetText) (line : SetLine) (bytes piece : List ℕ) (i count : ℕ) → IsTextSoFar text (take i bytes) → piece ≡ drop i bytes
     → ((front : List ℕ) → IsLineSoFar text.line front → IsLineSoFar line (front ++ take count piece)) → IsTextSoFar (record text { line = line }) (take (i + count) bytes)
 run_taken text line bytes piece i count t e took =
     subst (IsTextSoFar (record text { line = line })) (ap (λ l. take i bytes ++ take count l) e ∙ sym (take-add i count bytes))

@@ -9,7 +9,7 @@ use Rattle.basket_read.specs.declared.fault.ReadFault.TheVariants.{TooLong, Byte
 use Rattle.basket_read.specs.declared.counted_line.CountedLine.{CountedLine}
 use Rattle.basket_read.specs.Cut.{cut_at, parts_of}
 use Rattle.basket_read.specs.Fimi.{is_blank, is_line_feed, is_nil, are_numbers, numbers_of, line_after, text_of, or_else, MOST_BYTES}
-use Rattle.basket_counts.specs.declared.entry.Entry.{Entry}
+use Rattle.basket_counts.specs.declared.listed_set.ListedSet.{ListedSet}
 use Rattle.basket_read.specs.Grammar.{fault_behind}
 
 -- the parentheses around a count
@@ -77,7 +77,7 @@ abbrev pub fault_in : List ℕ → Option ReadFault
 fault_in bytes = or_else (first_fault (text_of (take MOST_BYTES bytes))) (if nat_lt MOST_BYTES (length bytes) then Some TooLong else None)
 
 -- the entry of a line's numbers, its count and its number
-abbrev pub entry : List ℕ → Option ℕ → ℕ → Entry
+abbrev pub entry : List ℕ → Option ℕ → ℕ → ListedSet
 entry numbers count line = record { set = rising numbers; count = count; line = line }
 
 -- the count before the first `)` of a tail that is cut there, if it has one
@@ -86,31 +86,31 @@ count_before [] = None
 count_before (count ∷ others) = Some (value_of count)
 
 -- numbers without a count say a set, if there are any
-abbrev pub bare_entry : List ℕ → ℕ → List Entry
+abbrev pub bare_entry : List ℕ → ℕ → List ListedSet
 bare_entry [] line = []
 bare_entry (number ∷ numbers) line = entry (number ∷ numbers) None line ∷ []
 
 -- what a line says that is cut at each `(`, by its number
-abbrev pub entry_of_parts : List (List ℕ) → List ℕ → ℕ → List Entry
+abbrev pub entry_of_parts : List (List ℕ) → List ℕ → ℕ → List ListedSet
 entry_of_parts [] last line = bare_entry (numbers_of last) line
 entry_of_parts (text ∷ others) last line = entry (numbers_of text) (count_before (cut_at is_close last).ended) line ∷ []
 
 -- what a line says, by its number
-abbrev pub entry_of : List ℕ → ℕ → List Entry
+abbrev pub entry_of : List ℕ → ℕ → List ListedSet
 entry_of text line = entry_of_parts (cut_at is_open text).ended (cut_at is_open text).last line
 
 -- what lines say of which the first has this number
-abbrev pub entries_from : ℕ → List (List ℕ) → List Entry
+abbrev pub entries_from : ℕ → List (List ℕ) → List ListedSet
 entries_from line [] = []
 entries_from line (text ∷ texts) = entry_of text line ++ entries_from (line + 1) texts
 
 -- what a good text says
-abbrev pub entries_of : List ℕ → List Entry
+abbrev pub entries_of : List ℕ → List ListedSet
 entries_of text = entries_from 1 (parts_of is_line_feed text)
 
 -- the sets of the entries, with or without their counts
-abbrev pub sets_among : List Entry → List (List ℕ)
-sets_among entries = map (λ (entry : Entry). entry.set) entries
+abbrev pub sets_among : List ListedSet → List (List ℕ)
+sets_among entries = map (λ (entry : ListedSet). entry.set) entries
 
 -- a set with its count before others, or the fault that it has none
 abbrev pub counted_before : List ℕ → Option ℕ → ℕ → Result (List CountedLine) ReadFault → Result (List CountedLine) ReadFault
@@ -119,12 +119,12 @@ counted_before set (Some count) line (Ok later) = Ok (record { set = set; count 
 counted_before set (Some count) line (Err fault) = Err fault
 
 -- the entries with their counts, or the first that has none
-abbrev pub counts_among : List Entry → Result (List CountedLine) ReadFault
+abbrev pub counts_among : List ListedSet → Result (List CountedLine) ReadFault
 counts_among [] = Ok []
 counts_among (entry ∷ entries) = counted_before entry.set entry.count entry.line (counts_among entries)
 
 -- the sets of the entries, or the fault that was found before
-abbrev pub sets_said : Option ReadFault → List Entry → Result (List (List ℕ)) ReadFault
+abbrev pub sets_said : Option ReadFault → List ListedSet → Result (List (List ℕ)) ReadFault
 sets_said (Some fault) entries = Err fault
 sets_said None entries = Ok (sets_among entries)
 
@@ -133,7 +133,7 @@ abbrev pub sets_of_bytes : List ℕ → Result (List (List ℕ)) ReadFault
 sets_of_bytes bytes = sets_said (fault_in bytes) (entries_of (text_of bytes))
 
 -- the entries with their counts, or the fault that was found before
-abbrev pub counts_said : Option ReadFault → List Entry → Result (List CountedLine) ReadFault
+abbrev pub counts_said : Option ReadFault → List ListedSet → Result (List CountedLine) ReadFault
 counts_said (Some fault) entries = Err fault
 counts_said None entries = counts_among entries
 

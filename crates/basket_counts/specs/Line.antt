@@ -6,8 +6,8 @@ use Rattle.basket_read.specs.Cut.{cut_at}
 use Rattle.basket_read.specs.Numbers.{NumbersState, numbers_state, numbers_at, number_ended}
 use Rattle.basket_read.specs.declared.fault.ReadFault.{ReadFault}
 use Rattle.basket_read.specs.declared.fault.ReadFault.TheVariants.{Byte, Number as TooGreat, Count as TooMany}
-use Rattle.basket_counts.specs.declared.entry.Entry.{Entry}
-use Rattle.basket_counts.specs.declared.line.Line.{Line}
+use Rattle.basket_counts.specs.declared.listed_set.ListedSet.{ListedSet}
+use Rattle.basket_counts.specs.declared.line.SetLine.{SetLine}
 use Rattle.basket_counts.specs.declared.tail.Tail.{Tail}
 use Rattle.basket_counts.specs.declared.tail.Tail.TheVariants.{Absent, Opened, Count, Closed}
 use Rattle.basket_counts.specs.Counts.{is_open, is_close, is_tail, is_line, bare_entry, entry}
@@ -17,7 +17,7 @@ pub record LineState : Type 0 where
   pub numbers : NumbersState
   pub tail : Tail
 
-abbrev pub line_state : Line → LineState
+abbrev pub line_state : SetLine → LineState
 line_state line = record { numbers = numbers_state line.numbers; tail = line.tail }
 
 -- what the digits of a count are, behind the `(`
@@ -51,12 +51,12 @@ abbrev pub line_ended : LineState → LineState
 line_ended line = record { numbers = number_ended line.numbers; tail = line.tail }
 
 -- the line that was read is of these bytes, which are a line so far
-pub record IsLineSoFar (line : Line) (bytes : List ℕ) : Type 0 where
+pub record IsLineSoFar (line : SetLine) (bytes : List ℕ) : Type 0 where
   pub good : is_line bytes ≡ true
   pub state : line_state line ≡ line_at bytes
 
 -- the bytes up to the last were taken, or that one can't stand there
-abbrev pub IsTaken : Bool → Line → List ℕ → Type 0
+abbrev pub IsTaken : Bool → SetLine → List ℕ → Type 0
 IsTaken true line bytes = IsLineSoFar line bytes
 IsTaken false line bytes = is_line bytes ≡ false
 
@@ -94,10 +94,10 @@ count_in (Count count) = None
 count_in (Closed count) = Some count
 
 -- what the line says where it ends, by its number
-abbrev pub said_by : Tail → List ℕ → ℕ → List Entry
+abbrev pub said_by : Tail → List ℕ → ℕ → List ListedSet
 said_by tail numbers line = if is_there tail then entry numbers (count_in tail) line ∷ [] else bare_entry numbers line
 
-abbrev pub said_at : LineState → ℕ → List Entry
+abbrev pub said_at : LineState → ℕ → List ListedSet
 said_at state line = said_by state.tail (number_ended state.numbers).ended line
 
 -- the fault of a digit that can't follow

@@ -4,7 +4,7 @@ use Rattle.basket_read.specs.declared.fault.ReadFault.{ReadFault}
 use Rattle.basket_read.specs.declared.fault.ReadFault.TheVariants.{Memory}
 use Rattle.basket_read.specs.Fimi.{text_of}
 use Rattle.basket_read.specs.declared.counted_line.CountedLine.{CountedLine}
-use Rattle.basket_counts.specs.declared.entry.Entry.{Entry}
+use Rattle.basket_counts.specs.declared.listed_set.ListedSet.{ListedSet}
 use Rattle.basket_counts.specs.Counts.{fault_in, entries_of}
 
 -- except if memory is out, the result is the one that is defined
@@ -13,7 +13,7 @@ Answers (Ok list) answer = answer ≡ Ok list.items
 Answers (Err fault) answer = fault ≢ Memory → answer ≡ Err fault
 
 -- except if memory is out, the bytes have no fault and these are their entries, or the fault is theirs
-abbrev pub Says : {A : Type 0} → Result (Vec Entry A) ReadFault → List ℕ → Type 0
+abbrev pub Says : {A : Type 0} → Result (Vec ListedSet A) ReadFault → List ℕ → Type 0
 Says (Ok entries) bytes = (fault_in bytes ≡ None) × (entries.items ≡ entries_of (text_of bytes))
 Says (Err fault) bytes = fault ≢ Memory → fault_in bytes ≡ Some fault
 

@@ -18,12 +18,12 @@ const MARK: [u8; 3] = [0xEF, 0xBB, 0xBF];
 
 /// The first bytes of an input, as many as it may have, and whether it has more.
 #[derive(Debug, Drop)]
-pub struct Input {
+pub struct SetInput {
     pub bytes: Vec<u8>,
     pub is_longer: bool,
 }
 
-impl Input {
+impl SetInput {
     /// Reads what a reader gives.
     pub fn take_in<S: Source>(alloc: Global, reader: &mut S) -> Result<Self, ReadFault>
         requires { S.has_failed reader.old ≡ false }
@@ -48,7 +48,7 @@ fn take_blocks<S: Source>(
     alloc: Global,
     reader: &mut S,
     block: &mut [u8],
-) -> Result<Input, ReadFault>
+) -> Result<SetInput, ReadFault>
     requires fresh { S.has_failed reader.old ≡ false }
     requires some { 0 < length block.old }
     ensures { TakesIn (S.left reader.old) (S.has_failed reader.new) result }
@@ -57,7 +57,7 @@ fn take_blocks<S: Source>(
     'reading: loop {
         match reader.read(block) {
             Ok(0) => {
-                return Ok(Input {
+                return Ok(SetInput {
                     bytes,
                     is_longer: false,
                 });
@@ -66,7 +66,7 @@ fn take_blocks<S: Source>(
                 let room = MAX_BYTES - bytes.len();
                 if count > room {
                     bytes.extend_from_slice(&block[..room])?;
-                    return Ok(Input {
+                    return Ok(SetInput {
                         bytes,
                         is_longer: true,
                     });

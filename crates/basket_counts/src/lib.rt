@@ -1,10 +1,10 @@
 //! A reader of counted sets that returns exactly the sets of a list, or its first fault.
 #![tactic(auto)]
 
-mod entry;
 mod input;
 pub mod laws;
 mod line;
+mod listed_set;
 mod read;
 mod tail;
 mod text;

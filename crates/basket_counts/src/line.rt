@@ -7,18 +7,18 @@ use std::alloc::{AllocError, Global};
 
 /// What has been read of a line: its numbers, and what follows them.
 #[derive(Debug, Drop)]
-pub struct Line {
+pub struct SetLine {
     numbers: Numbers,
     tail: Tail,
 }
 
-impl Line {
+impl SetLine {
     ghost use Rattle.basket_counts.specs.Line.{line_state, line_at, line_ended, IsLineSoFar, IsTaken};
 
     pub fn new(alloc: Global) -> Self
         ensures { line_state result ≡ line_at [] }
     {
-        Line {
+        SetLine {
             numbers: Numbers::new(alloc),
             tail: Tail::Absent,
         }

@@ -5,8 +5,8 @@ ghost use Rattle.basket_read.specs.Fimi.{MOST_BYTES};
 ghost use Rattle.basket_counts.specs.Counts.{sets_of_bytes, counts_of, sets_among, counts_among};
 ghost use Rattle.basket_counts.specs.Read.{Says, Answers};
 
-use crate::entry::Entry;
-use crate::input::Input;
+use crate::input::SetInput;
+use crate::listed_set::ListedSet;
 use crate::text::entries_of;
 use basket_read::{CountedLine, ReadFault};
 use basket_sets::Itemset;
@@ -42,18 +42,18 @@ pub fn read_counts<S: Source>(alloc: Global, reader: &mut S) -> Result<Vec<Count
 }
 
 /// Reads a list to its end.
-fn read_entries<S: Source>(alloc: Global, reader: &mut S) -> Result<Vec<Entry>, ReadFault>
+fn read_entries<S: Source>(alloc: Global, reader: &mut S) -> Result<Vec<ListedSet>, ReadFault>
     requires { S.has_failed reader.old ≡ false }
     ensures exact { S.has_failed reader.new ≡ false → IfSome (S.left reader.old) (λ bytes. Says result bytes) }
     ensures failed { S.has_failed reader.new ≡ true → result ≡ Err Read }
     ensures read_is_failed { result ≡ Err Read → S.has_failed reader.new ≡ true }
 {
-    let input = Input::take_in(alloc, reader)?;
+    let input = SetInput::take_in(alloc, reader)?;
     entries_in(alloc, &input)
 }
 
 /// What the bytes of an input say, or their first fault.
-fn entries_in(alloc: Global, input: &Input) -> Result<Vec<Entry>, ReadFault>
+fn entries_in(alloc: Global, input: &SetInput) -> Result<Vec<ListedSet>, ReadFault>
     requires { length input.now.bytes.items ≤ MOST_BYTES }
     ensures says { (all : List ℕ) → input.now.bytes.items ≡ take MOST_BYTES all → input.now.is_longer ≡ nat_lt MOST_BYTES (length all) → Says result all }
     ensures not_read { result ≢ Err Read }
@@ -66,7 +66,7 @@ fn entries_in(alloc: Global, input: &Input) -> Result<Vec<Entry>, ReadFault>
 }
 
 /// The sets of the entries.
-fn sets_among(alloc: Global, entries: Vec<Entry>) -> Result<Vec<Itemset>, ReadFault>
+fn sets_among(alloc: Global, entries: Vec<ListedSet>) -> Result<Vec<Itemset>, ReadFault>
     ensures answers { Answers result (Ok (sets_among entries.items)) }
     ensures not_read { result ≢ Err Read }
 {
@@ -78,7 +78,7 @@ fn sets_among(alloc: Global, entries: Vec<Entry>) -> Result<Vec<Itemset>, ReadFa
 }
 
 /// The entries with their counts, or the first that has none.
-fn counts_among(alloc: Global, entries: Vec<Entry>) -> Result<Vec<CountedLine>, ReadFault>
+fn counts_among(alloc: Global, entries: Vec<ListedSet>) -> Result<Vec<CountedLine>, ReadFault>
     ensures answers { Answers result (counts_among entries.items) }
     ensures not_read { result ≢ Err Read }
 {

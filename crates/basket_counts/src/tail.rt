@@ -1,7 +1,7 @@
 ghost use Rattle.std.specs.Prelude.{◌≡◌, ◌<◌, List, ℕ, true};
 ghost use Rattle.basket_counts.specs.Counts.{is_tail};
 
-use basket_read::{Class, ReadFault, class_of};
+use basket_read::{ByteClass, ReadFault, class_of};
 
 /// The greatest count.
 const MAX_COUNT: u64 = 1_099_511_627_775;
@@ -27,10 +27,10 @@ impl Tail {
         ensures { (tail : List ℕ) → is_tail tail ≡ true → self ≡ tail_at tail → result ≡ tail_with tail byte }
     {
         match class_of(byte) {
-            Class::Digit(digit) => self.with_digit(digit),
-            Class::Blank => self.with_blank(),
-            Class::Other if byte == b')' => self.closed(),
-            Class::Other => None,
+            ByteClass::Digit(digit) => self.with_digit(digit),
+            ByteClass::Blank => self.with_blank(),
+            ByteClass::Other if byte == b')' => self.closed(),
+            ByteClass::Other => None,
         }
     }
 

@@ -7,30 +7,30 @@ ghost use Rattle.basket_counts.specs.Counts.{first_fault, entries_of};
 ghost use Rattle.basket_counts.specs.Line.{line_state, line_at, said_at, digit_fault_in};
 ghost use Rattle.basket_counts.specs.Text.{IsTextSoFar};
 
-use crate::entry::Entry;
-use crate::line::Line;
+use crate::line::SetLine;
+use crate::listed_set::ListedSet;
 use basket_read::ReadFault;
 use basket_sets::Itemset;
 use std::alloc::{AllocError, Global};
 
 /// What has been read of a text: how many lines have ended, what they say, and the line after them.
 #[derive(Debug, Drop)]
-pub struct Text {
+pub struct SetText {
     alloc: Global,
     ended: u32,
-    entries: Vec<Entry>,
-    line: Line,
+    entries: Vec<ListedSet>,
+    line: SetLine,
 }
 
-impl Text {
+impl SetText {
     fn new(alloc: Global) -> Self
         ensures { IsTextSoFar result [] }
     {
-        Text {
+        SetText {
             alloc,
             ended: 0,
             entries: Vec::new(alloc),
-            line: Line::new(alloc),
+            line: SetLine::new(alloc),
         }
     }
 
@@ -77,7 +77,7 @@ impl Text {
         let tail = self.line.tail();
         if tail.is_there() || !numbers.is_empty() {
             let set = Itemset::from_items(self.alloc, numbers)?;
-            self.entries.push(Entry {
+            self.entries.push(ListedSet {
                 set,
                 count: tail.count(),
                 line: self.ended + 1,
@@ -89,11 +89,11 @@ impl Text {
 }
 
 /// What a text says, or its first fault.
-pub fn entries_of(alloc: Global, bytes: &[u8]) -> Result<Vec<Entry>, ReadFault>
+pub fn entries_of(alloc: Global, bytes: &[u8]) -> Result<Vec<ListedSet>, ReadFault>
     requires { length bytes.now ≤ MOST_BYTES }
     ensures { MatchResult result (λ entries. (first_fault bytes.now ≡ None) × (entries.items ≡ entries_of bytes.now)) (λ fault. Tells fault (first_fault bytes.now)) }
 {
-    let mut text = Text::new(alloc);
+    let mut text = SetText::new(alloc);
     let mut taken = 0;
     loop {
         taken += text.line.take_run(&bytes[taken..])?;

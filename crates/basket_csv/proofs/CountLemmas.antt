@@ -10,7 +10,7 @@ use Rattle.basket_read.specs.declared.fault.ReadFault.{ReadFault}
 use Rattle.basket_read.specs.declared.fault.ReadFault.TheVariants.{Read, NotText}
 use Rattle.basket_read.specs.Text.{Tells}
 use Rattle.basket_csv.specs.declared.counts.Counts.{Counts}
-use Rattle.basket_csv.specs.Collector.{Start}
+use Rattle.basket_csv.specs.RecordCollector.{Start}
 use Rattle.basket_csv.specs.Counts.{HasCounts, NamedCounts, count_of, count_fault, set_fault, line_of, lines_from, counts_if_faultless, say_counts}
 use Rattle.basket_csv.specs.Csv.{field_in, is_text, names_of, names_in, all_names, fault_from}
 use Rattle.basket_csv.specs.Names.{with_name, in_order, number_in}

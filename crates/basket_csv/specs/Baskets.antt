@@ -1,9 +1,9 @@
 -- What has been read of records that have a basket each.
 use Rattle.std.specs.Prelude.{◌≡◌, ℕ, List, ◌++◌}
 use Rattle.basket_csv.specs.declared.baskets.Baskets.{Baskets}
-use Rattle.basket_csv.specs.Collector.{Start}
+use Rattle.basket_csv.specs.RecordCollector.{Start}
 use Rattle.basket_csv.specs.Csv.{all_names, baskets_in}
-use Rattle.basket_csv.specs.Gathered.{HasGathered}
+use Rattle.basket_csv.specs.GatheredBaskets.{HasGathered}
 use Rattle.basket_csv.specs.Names.{in_order}
 
 -- the names and the baskets are those of these records

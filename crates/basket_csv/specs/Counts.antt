@@ -8,7 +8,7 @@ use Rattle.basket_read.specs.declared.fault.ReadFault.{ReadFault}
 use Rattle.basket_read.specs.declared.fault.ReadFault.TheVariants.{TooLong, NotText, RecordCount}
 use Rattle.basket_read.specs.Fimi.{MOST_BYTES}
 use Rattle.basket_csv.specs.declared.counts.Counts.{Counts}
-use Rattle.basket_csv.specs.Collector.{Start}
+use Rattle.basket_csv.specs.RecordCollector.{Start}
 use Rattle.basket_csv.specs.Csv.{field_in, is_text, behind_header, first_number, fault_from, names_of, all_names}
 use Rattle.basket_csv.specs.Field.{trimmed}
 use Rattle.basket_csv.specs.Names.{in_order, number_in}

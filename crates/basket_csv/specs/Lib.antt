@@ -6,8 +6,8 @@ pub mod Records
 pub mod Csv
 pub mod Row
 pub mod Input
-pub mod Gathered
-pub mod Collector
+pub mod GatheredBaskets
+pub mod RecordCollector
 pub mod Baskets
 pub mod Counts
 pub mod Read

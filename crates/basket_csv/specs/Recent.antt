@@ -4,7 +4,7 @@ use Rattle.std.specs.List.{All}
 use Rattle.basket_csv.specs.declared.key.Key.{Key}
 use Rattle.basket_csv.specs.declared.key.TheConstants.{WHOLE}
 use Rattle.basket_csv.specs.declared.recent.Recent.{Recent}
-use Rattle.basket_csv.specs.declared.recent.Slot.{Slot}
+use Rattle.basket_csv.specs.declared.recent.RecentName.{RecentName}
 use Rattle.basket_csv.specs.Key.{name_with}
 use Rattle.basket_csv.specs.Names.{IsKnown}
 
@@ -13,7 +13,7 @@ abbrev pub IsNumberAt : List (List ℕ) → Key → ℕ → Type 0
 IsNumberAt names key number = key.len ≤ WHOLE → IsKnown names (name_with key.len key.front key.back) number
 
 -- so is the name in a slot, if it has one
-abbrev pub HasKnown : List (List ℕ) → Slot → Type 0
+abbrev pub HasKnown : List (List ℕ) → RecentName → Type 0
 HasKnown names slot = slot.len ≤ WHOLE → IsKnown names (name_with slot.len slot.front slot.back) slot.number
 
 -- the names that are kept are among the names, with their numbers

@@ -2,17 +2,17 @@
 ghost use Rattle.std.specs.Prelude.{◌≡◌, ◌≤◌, List, ℕ, [], ◌++◌, length, drop, MatchResult, IfOk, IfErr, IfSome, false};
 ghost use Rattle.csv.specs.Records.{fields_of};
 ghost use Rattle.basket_read.specs.Fimi.{if_light, MOST_BYTES};
-ghost use Rattle.basket_csv.specs.Collector.{Start};
+ghost use Rattle.basket_csv.specs.RecordCollector.{Start};
 ghost use Rattle.basket_csv.specs.Csv.{is_text, weight_of, fields_before, basket_fault, baskets_in, all_names, with_names, say_baskets, behind_header, first_number};
 ghost use Rattle.basket_csv.specs.Names.{in_order};
 ghost use Rattle.basket_csv.specs.Read.{Answers};
 ghost use Rattle.basket_csv.specs.Records.{records_of};
 ghost use Rattle.basket_csv.specs.Baskets.{HasRead};
 
-use crate::collector::{Collector, add_all};
+use crate::collector::{RecordCollector, add_all};
 use crate::dialect::Dialect;
 use crate::field::trim;
-use crate::gathered::Gathered;
+use crate::gathered::GatheredBaskets;
 use crate::names::{Names, Numbering};
 use crate::row::{number_names, text_at};
 use crate::weight::weight_in;
@@ -43,12 +43,12 @@ fn weight_of(weighted: bool, nth: u32, row: &ByteRecord) -> Result<Option<u32>, 
 pub struct Baskets<S: BuildHasher> {
     weighted: bool,
     names: Numbering<S>,
-    gathered: Gathered,
+    gathered: GatheredBaskets,
     /// The numbers of the names of one record.
     numbers: Vec<u32>,
 }
 
-impl<S: BuildHasher> Collector for Baskets<S> {
+impl<S: BuildHasher> RecordCollector for Baskets<S> {
     ghost fault_of = { λ start. basket_fault start.weighted };
 
     ghost has_read = { λ baskets start rows. HasRead baskets start rows };
@@ -75,7 +75,7 @@ impl<S: BuildHasher + Drop> Baskets<S> {
         Ok(Baskets {
             weighted,
             names: Numbering::of(alloc, hasher, known)?,
-            gathered: Gathered::new(alloc),
+            gathered: GatheredBaskets::new(alloc),
             numbers: Vec::new(alloc),
         })
     }

@@ -4,7 +4,7 @@ ghost use Rattle.csv.specs.Records.{fields_of};
 ghost use Rattle.basket_read.specs.declared.fault.ReadFault.{ReadFault};
 ghost use Rattle.basket_read.specs.Fimi.{MOST_BYTES};
 ghost use Rattle.basket_read.specs.Text.{Tells};
-ghost use Rattle.basket_csv.specs.Collector.{Start};
+ghost use Rattle.basket_csv.specs.RecordCollector.{Start};
 ghost use Rattle.basket_csv.specs.Csv.{fault_from, behind_header, first_number};
 ghost use Rattle.basket_csv.specs.Records.{MOST_RECORDS, records_of, records_left, records_taken, IsReading};
 
@@ -16,7 +16,7 @@ use std::alloc::Global;
 
 /// What records are added to. After a faulty record, or if memory runs out, all that was added is
 /// lost.
-pub trait Collector {
+pub trait RecordCollector {
     // The fault of a record with this number.
     ghost fault_of: { Start → ℕ → List (List ℕ) → Option ReadFault };
 
@@ -34,7 +34,7 @@ pub trait Collector {
 }
 
 /// Adds all records of the bytes except the header, up to the first with a fault.
-pub fn add_all<C: Collector>(
+pub fn add_all<C: RecordCollector>(
     alloc: Global,
     bytes: &[u8],
     dialect: Dialect,
@@ -56,7 +56,10 @@ pub fn add_all<C: Collector>(
 }
 
 /// Adds the records that are left, up to the first with a fault.
-fn add_left<C: Collector>(collector: &mut C, records: &mut Records<'_>) -> Result<(), ReadFault>
+fn add_left<C: RecordCollector>(
+    collector: &mut C,
+    records: &mut Records<'_>,
+) -> Result<(), ReadFault>
     requires reading { IsReading records.old }
     requires read { (start : Start) × (rows : List (List (List ℕ))) × (start.first + length rows ≡ records_taken records.old + 1) × C.has_read collector.old start rows }
     ensures fault { (start : Start) (rows : List (List (List ℕ))) → start.first + length rows ≡ records_taken records.old + 1 → C.has_read collector.old start rows →

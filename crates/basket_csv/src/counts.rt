@@ -1,14 +1,14 @@
 //! Records that have a set of names and its count each.
 ghost use Rattle.std.specs.Prelude.{◌≡◌, ◌≤◌, List, ℕ, [], ◌++◌, length, true, Ok, IfOk, IfErr};
 ghost use Rattle.basket_read.specs.Fimi.{MOST_BYTES};
-ghost use Rattle.basket_csv.specs.Collector.{Start};
+ghost use Rattle.basket_csv.specs.RecordCollector.{Start};
 ghost use Rattle.basket_csv.specs.Counts.{HasCounts, set_fault, lines_from, say_counts};
 ghost use Rattle.basket_csv.specs.Csv.{all_names, behind_header, first_number};
 ghost use Rattle.basket_csv.specs.Names.{in_order};
 ghost use Rattle.basket_csv.specs.Read.{AnswersCounts};
 ghost use Rattle.basket_csv.specs.Records.{records_of};
 
-use crate::collector::{Collector, add_all};
+use crate::collector::{RecordCollector, add_all};
 use crate::dialect::Dialect;
 use crate::field::trim;
 use crate::names::{Names, Numbering};
@@ -32,7 +32,7 @@ pub struct Counts<S: BuildHasher> {
     numbers: Vec<u32>,
 }
 
-impl<S: BuildHasher> Collector for Counts<S> {
+impl<S: BuildHasher> RecordCollector for Counts<S> {
     ghost fault_of = { λ start. set_fault };
 
     ghost has_read = { λ counts start rows. HasCounts counts start rows };

@@ -4,7 +4,7 @@ ghost use Rattle.basket_sets.specs.Database.{MOST_BASKETS};
 ghost use Rattle.basket_sets.specs.declared.weighted.Weighted.{Weighted};
 ghost use Rattle.basket_read.specs.Fimi.{basket_of_numbers, if_light};
 ghost use Rattle.basket_read.specs.Text.{Answers};
-ghost use Rattle.basket_csv.specs.Gathered.{HasGathered};
+ghost use Rattle.basket_csv.specs.GatheredBaskets.{HasGathered};
 
 use basket_read::ReadFault;
 use basket_sets::{Database, Itemset};
@@ -12,18 +12,18 @@ use std::alloc::Global;
 
 /// The baskets so far. If one can't be added, all are lost.
 #[derive(Drop)]
-pub struct Gathered {
+pub struct GatheredBaskets {
     alloc: Global,
     baskets: Database,
     /// Whether they weigh too much for a database, which then has not all of them.
     heavy: bool,
 }
 
-impl Gathered {
+impl GatheredBaskets {
     pub fn new(alloc: Global) -> Self
         ensures { HasGathered result [] }
     {
-        Gathered {
+        GatheredBaskets {
             alloc,
             baskets: Database::new(alloc),
             heavy: false,
@@ -58,7 +58,7 @@ impl Gathered {
     pub fn finish(self) -> Result<Database, ReadFault>
         ensures { (baskets : List Weighted) → HasGathered self baskets → result ≡ if_light baskets }
     {
-        let Gathered { baskets, heavy, .. } = self;
+        let GatheredBaskets { baskets, heavy, .. } = self;
         if heavy {
             Err(ReadFault::Heavy)
         } else {

@@ -5,7 +5,7 @@ ghost use Rattle.basket_csv.specs.Names.{number_in, with_name, IsKnown};
 
 use crate::key::Key;
 use crate::names::Numbering;
-use crate::recent::{FREE, Slot};
+use crate::recent::{FREE, RecentName};
 use basket_read::ReadFault;
 use std::alloc::Global;
 use std::hash::BuildHasher;
@@ -16,7 +16,7 @@ use std::marker::Model;
 pub struct Ids<S: BuildHasher> {
     numbering: Numbering<S>,
     /// The id that was numbered last, which most records have again.
-    last: Slot,
+    last: RecentName,
 }
 
 impl<S: BuildHasher> Model for Ids<S> {
@@ -73,7 +73,7 @@ impl<S: BuildHasher> Ids<S> {
         }
         self.last = FREE;
         let number = self.numbering.number(id)?;
-        self.last = Slot::new(&key, number);
+        self.last = RecentName::new(&key, number);
         Ok(number)
     }
 }

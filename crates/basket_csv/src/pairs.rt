@@ -5,16 +5,16 @@ ghost use Rattle.csv.specs.Records.{fields_of};
 ghost use Rattle.basket_read.specs.Fimi.{basket_of_numbers, if_light, MOST_BYTES};
 ghost use Rattle.basket_sets.specs.Database.{MOST_BASKETS};
 ghost use Rattle.basket_csv.specs.Csv.{pair_fault, pairs_of, baskets_of_pairs, names_of_pairs, with_names, say_pairs, behind_header, first_number};
-ghost use Rattle.basket_csv.specs.Gathered.{HasGathered};
+ghost use Rattle.basket_csv.specs.GatheredBaskets.{HasGathered};
 ghost use Rattle.basket_csv.specs.Read.{Answers};
 ghost use Rattle.basket_csv.specs.Records.{records_of};
 ghost use Rattle.basket_csv.specs.Row.{IsKnownPair};
 ghost use Rattle.basket_csv.specs.Pairs.{HasPairs, added_at};
 
-use crate::collector::{Collector, add_all};
+use crate::collector::{RecordCollector, add_all};
 use crate::dialect::Dialect;
 use crate::field::{is_name, trim};
-use crate::gathered::Gathered;
+use crate::gathered::GatheredBaskets;
 use crate::ids::Ids;
 use crate::names::{Names, Numbering};
 use crate::row::{is_text_from, known_number, text_at};
@@ -48,12 +48,12 @@ fn add_number(
 }
 
 /// The baskets of groups of numbers, each of weight 1.
-fn gathered_from(alloc: Global, groups: &[Group]) -> Result<Gathered, ReadFault>
+fn gathered_from(alloc: Global, groups: &[Group]) -> Result<GatheredBaskets, ReadFault>
     requires few { length groups.now ≤ MOST_BASKETS }
     ensures baskets { IfOk result (λ gathered. HasGathered gathered (flat_map (λ group. basket_of_numbers group.items 1) groups.now)) }
     ensures err { IfErr result (λ fault. fault ≡ ReadFault.Memory) }
 {
-    let mut gathered = Gathered::new(alloc);
+    let mut gathered = GatheredBaskets::new(alloc);
     for group in groups {
         gathered.add(group, 1)?;
     }
@@ -113,7 +113,7 @@ impl<S: BuildHasher> Pairs<S> {
     }
 }
 
-impl<S: BuildHasher> Collector for Pairs<S> {
+impl<S: BuildHasher> RecordCollector for Pairs<S> {
     ghost fault_of = { λ start. pair_fault };
 
     ghost has_read = { λ pairs start rows. HasPairs pairs start.known (pairs_of rows) };

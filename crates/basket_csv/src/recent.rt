@@ -12,7 +12,7 @@ const MOST: usize = 262_144;
 
 /// A name that was found: its key and its number.
 #[derive(Clone, Copy)]
-pub struct Slot {
+pub struct RecentName {
     front: u64,
     back: u64,
     len: u32,
@@ -20,19 +20,19 @@ pub struct Slot {
 }
 
 /// A slot without a name. Whoever finds it compares the names, as for a long one.
-pub const FREE: Slot = Slot {
+pub const FREE: RecentName = RecentName {
     front: 0,
     back: 0,
     len: LONG,
     number: 0,
 };
 
-impl Slot {
+impl RecentName {
     #[inline]
     pub fn new(key: &Key, number: u32) -> Self
         ensures { result ≡ record { front = key.now.front; back = key.now.back; len = key.now.len; number = number } }
     {
-        Slot {
+        RecentName {
             front: key.front,
             back: key.back,
             len: key.len,
@@ -52,8 +52,8 @@ impl Slot {
 /// The two names of some hashes that were found last.
 #[derive(Clone, Copy)]
 struct Bucket {
-    newer: Slot,
-    older: Slot,
+    newer: RecentName,
+    older: RecentName,
 }
 
 /// The numbers of names that were found recently. The lower bits of a name's hash are its bucket.
@@ -99,7 +99,7 @@ impl Recent {
         let place = hash_of(name) as usize & self.mask;
         if let Some(bucket) = self.buckets.get_mut(place) {
             *bucket = Bucket {
-                newer: Slot::new(key, number),
+                newer: RecentName::new(key, number),
                 older: bucket.newer,
             };
         }

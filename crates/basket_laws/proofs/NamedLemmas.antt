@@ -3,7 +3,7 @@ use Rattle.std.proofs.Common.{◌≢◌, ◌≤◌, ◌∙◌, ℕ, [], ◌∷�
 use Rattle.basket.specs.declared.contents.Contents.TheVariants as contents
 use Rattle.basket.specs.Outcome.{outcome_for}
 use Rattle.basket_csv.specs.Csv.{baskets_in}
-use Rattle.basket_parts.specs.Laws.{TogetherKeepsCounts, TogetherKeepsFrequent, TogetherKeepsSets}
+use Rattle.basket_parts.specs.Laws.{CombiningKeepsCounts, CombiningKeepsFrequent, CombiningKeepsSets}
 use Rattle.basket_sets.specs.declared.weighted.Weighted.{Weighted}
 use Rattle.basket_sets.specs.Database.{MOST_WEIGHT}
 use Rattle.basket_sets.specs.Support.{total_of}
@@ -15,7 +15,7 @@ some_named : (parts : List (List (List (List ℕ)))) (say : List (List (List ℕ
 some_named [] say some = absurd (some refl)
 some_named (rows ∷ parts) say some = λ e. cc
 
-pub named_parts_answer_as_the_whole : TogetherKeepsSets → TogetherKeepsCounts → TogetherKeepsFrequent → NamedPartsAnswerAsTheWhole
+pub named_parts_answer_as_the_whole : CombiningKeepsSets → CombiningKeepsCounts → CombiningKeepsFrequent → NamedPartsAnswerAsTheWhole
 named_parts_answer_as_the_whole keeps_sets keeps_counts keeps_frequent weighted parts share sets lines bytes question some light rise have said read =
     let names = names_of_parts weighted parts in
     let whole = named_parts_are_parts weighted parts in

@@ -5,7 +5,7 @@ use Rattle.std.specs.List.{Contains, list_any}
 use Rattle.std.proofs.lemmas.Bool.Decides.{nat_tests}
 use Rattle.std.proofs.lemmas.List.Elements.{recursion_from_All}
 use Rattle.basket.specs.Counted.{gap_in, listing_in, needs_subsets, needs_total, unless_fault}
-use Rattle.basket.specs.Contents.{by_names, by_numbers, named_together_of, where_read, with_names, wording_with}
+use Rattle.basket.specs.Contents.{by_names, by_numbers, named_combined_of, where_read, with_names, wording_with}
 use Rattle.basket.specs.declared.contents.Contents.TheVariants as contents
 use Rattle.basket.specs.Outcome.{report_of_listing, report_of_baskets, of_listing, of_mining, outcome, outcome_for, outcome_of}
 use Rattle.basket_core.specs.declared.fault.MineFault.TheVariants.{TooMany}
@@ -14,8 +14,8 @@ use Rattle.basket_counts.specs.Counts.{counts_of}
 use Rattle.basket_counts.specs.Laws.{lines_from}
 use Rattle.basket_csv.specs.Counts.{named_counts_of}
 use Rattle.basket_parts.specs.Gap.{first_gap, has_gap, is_gap}
-use Rattle.basket_parts.specs.Laws.{TogetherKeepsCounts, TogetherKeepsFrequent, TogetherKeepsSets}
-use Rattle.basket_parts.specs.Together.{count_if, count_in, frequent_in, has_set, is_heavy, line_for, sets_of, together, together_of, total_in}
+use Rattle.basket_parts.specs.Laws.{CombiningKeepsCounts, CombiningKeepsFrequent, CombiningKeepsSets}
+use Rattle.basket_parts.specs.CombinedCounts.{count_if, count_in, frequent_in, has_set, is_heavy, line_for, sets_of, combined, combined_of, total_in}
 use Rattle.basket_plan.specs.declared.plan.Ask.{Ask}
 use Rattle.basket_plan.specs.declared.plan.Ask.TheVariants.{Items, Sets, Closed, Maximal, Rules}
 use Rattle.basket_plan.specs.Plan.{Question}
@@ -78,7 +78,7 @@ module _ (whole : List Weighted) (question : Question) where
 -- ---- counts of parts
 
 module _
-    (keeps_sets : TogetherKeepsSets) (keeps_counts : TogetherKeepsCounts) (keeps_frequent : TogetherKeepsFrequent)
+    (keeps_sets : CombiningKeepsSets) (keeps_counts : CombiningKeepsCounts) (keeps_frequent : CombiningKeepsFrequent)
     (parts : List (List Weighted)) (share : ℕ × ℕ) (sets : List (List ℕ)) (lines : List CountedLine)
     (rise : All IsRising sets)
     (listed : (set : List ℕ) → IsNonemptySet set → IsTrue (is_frequent_in_some parts (Share share) set) → Contains sets set)
@@ -97,7 +97,7 @@ module _
       go [] some = absurd (some refl)
       go (part ∷ parts) some = has_in_parts part parts sets set there
 
-  count_together : (set : List ℕ) → any set (asked_of sets) ≡ true → count_if (together lines) set ≡ Some (support_of whole set)
+  count_together : (set : List ℕ) → any set (asked_of sets) ≡ true → count_if (combined lines) set ≡ Some (support_of whole set)
   count_together set there =
       ap₂ (λ b n. cond b (Some n) None) (keeps_sets lines set ∙ in_lines set there) (keeps_counts lines set ∙ count_of_asked parts share sets lines rise listed said set there)
 
@@ -108,22 +108,22 @@ module _
       go true = support_falls whole set [] refl
       go false = omega arith
 
-  not_heavy : together_of lines ≡ Ok (together lines)
+  not_heavy : combined_of lines ≡ Ok (combined lines)
   not_heavy =
-      let none = none_any is_heavy (together lines) (λ line m.
+      let none = none_any is_heavy (combined lines) (λ line m.
       let p = Member-from_map (line_for lines) line (sets_of lines) m in
       subst (λ (l : CountedLine). is_heavy l ≡ false) p.2 (not_below MOST_WEIGHT (count_in lines p.0) (let most = at_most_all p.0 in omega (arith, most, light)))) in
-      ap (λ b. cond b (Err Heavy) (Ok (together lines))) none
+      ap (λ b. cond b (Err Heavy) (Ok (combined lines))) none
 
   -- no set has a gap
-  no_gap : (c : Counted) → Member c (frequent_of whole minimum) → has_gap (together lines) c.set ≡ false
+  no_gap : (c : Counted) → Member c (frequent_of whole minimum) → has_gap (combined lines) c.set ≡ false
   no_gap c m =
       let sound = at_Member (IsSound whole minimum) c (frequent_of whole minimum) (recursion_from_All (IsSound whole minimum) (frequent_of whole minimum) (lists_frequent whole minimum).sound) m in
       let set = c.set in
       let nonempty = sound.0 in
       let met = sound.1 in
       let count = keeps_counts lines set ∙ count_of_asked parts share sets lines rise listed said set (frequent_is_asked parts share sets lines rise listed said set nonempty met) in
-      none_any (λ subset. is_gap (count_in (together lines) set) subset (count_if (together lines) subset)) (subsets_of_size (length set - 1) set) (λ subset inside.
+      none_any (λ subset. is_gap (count_in (combined lines) set) subset (count_if (combined lines) subset)) (subsets_of_size (length set - 1) set) (λ subset inside.
       let s = IsSubset-from_Member (length set - 1) set subset nonempty.0 inside in
       let within = contains_each set subset s.within in
       let there = asked_subset subset s.rises (λ full. (frequent_is_asked parts share sets lines rise listed said subset (s.rises, full) (subsets_are_frequent whole minimum set subset within met))) in
@@ -133,43 +133,43 @@ module _
       asked_subset [] up h = any_asked [] sets
       asked_subset (item ∷ items) up h = h (λ e. cc)
 
-  same_sets : frequent_in (together lines) minimum ≡ frequent_of whole minimum
+  same_sets : frequent_in (combined lines) minimum ≡ frequent_of whole minimum
   same_sets = keeps_frequent lines minimum ∙ same_list parts share sets lines rise listed said
 
-  whole_lines : first_gap (together lines) minimum ≡ None
+  whole_lines : first_gap (combined lines) minimum ≡ None
   whole_lines =
-      ap (option_map _) (none_found (λ (c : Counted). has_gap (together lines) c.set) (frequent_in (together lines) minimum)
+      ap (option_map _) (none_found (λ (c : Counted). has_gap (combined lines) c.set) (frequent_in (combined lines) minimum)
       (λ c m. no_gap c (subst (Member c) same_sets m)))
 
-  same_total : total_in (together lines) ≡ total_of whole
+  same_total : total_in (combined lines) ≡ total_of whole
   same_total = keeps_counts lines [] ∙ total_is parts share sets lines rise listed said
 
   module _ (question : Question) where
     abbrev asked : Question
     asked = of_counts_at question share
 
-    same_listing : listing_in asked (together lines) ≡ Ok (listing whole asked)
+    same_listing : listing_in asked (combined lines) ≡ Ok (listing whole asked)
     same_listing =
-        let there : has_set (together lines) [] ≡ true = keeps_sets lines [] ∙ in_lines [] (any_asked [] sets) in
-        ap (λ b. cond (needs_total question.ask minimum && not b) (Err NoTotal) (unless_fault (gap_in asked (together lines)) (record { sets = frequent_in (together lines) minimum; total = total_in (together lines) }))) there
+        let there : has_set (combined lines) [] ≡ true = keeps_sets lines [] ∙ in_lines [] (any_asked [] sets) in
+        ap (λ b. cond (needs_total question.ask minimum && not b) (Err NoTotal) (unless_fault (gap_in asked (combined lines)) (record { sets = frequent_in (combined lines) minimum; total = total_in (combined lines) }))) there
         ∙ no_total (needs_total question.ask minimum)
         ∙ (λ i. unless_fault (none i) (record { sets = same_sets i; total = same_total i }))
       where
-        no_total : (b : Bool) → cond (b && false) (Err NoTotal) (unless_fault (gap_in asked (together lines)) (record { sets = frequent_in (together lines) minimum; total = total_in (together lines) }))
-            ≡ unless_fault (gap_in asked (together lines)) (record { sets = frequent_in (together lines) minimum; total = total_in (together lines) })
+        no_total : (b : Bool) → cond (b && false) (Err NoTotal) (unless_fault (gap_in asked (combined lines)) (record { sets = frequent_in (combined lines) minimum; total = total_in (combined lines) }))
+            ≡ unless_fault (gap_in asked (combined lines)) (record { sets = frequent_in (combined lines) minimum; total = total_in (combined lines) })
         no_total true = refl
         no_total false = refl
 
-        none_where : (b : Bool) → cond b (first_gap (together lines) minimum) None ≡ None
+        none_where : (b : Bool) → cond b (first_gap (combined lines) minimum) None ≡ None
         none_where true = whole_lines
         none_where false = refl
 
-        none : gap_in asked (together lines) ≡ None
+        none : gap_in asked (combined lines) ≡ None
         none = none_where (needs_subsets question.ask)
 
     answers : (bytes : List ℕ) → counts_of bytes ≡ Ok lines → outcome bytes asked ≡ outcome_for (contents.Baskets whole None) asked
     answers bytes read =
-        ap (λ r. outcome_of (by_numbers contents.Counts (where_read together_of r)) asked) read
+        ap (λ r. outcome_of (by_numbers contents.Counts (where_read combined_of r)) asked) read
         ∙ ap (λ r. outcome_of (by_numbers contents.Counts r) asked) not_heavy
         ∙ ap (λ r. of_listing r None asked) same_listing
         ∙ ap of_mining (same_text whole asked None question.ask refl)
@@ -181,12 +181,12 @@ module _
     pub answers_by_names : (names : List (List ℕ)) (bytes : List ℕ) → named_counts_of question.layout.separator question.layout.header [] bytes ≡ Ok (lines, names)
         → outcome bytes asked_by_names ≡ outcome_for (contents.Baskets whole (Some names)) asked_by_names
     answers_by_names names bytes read =
-        ap (λ r. outcome_of (by_names contents.Counts (where_read named_together_of r)) asked_by_names) read
+        ap (λ r. outcome_of (by_names contents.Counts (where_read named_combined_of r)) asked_by_names) read
         ∙ ap (λ r. outcome_of (by_names contents.Counts (with_names names r)) asked_by_names) not_heavy
         ∙ ap (λ r. of_listing r (Some names) asked_by_names) same_listing
         ∙ ap of_mining (same_text whole asked_by_names (Some names) question.ask refl)
 
-pub parts_answer_as_the_whole : TogetherKeepsSets → TogetherKeepsCounts → TogetherKeepsFrequent → PartsAnswerAsTheWhole
+pub parts_answer_as_the_whole : CombiningKeepsSets → CombiningKeepsCounts → CombiningKeepsFrequent → PartsAnswerAsTheWhole
 parts_answer_as_the_whole keeps_sets keeps_counts keeps_frequent parts share sets question some light rise listed written few =
     let list = counts_of_parts parts sets in
     let same = texts_are parts sets in

@@ -7,7 +7,7 @@ use Rattle.std.proofs.lemmas.Bool.{false≢true}
 use Rattle.std.proofs.lemmas.Bool.Decides.{nat_tests}
 use Rattle.std.proofs.lemmas.List.Elements.{All-from_recursion, recursion_from_All}
 use Rattle.std.proofs.lemmas.List.Kept.{IsStrictlySortedBy-filter}
-use Rattle.basket_parts.specs.Together.{count_in, counted_in, frequent_in, has_set, is_frequent_in, sets_of, total_in}
+use Rattle.basket_parts.specs.CombinedCounts.{count_in, counted_in, frequent_in, has_set, is_frequent_in, sets_of, total_in}
 use Rattle.basket_parts.proofs.theory.Sets.{has_from_sets, sets-in_order, sets_from_has}
 use Rattle.basket_read.specs.declared.counted_line.CountedLine.{CountedLine}
 use Rattle.basket_sets.specs.declared.counted.Counted.{Counted}

@@ -7,7 +7,7 @@ use Rattle.basket.specs.Contents.{by_numbers, where_read, with_names}
 use Rattle.basket.specs.Count.{count_outcome, of_asked, of_contents}
 use Rattle.basket.specs.Outcome.{outcome, outcome_for, outcome_of}
 use Rattle.basket_counts.specs.Counts.{sets_of_bytes}
-use Rattle.basket_parts.specs.Laws.{TogetherKeepsCounts, TogetherKeepsFrequent, TogetherKeepsSets}
+use Rattle.basket_parts.specs.Laws.{CombiningKeepsCounts, CombiningKeepsFrequent, CombiningKeepsSets}
 use Rattle.basket_plan.specs.declared.layout.Form.TheVariants.{Fimi}
 use Rattle.basket_plan.specs.declared.layout.Layout.{Layout}
 use Rattle.basket_read.specs.Fimi.{MOST_BYTES, fault_at, fimi_of, is_good}
@@ -63,7 +63,7 @@ some_parts [] last [] said none = cc
 some_parts (front ∷ fronts) last [] said none = cc
 some_parts fronts last (part ∷ parts) said none = cc
 
-pub runs_over_parts_agree : FrontsAreGood is_good → GoodIsFaultless is_good fault_at → LinesSayTheirs → TogetherKeepsSets → TogetherKeepsCounts → TogetherKeepsFrequent → RunsOverPartsAgree
+pub runs_over_parts_agree : FrontsAreGood is_good → GoodIsFaultless is_good fault_at → LinesSayTheirs → CombiningKeepsSets → CombiningKeepsCounts → CombiningKeepsFrequent → RunsOverPartsAgree
 runs_over_parts_agree fronts_are_good good_is_faultless lines_say_theirs keeps_sets keeps_counts keeps_frequent fronts last asked baskets sets texts share question good read rise have counts few =
     let cut = cuts_are_parts fronts_are_good good_is_faultless lines_say_theirs fronts last baskets good in
     let parts = cut.0 in

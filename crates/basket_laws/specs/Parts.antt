@@ -1,7 +1,7 @@
 -- Parts of a database, counted apart and put together.
 use Rattle.std.specs.Prelude.{◌≡◌, ◌≤◌, ℕ, Bool, IsTrue, List, All, map}
 use Rattle.std.specs.List.{Contains, flat_map, list_any}
-use Rattle.basket_parts.specs.Together.{frequent_in}
+use Rattle.basket_parts.specs.CombinedCounts.{frequent_in}
 use Rattle.basket_read.specs.declared.counted_line.CountedLine.{CountedLine}
 use Rattle.basket_sets.specs.declared.counted.Counted.{Counted}
 use Rattle.basket_sets.specs.declared.minimum.Minimum.{Minimum}

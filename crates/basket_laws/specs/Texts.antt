@@ -3,7 +3,7 @@ use Rattle.std.specs.Prelude.{◌≡◌, ◌≤◌, ℕ, IsTrue, List, length, A
 use Rattle.std.specs.List.{Contains, flat_map}
 use Rattle.basket_counts.specs.Counts.{counts_of}
 use Rattle.basket_counts.specs.Laws.{IsWritten, lines_from}
-use Rattle.basket_parts.specs.Together.{frequent_in}
+use Rattle.basket_parts.specs.CombinedCounts.{frequent_in}
 use Rattle.basket_read.specs.declared.counted_line.CountedLine.{CountedLine}
 use Rattle.basket_read.specs.Fimi.{MOST_BYTES}
 use Rattle.basket_report.specs.Report.{report_of}

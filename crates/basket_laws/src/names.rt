@@ -1,7 +1,7 @@
 //! Laws on parts of baskets of names.
 ghost use Rattle.basket_laws.specs.Names.{NamedPartsAnswerAsTheWhole, NamedPartsAreParts};
 
-use basket_parts::laws::{together_keeps_counts, together_keeps_frequent, together_keeps_sets};
+use basket_parts::laws::{combining_keeps_counts, combining_keeps_frequent, combining_keeps_sets};
 
 /// If records of baskets of names are cut into parts, and the names of all are known beforehand in
 /// the order in which they first appear, the baskets of the parts, concatenated, are those of all
@@ -15,7 +15,7 @@ pub fn named_parts_are_parts()
 pub fn named_parts_answer_as_the_whole()
     ensures { NamedPartsAnswerAsTheWhole }
 {
-    together_keeps_sets();
-    together_keeps_counts();
-    together_keeps_frequent();
+    combining_keeps_sets();
+    combining_keeps_counts();
+    combining_keeps_frequent();
 }

@@ -1,7 +1,7 @@
 //! Laws on questions to parts.
 ghost use Rattle.basket_laws.specs.Outcomes.{PartsAnswerAsTheWhole};
 
-use basket_parts::laws::{together_keeps_counts, together_keeps_frequent, together_keeps_sets};
+use basket_parts::laws::{combining_keeps_counts, combining_keeps_frequent, combining_keeps_sets};
 
 /// Each question at a share, asked of the concatenated texts of some sets' counts in each part, has
 /// the outcome that it has over all parts concatenated, byte for byte: items, sets, closed and
@@ -9,7 +9,7 @@ use basket_parts::laws::{together_keeps_counts, together_keeps_frequent, togethe
 pub fn parts_answer_as_the_whole()
     ensures { PartsAnswerAsTheWhole }
 {
-    together_keeps_sets();
-    together_keeps_counts();
-    together_keeps_frequent();
+    combining_keeps_sets();
+    combining_keeps_counts();
+    combining_keeps_frequent();
 }

@@ -2,7 +2,7 @@
 ghost use Rattle.std.specs.Prelude.{◌≡◌, map};
 ghost use Rattle.basket_laws.specs.Parts.{counts_of_parts, said_of};
 ghost use Rattle.basket_laws.specs.Worked.{asked_sets, two_lists, two_parts};
-ghost use Rattle.basket_parts.specs.Together.{frequent_in};
+ghost use Rattle.basket_parts.specs.CombinedCounts.{frequent_in};
 ghost use Rattle.basket_sets.specs.declared.minimum.Minimum.TheVariants.{Share};
 ghost use Rattle.basket_sets.specs.Worked.{six_sets};
 

@@ -5,7 +5,7 @@ use Rattle.std.specs.List.{AllByRecursion, slice_range}
 use Rattle.std.proofs.lemmas.List.{take-append-le, drop_at, length-append, length-map, map-append, get_or-map}
 use Rattle.std.proofs.lemmas.List.Elements.{All-push, recursion_from_All}
 use Rattle.std.proofs.lemmas.Slice.{between_is, between_to_end}
-use Rattle.basket_lists.specs.declared.place.Place.{Place}
+use Rattle.basket_lists.specs.declared.set_span.SetSpan.{SetSpan}
 use Rattle.basket_lists.specs.CountedSets.{set_at}
 use Rattle.basket_lists.specs.Plain.{IsPlaceOfSet, behind, placed, placed_sets}
 use Rattle.basket_sets.specs.declared.counted.Counted.{Counted}
@@ -20,44 +20,44 @@ range_at_end : (items more : List ℕ) → slice_range (items ++ more) (length i
 range_at_end items more = between_to_end (items ++ more) (length items) (length items + length more) (omega (arith, length-append items more)) ∙ drop_at items more (length items) refl
 
 -- the places keep their sets
-place_kept : (items more : List ℕ) (place : Place) → IsPlaceOfSet items place → IsPlaceOfSet (items ++ more) place
+place_kept : (items more : List ℕ) (place : SetSpan) → IsPlaceOfSet items place → IsPlaceOfSet (items ++ more) place
 place_kept items more place is = record {
   within = record { ordered = is.within.ordered; within = omega (arith, is.within.within, length-append items more) };
   rises = subst IsRising (sym (range-append items more place.start place.end is.within.within)) is.rises;
 }
 
-pub places_kept : (items more : List ℕ) (places : List Place) → All (IsPlaceOfSet items) places → All (IsPlaceOfSet (items ++ more)) places
+pub places_kept : (items more : List ℕ) (places : List SetSpan) → All (IsPlaceOfSet items) places → All (IsPlaceOfSet (items ++ more)) places
 places_kept items more places all k d inside = place_kept items more (get_or places k d) (all k d inside)
 
-placed-append : (items more : List ℕ) (place : Place) → IsPlaceOfSet items place → placed (items ++ more) place ≡ placed items place
+placed-append : (items more : List ℕ) (place : SetSpan) → IsPlaceOfSet items place → placed (items ++ more) place ≡ placed items place
 placed-append items more place is = ap (λ (set : List ℕ). let c : Counted = record { set = set; count = place.count } in c) (range-append items more place.start place.end is.within.within)
 
-placed_sets_kept : (items more : List ℕ) (places : List Place) → AllByRecursion (IsPlaceOfSet items) places → placed_sets (items ++ more) places ≡ placed_sets items places
+placed_sets_kept : (items more : List ℕ) (places : List SetSpan) → AllByRecursion (IsPlaceOfSet items) places → placed_sets (items ++ more) places ≡ placed_sets items places
 placed_sets_kept items more [] all = refl
 placed_sets_kept items more (place ∷ places) all =
     ap (λ c. c ∷ placed_sets (items ++ more) places) (placed-append items more place all.0) ∙ ap (λ rest. placed items place ∷ rest) (placed_sets_kept items more places all.1)
 
-pub placed_sets-append : (items more : List ℕ) (places : List Place) → All (IsPlaceOfSet items) places → placed_sets (items ++ more) places ≡ placed_sets items places
+pub placed_sets-append : (items more : List ℕ) (places : List SetSpan) → All (IsPlaceOfSet items) places → placed_sets (items ++ more) places ≡ placed_sets items places
 placed_sets-append items more places all = placed_sets_kept items more places (recursion_from_All (IsPlaceOfSet items) places all)
 
 -- ---- one set more
 
 -- a set at the end of the items
-pub record IsAtEnd (items set : List ℕ) (place : Place) : Type 0 where
+pub record IsAtEnd (items set : List ℕ) (place : SetSpan) : Type 0 where
   pub start : place.start ≡ length items
   pub end : place.end ≡ length items + length set
 
-set_at_end : (items set : List ℕ) (place : Place) → IsAtEnd items set place → slice_range (items ++ set) place.start place.end ≡ set
+set_at_end : (items set : List ℕ) (place : SetSpan) → IsAtEnd items set place → slice_range (items ++ set) place.start place.end ≡ set
 set_at_end items set place at = ap (λ a. slice_range (items ++ set) a place.end) at.start ∙ ap (λ b. slice_range (items ++ set) (length items) b) at.end ∙ range_at_end items set
 
-pub places_pushed : (items set : List ℕ) (places : List Place) (place : Place) → All (IsPlaceOfSet items) places → IsRising set → IsAtEnd items set place
+pub places_pushed : (items set : List ℕ) (places : List SetSpan) (place : SetSpan) → All (IsPlaceOfSet items) places → IsRising set → IsAtEnd items set place
     → All (IsPlaceOfSet (items ++ set)) (places ++ place ∷ [])
 places_pushed items set places place all up at = All-push (IsPlaceOfSet (items ++ set)) places place (places_kept items set places all) (record {
   within = record { ordered = omega (arith, at.start, at.end); within = omega (arith, at.end, length-append items set) };
   rises = subst IsRising (sym (set_at_end items set place at)) up;
 })
 
-pub placed_sets_pushed : (items set : List ℕ) (places : List Place) (place : Place) → All (IsPlaceOfSet items) places → IsAtEnd items set place
+pub placed_sets_pushed : (items set : List ℕ) (places : List SetSpan) (place : SetSpan) → All (IsPlaceOfSet items) places → IsAtEnd items set place
     → placed_sets (items ++ set) (places ++ place ∷ []) ≡ placed_sets items places ++ record { set = set; count = place.count } ∷ []
 placed_sets_pushed items set places place all at =
     map-append (placed (items ++ set)) places (place ∷ [])
@@ -66,7 +66,7 @@ placed_sets_pushed items set places place all at =
 
 -- ---- the set at a place
 
-pub placed_at : (items : List ℕ) (places : List Place) (place : ℕ) (d : Place) → place < length places → set_at (placed_sets items places) place ≡ slice_range items (get_or places place d).start (get_or places place d).end
+pub placed_at : (items : List ℕ) (places : List SetSpan) (place : ℕ) (d : SetSpan) → place < length places → set_at (placed_sets items places) place ≡ slice_range items (get_or places place d).start (get_or places place d).end
 placed_at items places place d inside = ap (λ (c : Counted). c.set) (get_or-map (placed items) places place d (record { set = []; count = 0 }) inside)
 
 -- ---- the sets of another list
@@ -79,10 +79,10 @@ range_behind (item ∷ items) more start end (suc from) (suc to) at until =
     between_is (item ∷ (items ++ more)) (suc from) (suc to) ∙ sym (between_is (items ++ more) from to) ∙ range_behind items more start end from to (omega arith) (omega arith)
 
 module _ (items more : List ℕ) (start : ℕ) (at : start ≡ length items) where
-  behind_is : (place : Place) → slice_range (items ++ more) (start + place.start) (start + place.end) ≡ slice_range more place.start place.end
+  behind_is : (place : SetSpan) → slice_range (items ++ more) (start + place.start) (start + place.end) ≡ slice_range more place.start place.end
   behind_is place = range_behind items more place.start place.end (start + place.start) (start + place.end) (ap (λ n. n + place.start) at) (ap (λ n. n + place.end) at)
 
-  pub places_behind_are : (places : List Place) → All (IsPlaceOfSet more) places → All (IsPlaceOfSet (items ++ more)) (map (behind start) places)
+  pub places_behind_are : (places : List SetSpan) → All (IsPlaceOfSet more) places → All (IsPlaceOfSet (items ++ more)) (map (behind start) places)
   places_behind_are places all k d here =
       let inside : k < length places = omega (arith, here, length-map places (behind start)) in
       let place = get_or places k none in
@@ -92,10 +92,10 @@ module _ (items more : List ℕ) (start : ℕ) (at : start ≡ length items) whe
         rises = subst IsRising (sym (behind_is place)) is.rises;
       })
     where
-      none : Place
+      none : SetSpan
       none = record { start = 0; end = 0; count = 0 }
 
-  pub placed_sets_behind : (places : List Place) → placed_sets (items ++ more) (map (behind start) places) ≡ placed_sets more places
+  pub placed_sets_behind : (places : List SetSpan) → placed_sets (items ++ more) (map (behind start) places) ≡ placed_sets more places
   placed_sets_behind [] = refl
   placed_sets_behind (place ∷ places) =
       ap (λ (set : List ℕ). let c : Counted = record { set = set; count = place.count } in c ∷ placed_sets (items ++ more) (map (behind start) places)) (behind_is place)

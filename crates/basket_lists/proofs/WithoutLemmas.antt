@@ -13,7 +13,7 @@ use Rattle.basket_lists.specs.Known.{IsRestOf}
 use Rattle.basket_lists.specs.Packed.{HasBits, count_bits, items_in, unpacked}
 use Rattle.basket_lists.specs.Without.{ArePlacesWithout, IsLongerBy, IsPlaceWithout}
 use Rattle.basket_lists.proofs.PackedLemmas.{HasMore, bit_is_set, highest, items_in-few, items_in-rises, items_in-same, items_in-zero, lower_bits, lower_power, moved_low, moved_rest, one_more, small, with_first, with_later}
-use Rattle.basket_order.specs.declared.places.TheConstants.{NOWHERE}
+use Rattle.basket_order.specs.declared.place_table.TheConstants.{NOWHERE}
 use Rattle.basket_sets.specs.declared.counted.Counted.{Counted}
 use Rattle.basket_sets.specs.Itemset.{IsRising, with_item}
 use Rattle.basket_sets.proofs.theory.Rising.{Member-from_has, first_below, has_place, rest_rises}

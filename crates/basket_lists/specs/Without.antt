@@ -1,7 +1,7 @@
 -- Sets without one of their items, and where these stand in a list.
 use Rattle.std.specs.Prelude.{◌≡◌, ◌≢◌, ◌<◌, ℕ, suc, List, length, slice_index_or}
 use Rattle.basket_lists.specs.CountedSets.{set_at}
-use Rattle.basket_order.specs.declared.places.TheConstants.{NOWHERE}
+use Rattle.basket_order.specs.declared.place_table.TheConstants.{NOWHERE}
 use Rattle.basket_sets.specs.declared.counted.Counted.{Counted}
 use Rattle.basket_sets.specs.Itemset.{IsRising, with_item}
 

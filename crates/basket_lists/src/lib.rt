@@ -7,8 +7,8 @@ mod half_words;
 mod keys;
 mod known;
 mod packed;
-mod place;
 mod plain;
+mod set_span;
 mod sets;
 
 pub use counted_sets::CountedSets;

@@ -10,7 +10,7 @@ ghost use Rattle.basket_sets.specs.Order.{report_order};
 mod without;
 
 use crate::keys::{sort_places, sort_places_shared};
-use crate::place::{Place, end_of, places_behind};
+use crate::set_span::{SetSpan, end_of, places_behind};
 use basket_order::items_hash;
 use std::alloc::{AllocError, Global};
 use std::cmp::Ordering;
@@ -21,7 +21,7 @@ use std::thread::Threads;
 #[derive(Debug, Drop)]
 pub struct PlainSets {
     items: Vec<u32>,
-    places: Vec<Place>,
+    places: Vec<SetSpan>,
 }
 
 impl Model for PlainSets {
@@ -68,7 +68,7 @@ impl PlainSets {
         let start = end_of(&self.items)?;
         self.items.extend_from_slice(set)?;
         let end = end_of(&self.items)?;
-        self.places.push(Place { start, end, count })?;
+        self.places.push(SetSpan { start, end, count })?;
         Ok(())
     }
 
@@ -80,7 +80,7 @@ impl PlainSets {
         let start = end_of(&self.items)?;
         add_longer(&mut self.items, self.places[place], item)?;
         let end = end_of(&self.items)?;
-        self.places.push(Place { start, end, count })?;
+        self.places.push(SetSpan { start, end, count })?;
         Ok(())
     }
 
@@ -171,7 +171,7 @@ impl PlainSets {
 }
 
 /// Appends the items of the set at a place, with one more item.
-fn add_longer(items: &mut Vec<u32>, place: Place, item: u32) -> Result<(), AllocError>
+fn add_longer(items: &mut Vec<u32>, place: SetSpan, item: u32) -> Result<(), AllocError>
     requires { IsPlaceOfSet items.old.items place }
     ensures kept { take (length items.old.items) items.new.items ≡ items.old.items }
     ensures added { OnOk result (items.new.items ≡ items.old.items ++ with_item item (slice_range items.old.items place.start place.end)) }

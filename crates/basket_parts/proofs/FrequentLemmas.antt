@@ -6,7 +6,7 @@ use Rattle.basket_sets.specs.declared.minimum.Minimum.{Minimum}
 use Rattle.basket_sets.specs.Order.{IsInReportOrder}
 use Rattle.basket_sets.proofs.theory.Items.{filter-map}
 use Rattle.basket_parts.specs.Frequent.{is_frequent_line, counted_of}
-use Rattle.basket_parts.specs.Together.{sets_of, line_for, total_in, is_frequent_in, frequent_in}
+use Rattle.basket_parts.specs.CombinedCounts.{sets_of, line_for, total_in, is_frequent_in, frequent_in}
 use Rattle.basket_parts.proofs.SameLemmas.{together_already}
 
 -- they are the lines that meet it

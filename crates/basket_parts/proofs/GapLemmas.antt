@@ -11,7 +11,7 @@ use Rattle.basket_sets.specs.declared.counted.Counted.{Counted}
 use Rattle.basket_sets.specs.declared.minimum.Minimum.{Minimum}
 use Rattle.basket_sets.specs.Order.{IsInReportOrder}
 use Rattle.basket_sets.specs.Subsets.{subsets_of_size}
-use Rattle.basket_parts.specs.Together.{sets_of, count_if, counted_in, line_for, line_in, is_frequent_in}
+use Rattle.basket_parts.specs.CombinedCounts.{sets_of, count_if, counted_in, line_for, line_in, is_frequent_in}
 use Rattle.basket_parts.specs.Gap.{is_gap, has_gap_below, has_gap, first_gap, is_gap_line}
 use Rattle.basket_parts.proofs.SameLemmas.{together_already}
 

@@ -10,8 +10,8 @@ use Rattle.basket_sets.specs.Minimum.{meets}
 use Rattle.basket_sets.specs.Order.{IsInReportOrder}
 use Rattle.basket_sets.proofs.theory.Members.{Member, Member-map}
 use Rattle.basket_sets.proofs.theory.Rising.{same_test}
-use Rattle.basket_parts.specs.Together.{is_of, has_set, count_in, line_in, sets_of, line_for, together}
-use Rattle.basket_parts.specs.Laws.{CountsAddUp, TogetherByParts, TogetherKeepsCounts, TogetherKeepsFrequent, TogetherKeepsSets}
+use Rattle.basket_parts.specs.CombinedCounts.{is_of, has_set, count_in, line_in, sets_of, line_for, combined}
+use Rattle.basket_parts.specs.Laws.{CountsAddUp, CombiningByParts, CombiningKeepsCounts, CombiningKeepsFrequent, CombiningKeepsSets}
 use Rattle.basket_parts.proofs.theory.Sets.{set_of, sets-in_order, has_from_sets, sets_from_has, has_from_listed, listed_from_has, same_sets}
 use Rattle.basket_parts.proofs.SameLemmas.{SaysSame, adds, no_count, no_line, stands_alone, same_together}
 
@@ -21,23 +21,23 @@ sets_of_together : (lines : List CountedLine) (sets : List (List ℕ)) → map s
 sets_of_together lines [] = refl
 sets_of_together lines (set ∷ sets) = ap (λ l. set ∷ l) (sets_of_together lines sets)
 
-together-in_order : (lines : List CountedLine) → IsInReportOrder (map set_of (together lines))
-together-in_order lines = subst IsInReportOrder (sym (sets_of_together lines (sets_of lines))) (sets-in_order lines)
+combined-in_order : (lines : List CountedLine) → IsInReportOrder (map set_of (combined lines))
+combined-in_order lines = subst IsInReportOrder (sym (sets_of_together lines (sets_of lines))) (sets-in_order lines)
 
-has_together : (lines : List CountedLine) (set : List ℕ) → has_set (together lines) set ≡ has_set lines set
-has_together lines set = same_test (has_set (together lines) set) (has_set lines set)
-    (λ h. has_from_sets lines set (subst (Member set) (sets_of_together lines (sets_of lines)) (listed_from_has (together lines) set h)))
-    (λ h. has_from_listed (together lines) set (subst (Member set) (sym (sets_of_together lines (sets_of lines))) (sets_from_has lines set h)))
+has_together : (lines : List CountedLine) (set : List ℕ) → has_set (combined lines) set ≡ has_set lines set
+has_together lines set = same_test (has_set (combined lines) set) (has_set lines set)
+    (λ h. has_from_sets lines set (subst (Member set) (sets_of_together lines (sets_of lines)) (listed_from_has (combined lines) set h)))
+    (λ h. has_from_listed (combined lines) set (subst (Member set) (sym (sets_of_together lines (sets_of lines))) (sets_from_has lines set h)))
 
-pub says_together : (lines : List CountedLine) (set : List ℕ) → SaysSame (together lines) lines set
+pub says_together : (lines : List CountedLine) (set : List ℕ) → SaysSame (combined lines) lines set
 says_together lines set = elim (cases_Bool (has_set lines set)) [
-  | inl e ↦ (let alone = stands_alone (together lines) (together-in_order lines) (line_for lines set) (Member-map (line_for lines) set (sets_of lines) (sets_from_has lines set e)) in
+  | inl e ↦ (let alone = stands_alone (combined lines) (combined-in_order lines) (line_for lines set) (Member-map (line_for lines) set (sets_of lines) (sets_from_has lines set e)) in
       record { has = has_together lines set; count = ap (λ (l : CountedLine). l.count) alone; line = ap (λ (l : CountedLine). l.line) alone })
   | inr e ↦ (let none = has_together lines set ∙ e in
       record {
         has = has_together lines set;
-        count = no_count (together lines) set none ∙ sym (no_count lines set e);
-        line = no_line (together lines) set none ∙ sym (no_line lines set e);
+        count = no_count (combined lines) set none ∙ sym (no_count lines set e);
+        line = no_line (combined lines) set none ∙ sym (no_line lines set e);
       })
 ]
 
@@ -65,26 +65,26 @@ says_append a b c d set s t = record {
 
 -- ---- the laws
 
-pub together_keeps_sets : TogetherKeepsSets
-together_keeps_sets lines set = (says_together lines set).has
+pub combining_keeps_sets : CombiningKeepsSets
+combining_keeps_sets lines set = (says_together lines set).has
 
-pub together_keeps_counts : TogetherKeepsCounts
-together_keeps_counts lines set = (says_together lines set).count
+pub combining_keeps_counts : CombiningKeepsCounts
+combining_keeps_counts lines set = (says_together lines set).count
 
 -- what is frequent by counts and sets alone
 abbrev frequent_by : (List ℕ → ℕ) → List (List ℕ) → Minimum → List Counted
 frequent_by counts sets minimum =
     map (λ set. record { set = set; count = counts set }) (filter (λ set. not (eqb (length set) 0) && meets minimum (counts set) (counts [])) sets)
 
-pub together_keeps_frequent : TogetherKeepsFrequent
-together_keeps_frequent lines minimum =
-    let counts : count_in (together lines) ≡ count_in lines = λ k set. (says_together lines set).count k in
-    ap (λ sets. frequent_by (count_in (together lines)) sets minimum) (same_sets (together lines) lines (λ set. (says_together lines set).has))
+pub combining_keeps_frequent : CombiningKeepsFrequent
+combining_keeps_frequent lines minimum =
+    let counts : count_in (combined lines) ≡ count_in lines = λ k set. (says_together lines set).count k in
+    ap (λ sets. frequent_by (count_in (combined lines)) sets minimum) (same_sets (combined lines) lines (λ set. (says_together lines set).has))
     ∙ ap (λ counts. frequent_by counts (sets_of lines) minimum) counts
 
 pub counts_add_up : CountsAddUp
 counts_add_up a b set = sum_by-append (adds set) a b
 
-pub together_by_parts : TogetherByParts
-together_by_parts a b =
-    same_together (together a ++ together b) (a ++ b) (λ set. says_append (together a) (together b) a b set (says_together a set) (says_together b set))
+pub combining_by_parts : CombiningByParts
+combining_by_parts a b =
+    same_together (combined a ++ combined b) (a ++ b) (λ set. says_append (combined a) (combined b) a b set (says_together a set) (says_together b set))

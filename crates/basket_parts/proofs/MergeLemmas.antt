@@ -9,7 +9,7 @@ use Rattle.std.proofs.lemmas.Bool.{false≢true, true≢false}
 use Rattle.basket_read.specs.declared.counted_line.CountedLine.{CountedLine}
 use Rattle.basket_sets.specs.Order.{IsInReportOrder, report_order, report_order_total, report_order_ties}
 use Rattle.basket_sets.proofs.theory.Members.{Member, Member-from_map}
-use Rattle.basket_parts.specs.Together.{is_of, has_set, count_in, line_in}
+use Rattle.basket_parts.specs.CombinedCounts.{is_of, has_set, count_in, line_in}
 use Rattle.basket_parts.specs.Merge.{with_more, merged_from, merged}
 use Rattle.basket_parts.proofs.theory.Sets.{set_of, less_or_same, same_items, nothing_in_order, cons_in_order, has_from_listed, listed_from_has}
 use Rattle.basket_parts.proofs.SameLemmas.{SaysSame, says_itself, says_on, says_more, adds, count_more}

@@ -10,7 +10,7 @@ use Rattle.std.proofs.lemmas.List.Sums.{sum_by-cons}
 use Rattle.basket_read.specs.declared.counted_line.CountedLine.{CountedLine}
 use Rattle.basket_sets.specs.Order.{IsInReportOrder, report_order, report_order_total}
 use Rattle.basket_sets.proofs.theory.Members.{Member, Member-map, first_is_less, rest_is_sorted}
-use Rattle.basket_parts.specs.Together.{is_of, has_set, count_in, line_in, sets_of, line_for, together, count_if, total_in}
+use Rattle.basket_parts.specs.CombinedCounts.{is_of, has_set, count_in, line_in, sets_of, line_for, combined, count_if, total_in}
 use Rattle.basket_parts.proofs.theory.Sets.{set_of, same_items, itself, listed_from_has, same_sets, sets_listed}
 
 -- both lists have a set or neither has, with one count, first in one line
@@ -41,7 +41,7 @@ says_more line a b set s = record {
 }
 
 -- lists that say the same of each set are the same put together
-pub same_together : (a b : List CountedLine) → ((set : List ℕ) → SaysSame a b set) → together a ≡ together b
+pub same_together : (a b : List CountedLine) → ((set : List ℕ) → SaysSame a b set) → combined a ≡ combined b
 same_together a b same =
     ap (map (line_for a)) (same_sets a b (λ set. (same set).has))
     ∙ ap (λ (f : List ℕ → CountedLine). map f (sets_of b)) (λ k set. record { set = set; count = (same set).count k; line = (same set).line k })
@@ -119,7 +119,7 @@ map_twice f [] = refl
 map_twice f (line ∷ lines) = ap (λ l. f line.set ∷ l) (map_twice f lines)
 
 -- they are what comes of putting them together
-pub together_already : (lines : List CountedLine) → IsInReportOrder (map set_of lines) → together lines ≡ lines
+pub together_already : (lines : List CountedLine) → IsInReportOrder (map set_of lines) → combined lines ≡ lines
 together_already lines up =
     ap (map (line_for lines)) (sets_listed lines up) ∙ map_twice (line_for lines) lines
     ∙ same_map (λ (line : CountedLine). line_for lines line.set) lines (stands_alone lines up)

@@ -12,7 +12,7 @@ use Rattle.std.proofs.lemmas.Map.Keys.{Less-from_sorted}
 use Rattle.basket_read.specs.declared.counted_line.CountedLine.{CountedLine}
 use Rattle.basket_sets.specs.Order.{IsInReportOrder, report_order, report_order_total, report_order_ties}
 use Rattle.basket_sets.proofs.theory.Members.{Member, Member-map, Member-from_map, Member-from_Contains, Contains-from_Member}
-use Rattle.basket_parts.specs.Together.{has_set, count_in, count_if}
+use Rattle.basket_parts.specs.CombinedCounts.{has_set, count_in, count_if}
 use Rattle.basket_parts.proofs.theory.Sets.{set_of, same_items, has_from_listed, listed_from_has}
 use Rattle.basket_parts.proofs.SameLemmas.{stands_alone}
 

@@ -13,7 +13,7 @@ use Rattle.basket_read.specs.declared.fault.ReadFault.TheVariants.{Heavy}
 use Rattle.basket_sets.specs.Database.{MOST_WEIGHT}
 use Rattle.basket_sets.specs.Order.{report_order, report_order_total, report_order_ties}
 use Rattle.basket_sets.proofs.theory.Members.{Member, Contains-from_Member}
-use Rattle.basket_parts.specs.Together.{is_of, has_set, count_in, line_in, together, together_of, is_heavy}
+use Rattle.basket_parts.specs.CombinedCounts.{is_of, has_set, count_in, line_in, combined, combined_of, is_heavy}
 use Rattle.basket_parts.specs.Merge.{IsLight, with_more, merged_from, merged}
 use Rattle.basket_parts.proofs.theory.Sets.{set_of}
 use Rattle.basket_parts.proofs.SameLemmas.{SaysSame, says_on, adds, count_more, same_together, together_already}
@@ -91,7 +91,7 @@ ascends (line ∷ lines) up = (first, ascends lines (rest_sorted line lines up))
         (sorted_far before (ranks_by report_order_total set_of) (line ∷ lines) up 0 (suc at.0) other (omega arith) (let b = at.1 in omega arith))
 
 -- a sort and a merge put the lines together
-pub merged_is_together : (lines sorted : List CountedLine) → IsSortedByKey set_of report_order sorted → IsStableByKey set_of report_order lines sorted → merged sorted ≡ together lines
+pub merged_is_together : (lines sorted : List CountedLine) → IsSortedByKey set_of report_order sorted → IsStableByKey set_of report_order lines sorted → merged sorted ≡ combined lines
 merged_is_together lines sorted up stable =
     sym (together_already (merged sorted) (merging-in_order sorted (ascends sorted up)))
     ∙ same_together (merged sorted) lines (λ set. says_on (merged sorted) sorted lines set (merging_says sorted set) (sorting_says lines sorted stable set))
@@ -143,10 +143,10 @@ apart_more list now kept next line lines rest whole apart is more same before =
     ∙ ap (λ l. list ++ merged_from kept l) (sym is) ∙ before
 
 -- the list of merged lines is the answer
-pub answers_lines : (lines list : List CountedLine) → list ≡ together lines → All IsLight list → together_of lines ≡ Ok list
+pub answers_lines : (lines list : List CountedLine) → list ≡ combined lines → All IsLight list → combined_of lines ≡ Ok list
 answers_lines lines list is light =
-    ap (λ b. cond b (Err Heavy) (Ok (together lines))) (ap (list_any is_heavy) (sym is) ∙ none_heavy list light) ∙ ap Ok (sym is)
+    ap (λ b. cond b (Err Heavy) (Ok (combined lines))) (ap (list_any is_heavy) (sym is) ∙ none_heavy list light) ∙ ap Ok (sym is)
 
 -- or that a count is too great
-pub answers_heavy : (lines list : List CountedLine) → list ≡ together lines → list_any is_heavy list ≡ true → together_of lines ≡ Err Heavy
-answers_heavy lines list is heavy = ap (λ b. cond b (Err Heavy) (Ok (together lines))) (ap (list_any is_heavy) (sym is) ∙ heavy)
+pub answers_heavy : (lines list : List CountedLine) → list ≡ combined lines → list_any is_heavy list ≡ true → combined_of lines ≡ Err Heavy
+answers_heavy lines list is heavy = ap (λ b. cond b (Err Heavy) (Ok (combined lines))) (ap (list_any is_heavy) (sym is) ∙ heavy)

@@ -6,7 +6,7 @@ use Rattle.basket_read.specs.declared.fault.ReadFault.{ReadFault}
 use Rattle.basket_read.specs.declared.fault.ReadFault.TheVariants.{Subset}
 use Rattle.basket_sets.specs.declared.minimum.Minimum.{Minimum}
 use Rattle.basket_sets.specs.Subsets.{subsets_of_size}
-use Rattle.basket_parts.specs.Together.{count_in, count_if, line_in, frequent_in, total_in}
+use Rattle.basket_parts.specs.CombinedCounts.{count_in, count_if, line_in, frequent_in, total_in}
 use Rattle.basket_parts.specs.Frequent.{is_frequent_line}
 
 -- whether a subset with this count, if it is there, shows a gap below a count: it is lower, or a nonempty subset isn't there

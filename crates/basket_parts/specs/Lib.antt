@@ -1,4 +1,4 @@
-pub mod Together
+pub mod CombinedCounts
 pub mod Merge
 pub mod Frequent
 pub mod Gap

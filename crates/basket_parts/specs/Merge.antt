@@ -5,7 +5,7 @@ use Rattle.basket_read.specs.declared.fault.ReadFault.{ReadFault}
 use Rattle.basket_read.specs.declared.fault.ReadFault.TheVariants.{Memory}
 use Rattle.basket_sets.specs.Database.{MOST_WEIGHT}
 use Rattle.basket_sets.specs.Order.{IsInReportOrder}
-use Rattle.basket_parts.specs.Together.{is_of}
+use Rattle.basket_parts.specs.CombinedCounts.{is_of}
 
 -- a line with some more to its count
 abbrev pub with_more : CountedLine → ℕ → CountedLine

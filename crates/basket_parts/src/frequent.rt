@@ -1,14 +1,14 @@
 //! The sets that meet a minimum.
 ghost use Rattle.std.specs.Prelude.{◌≡◌, All, IfOk, filter, map};
 ghost use Rattle.basket_parts.specs.Frequent.{HasRisingSet, counted_of, is_frequent_line};
-ghost use Rattle.basket_parts.specs.Together.{frequent_in, total_in};
+ghost use Rattle.basket_parts.specs.CombinedCounts.{frequent_in, total_in};
 
-use crate::together::Together;
+use crate::combined::CombinedCounts;
 use basket_core::{CountedSets, Frequent, Minimum};
 use basket_read::CountedLine;
 use std::alloc::{AllocError, Global};
 
-impl Together {
+impl CombinedCounts {
     /// The nonempty sets that meet the minimum. The weight of all baskets is the count of the empty
     /// set, or 0 if that isn't there.
     pub fn frequent(&self, alloc: Global, minimum: Minimum) -> Result<Frequent, AllocError>

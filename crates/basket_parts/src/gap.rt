@@ -2,13 +2,13 @@
 ghost use Rattle.std.specs.Prelude.{◌≡◌, ◌<◌, ◌+◌, ◌++◌, IfOk, OnOk, drop, length, take};
 ghost use Rattle.basket_parts.specs.Gap.{first_gap, has_gap_below, is_gap};
 
+use crate::combined::CombinedCounts;
 use crate::frequent::is_frequent;
-use crate::together::Together;
 use basket_core::Minimum;
 use basket_read::{CountedLine, ReadFault};
 use std::alloc::{AllocError, Global};
 
-impl Together {
+impl CombinedCounts {
     /// The first frequent set with a subset of one item less that is there with a lower count, or
     /// that is not empty and isn't there.
     pub fn first_gap(

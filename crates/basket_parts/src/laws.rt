@@ -1,19 +1,19 @@
 //! Laws on the definitions. Each is a function that does nothing: its contract is the law.
-ghost use Rattle.basket_parts.specs.Laws.{CountsAddUp, TogetherByParts, TogetherKeepsCounts, TogetherKeepsFrequent, TogetherKeepsSets};
+ghost use Rattle.basket_parts.specs.Laws.{CountsAddUp, CombiningByParts, CombiningKeepsCounts, CombiningKeepsFrequent, CombiningKeepsSets};
 
 /// Lines put together have the sets that the lines have.
-pub fn together_keeps_sets()
-    ensures { TogetherKeepsSets }
+pub fn combining_keeps_sets()
+    ensures { CombiningKeepsSets }
 {}
 
 /// Lines put together have the counts that the lines have.
-pub fn together_keeps_counts()
-    ensures { TogetherKeepsCounts }
+pub fn combining_keeps_counts()
+    ensures { CombiningKeepsCounts }
 {}
 
 /// Lines put together have the frequent sets that the lines have.
-pub fn together_keeps_frequent()
-    ensures { TogetherKeepsFrequent }
+pub fn combining_keeps_frequent()
+    ensures { CombiningKeepsFrequent }
 {}
 
 /// The count of a set in two lists is the sum of its counts in each.
@@ -22,6 +22,6 @@ pub fn counts_add_up()
 {}
 
 /// Each list may be put together by itself first.
-pub fn together_by_parts()
-    ensures { TogetherByParts }
+pub fn combining_by_parts()
+    ensures { CombiningByParts }
 {}

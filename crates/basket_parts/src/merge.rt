@@ -2,7 +2,7 @@
 ghost use Rattle.std.specs.Prelude.{◌≡◌, ◌≢◌, All, IfErr, IfOk, OnOk, true};
 ghost use Rattle.std.specs.List.{list_any};
 ghost use Rattle.std.specs.List.Sorted.{IsSortedByKey, IsStableByKey};
-ghost use Rattle.basket_parts.specs.Together.{is_heavy};
+ghost use Rattle.basket_parts.specs.CombinedCounts.{is_heavy};
 ghost use Rattle.basket_parts.specs.Merge.{IsLight, merged};
 ghost use Rattle.basket_sets.specs.Order.{report_order};
 

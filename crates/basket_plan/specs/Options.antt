@@ -47,7 +47,7 @@ with_taken app taken = with_rule app (rule_of_taken taken)
 
 -- a command of the table, and the line with it
 abbrev pub listed_app : Listed → App
-listed_app listed = fold with_taken (fold with_taken (new_app listed.0.now) listed.1.now) listed.2.now
+listed_app listed = fold with_taken (fold with_taken (new_app listed.name.now) listed.shared.now) listed.own.now
 
 abbrev pub with_listed : App → Listed → App
 with_listed app listed = with_subcommand app (listed_app listed).top

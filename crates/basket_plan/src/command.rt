@@ -14,17 +14,45 @@ use clap::error::ErrorKind;
 use clap::{Command, Error};
 use std::alloc::{AllocError, Global};
 
-/// A command: its name, what it takes as others do, and what only it takes.
+/// A command: its name, the options that it shares with others, and its own.
 #[derive(Clone, Copy)]
-pub struct Listed(&'static str, &'static [Taken], &'static [Taken]);
+pub struct Listed {
+    name: &'static str,
+    shared: &'static [Taken],
+    own: &'static [Taken],
+}
 
 const COMMANDS: [Listed; 6] = [
-    Listed("items", &REPORT, &[]),
-    Listed("sets", &REPORT, &[]),
-    Listed("closed", &REPORT, &[]),
-    Listed("maximal", &REPORT, &[]),
-    Listed("rules", &REPORT, &CONFIDENCE),
-    Listed("count", &COUNT, &[]),
+    Listed {
+        name: "items",
+        shared: &REPORT,
+        own: &[],
+    },
+    Listed {
+        name: "sets",
+        shared: &REPORT,
+        own: &[],
+    },
+    Listed {
+        name: "closed",
+        shared: &REPORT,
+        own: &[],
+    },
+    Listed {
+        name: "maximal",
+        shared: &REPORT,
+        own: &[],
+    },
+    Listed {
+        name: "rules",
+        shared: &REPORT,
+        own: &CONFIDENCE,
+    },
+    Listed {
+        name: "count",
+        shared: &COUNT,
+        own: &[],
+    },
 ];
 
 /// Why words of a command line make no plan.
@@ -126,9 +154,9 @@ fn command<'a>(alloc: Global, listed: Listed) -> Result<Command<'a>, AllocError>
     ensures options { IfOk result (λ command. app_of command ≡ listed_app listed) }
     ensures local { IfOk result (λ command. (fields_of command).has_globals ≡ false) }
 {
-    let Listed(name, options, own) = listed;
+    let Listed { name, shared, own } = listed;
     let command = Command::new(alloc, name).override_help(help::of(name));
-    with_options(alloc, with_options(alloc, command, options)?, own)
+    with_options(alloc, with_options(alloc, command, shared)?, own)
 }
 
 fn fault_of(alloc: Global, error: &Error) -> PlanFault

@@ -15,7 +15,7 @@ use Rattle.std.proofs.lemmas.List.Sorted.{IsPermutation-map}
 use Rattle.std.proofs.lemmas.Map.Keys.{IsDistinct-IsPermutation, apart_from_distinct, below_from_sorted}
 use Rattle.basket_ranks.specs.Codes.{rank_order, with_entry, ranked, rank_from, rank_of}
 use Rattle.basket_sets.specs.Itemset.{IsRising, has, rising}
-use Rattle.basket_ranks.specs.declared.ranks.Entry.{Entry}
+use Rattle.basket_ranks.specs.declared.ranks.RankedItem.{RankedItem}
 use Rattle.basket_ranks.specs.Ranks.{AreSlots, AreRanksAt, entries_of}
 use Rattle.basket_sets.proofs.theory.Members.{Member, All-from_Member, at_Member, Member-map, Member-from_map, Member-filter, Member-from_Contains, Contains-from_Member}
 use Rattle.basket_sets.proofs.theory.Rising.{Member-into_rising, Member-rising, cons_rises, first_below, found_at, found_nowhere, has-from_Member, has_more, nil_rises, rest_rises, rising-rises, rising_distinct}
@@ -313,6 +313,6 @@ all_ranks ranked items ranks i same done some = record {
       (Member-rising ranked (get_or items k 0) (subst (Member (get_or items k 0)) same (Member-from_Contains _ items (k, inside, get_or_default items k (get_or items k 0) 0 inside))))));
 }
 
-pub items_of_entries : (entries : List Entry) → map (λ e. e.item) entries ≡ map (λ e. e.0) (entries_of entries)
+pub items_of_entries : (entries : List RankedItem) → map (λ e. e.item) entries ≡ map (λ e. e.0) (entries_of entries)
 items_of_entries [] = refl
 items_of_entries (e ∷ entries) = ap (λ l. e.item ∷ l) (items_of_entries entries)

@@ -1,16 +1,16 @@
 -- A table from items to ranks.
 use Rattle.std.specs.Prelude.{◌≡◌, ◌<◌, ℕ, List, Option, Some, None, length, map, nat_eq, slice_index_or}
 use Rattle.std.specs.List.{IsDistinct}
-use Rattle.basket_ranks.specs.declared.ranks.Entry.{Entry}
+use Rattle.basket_ranks.specs.declared.ranks.RankedItem.{RankedItem}
 use Rattle.basket_ranks.specs.declared.ranks.RankTable.{RankTable}
 use Rattle.basket_ranks.specs.Codes.{rank_of}
 use Rattle.basket_sets.specs.Itemset.{rising}
 
 -- an entry as an item with its count
-abbrev pub entry_of : Entry → ℕ × ℕ
+abbrev pub entry_of : RankedItem → ℕ × ℕ
 entry_of entry = (entry.item, entry.count.0)
 
-abbrev pub entries_of : List Entry → List (ℕ × ℕ)
+abbrev pub entries_of : List RankedItem → List (ℕ × ℕ)
 entries_of entries = map entry_of entries
 
 -- each slot has the rank of the item with its number, where that has one

@@ -9,7 +9,7 @@ ghost use Rattle.basket_sets.specs.declared.weighted.Weighted.{Weighted as Baske
 ghost use Rattle.basket_sets.specs.Support.{total_of};
 
 use crate::ranks::{RankTable, ranked_items};
-use basket_sets::{Database, Itemset, Minimum, Names, Weighted, count_items, merge_equal};
+use basket_sets::{Database, Itemset, Minimum, Renumbering, Weighted, count_items, merge_equal};
 use std::alloc::{AllocError, Global};
 use std::marker::Model;
 use std::thread::{self, Threads};
@@ -88,7 +88,7 @@ impl Codes {
     {
         // Nothing is read here: the call brings its contract, which says that no item has two ranks.
         let _items = self.items();
-        place.basket.put_names(self);
+        place.basket.renumber(self);
     }
 
     /// The item of each rank.
@@ -113,7 +113,7 @@ impl Codes {
     }
 }
 
-impl Names for Codes {
+impl Renumbering for Codes {
     ghost name_of = { λ codes. rank_of codes.items };
 
     fn name(&self, number: u32) -> Option<u32> {

@@ -21,7 +21,7 @@ const SLOTS_PER_ITEM: usize = 16;
 
 /// A frequent item. The items with the greatest counts come first, those of one count by number.
 #[derive(PartialEq, Eq, PartialOrd, Ord, Drop)]
-struct Entry {
+struct RankedItem {
     count: Reverse<u64>,
     item: u32,
 }
@@ -46,7 +46,7 @@ pub fn ranked_items(
     items_in_order(alloc, &entries)
 }
 
-fn items_in_order(alloc: Global, entries: &[Entry]) -> Result<Vec<u32>, AllocError>
+fn items_in_order(alloc: Global, entries: &[RankedItem]) -> Result<Vec<u32>, AllocError>
     ensures { IfOk result (λ items. items.items ≡ map (λ entry. entry.item) entries.now) }
 {
     entries.iter().map(|entry| entry.item).collect(alloc)
@@ -57,13 +57,13 @@ fn frequent_entries(
     counts: &[(u32, u64)],
     total: u64,
     minimum: &Minimum,
-) -> Result<Vec<Entry>, AllocError>
+) -> Result<Vec<RankedItem>, AllocError>
     ensures { IfOk result (λ entries. entries_of entries.items ≡ filter (λ entry. meets minimum.now entry.1 total) counts.now) }
 {
     let mut entries = Vec::new(alloc);
     for (item, count) in counts {
         if minimum.met(*count, total) {
-            entries.push(Entry {
+            entries.push(RankedItem {
                 count: Reverse(*count),
                 item: *item,
             })?;

@@ -1,14 +1,14 @@
 -- What has been read of blanks and numbers.
 use Rattle.std.specs.Prelude.{◌≡◌, ℕ, ◌+◌, Bool, true, false, not, List, [], ◌∷◌, ◌++◌, map, filter, Option, Some, None}
 use Rattle.basket_sets.specs.Number.{is_digit, value_of}
-use Rattle.basket_read.specs.declared.class.Class.{Class}
-use Rattle.basket_read.specs.declared.class.Class.TheVariants.{Digit, Blank, Other}
+use Rattle.basket_read.specs.declared.byte_class.ByteClass.{ByteClass}
+use Rattle.basket_read.specs.declared.byte_class.ByteClass.TheVariants.{Digit, Blank, Other}
 use Rattle.basket_read.specs.declared.numbers.Numbers.{Numbers}
 use Rattle.basket_read.specs.Cut.{Cut, cut_at}
 use Rattle.basket_read.specs.Fimi.{is_blank, is_nil, are_numbers}
 
 -- what a byte can be among numbers
-abbrev pub IsClass : Class → ℕ → Type 0
+abbrev pub IsClass : ByteClass → ℕ → Type 0
 IsClass (Digit value) byte = (is_digit byte ≡ true) × (byte ≡ 48 + value)
 IsClass Blank byte = is_blank byte ≡ true
 IsClass Other byte = (is_digit byte ≡ false) × (is_blank byte ≡ false)

@@ -1,7 +1,7 @@
 //! Readers of baskets that return exactly the baskets of an input, or its first fault.
 #![tactic(auto)]
 
-mod class;
+mod byte_class;
 mod counted_line;
 mod fault;
 mod input;
@@ -17,7 +17,7 @@ mod shared;
 mod text;
 pub mod worked;
 
-pub use class::{Class, class_of};
+pub use byte_class::{ByteClass, class_of};
 pub use counted_line::CountedLine;
 pub use fault::ReadFault;
 pub use item_counts::ItemCounts;

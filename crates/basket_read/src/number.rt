@@ -5,7 +5,7 @@ ghost use Rattle.basket_sets.specs.Number.{is_digit, value_of};
 ghost use Rattle.basket_read.specs.Fimi.{MOST_NUMBER};
 ghost use Rattle.basket_read.specs.Number.{number_with};
 
-use crate::class::{Class, class_of};
+use crate::byte_class::{ByteClass, class_of};
 
 /// This many digits are never above the bound.
 const SHORT: usize = 8;
@@ -51,7 +51,7 @@ fn short_number(bytes: &[u8]) -> Digits
 {
     let mut value = 0;
     for (place, byte) in bytes.iter().enumerate() {
-        let Class::Digit(digit) = class_of(*byte) else {
+        let ByteClass::Digit(digit) = class_of(*byte) else {
             return Digits {
                 value,
                 count: place,
@@ -76,7 +76,7 @@ pub fn with_digits(before: u32, bytes: &[u8]) -> Digits
 {
     let mut value = before;
     for (place, byte) in bytes.iter().enumerate() {
-        let Class::Digit(digit) = class_of(*byte) else {
+        let ByteClass::Digit(digit) = class_of(*byte) else {
             return Digits {
                 value,
                 count: place,

@@ -1,7 +1,7 @@
 //! Blanks and numbers of which not all have been read.
 ghost use Rattle.std.specs.Prelude.{◌≡◌, ◌≤◌, ℕ, List, [], ◌∷◌, ◌++◌, length, take, nat_lt, if◌then◌else◌, None, Some, IfOk, OnOk};
 
-use crate::class::{Class, blanks_behind, class_of};
+use crate::byte_class::{ByteClass, blanks_behind, class_of};
 use crate::number::{Digits, number_at, with_digit, with_digits};
 use std::alloc::{AllocError, Global};
 
@@ -33,12 +33,12 @@ impl Numbers {
             IfOk result (λ taken. AreTaken taken self.new (text ++ byte ∷ [])) }
     {
         match class_of(byte) {
-            Class::Digit(digit) => Ok(self.add_digit(digit)),
-            Class::Blank => {
+            ByteClass::Digit(digit) => Ok(self.add_digit(digit)),
+            ByteClass::Blank => {
                 self.end()?;
                 Ok(true)
             }
-            Class::Other => Ok(false),
+            ByteClass::Other => Ok(false),
         }
     }
 
@@ -46,7 +46,7 @@ impl Numbers {
     #[inline(always)]
     fn add_digit(&mut self, digit: u8) -> bool
         requires { digit < 10 }
-        ensures { (text : List ℕ) (byte : ℕ) → IsClass (Class.Digit digit) byte → IsNumbersSoFar self.old text →
+        ensures { (text : List ℕ) (byte : ℕ) → IsClass (ByteClass.Digit digit) byte → IsNumbersSoFar self.old text →
             AreTaken result self.new (text ++ byte ∷ []) }
     {
         let Some(value) = with_digit(self.begun.unwrap_or(0), digit) else {

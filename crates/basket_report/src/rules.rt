@@ -13,7 +13,7 @@ use crate::report::Report;
 use crate::style::Style;
 use crate::texts::Texts;
 use basket_core::{Frequent, Share, shard};
-use basket_order::Places;
+use basket_order::PlaceTable;
 use basket_rules::{Lookups, met_rules, places_of};
 use std::alloc::{AllocError, Global};
 use std::thread::{self, Threads};
@@ -31,7 +31,7 @@ struct Unions<'a> {
     frequent: &'a Frequent,
     confidence: Share,
     style: Style<'a>,
-    places: &'a Places,
+    places: &'a PlaceTable,
     texts: &'a Texts,
     parts: u32,
 }

@@ -14,7 +14,7 @@ use crate::lookups::{Lookups, places_of};
 use crate::rule_counts::RuleCounts;
 use crate::wanted::Wanted;
 use basket_core::{Fraction, Frequent, Itemset, MOST_ITEMS, Share};
-use basket_order::Places;
+use basket_order::PlaceTable;
 use std::alloc::{AllocError, Global};
 
 /// The rules of a union of up to this many items have room before they are made.
@@ -62,7 +62,7 @@ pub fn rules_with(
     ensures baskets { IfOk result (λ rules. AreRulesWith frequent.now confidence number rules.items) }
     ensures lists { IfOk result (λ rules. IsConsistent frequent.now.sets → rules.items ≡ rules_among_with frequent.now confidence (set_at frequent.now.sets number)) }
 {
-    let places = Places::none(alloc);
+    let places = PlaceTable::none(alloc);
     let mut lookups = Lookups::new(alloc, &places);
     let met = met_rules(alloc, frequent, number, confidence, &mut lookups)?;
     let mut rules = Vec::with_capacity(alloc, met.len())?;

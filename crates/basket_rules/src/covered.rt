@@ -11,7 +11,7 @@ use crate::listed::items_at;
 use crate::search::find_near;
 use basket_core::CountedSets;
 use basket_lists::MOST_ITEMS;
-use basket_order::{NOWHERE, Places};
+use basket_order::{NOWHERE, PlaceTable};
 use std::alloc::{AllocError, Global};
 
 /// Which supersets matter.
@@ -74,7 +74,7 @@ fn end_of_size(sets: &CountedSets, start: usize) -> usize
 fn mark_below(
     sets: &CountedSets,
     supersets: Supersets,
-    below: &Places,
+    below: &PlaceTable,
     start: usize,
     end: usize,
     marks: &mut [bool],

@@ -9,14 +9,14 @@ use crate::hashes::ItemHashes;
 use crate::listed::items_at;
 use crate::rule_counts::RuleCounts;
 use basket_core::{CountedSets, Frequent, MOST_ITEMS};
-use basket_order::{Places, items_hash};
+use basket_order::{PlaceTable, items_hash};
 use std::alloc::{AllocError, Global};
 
 /// What a thread keeps from union to union while it makes the rules of a list: places of its sets by
 /// hashes, which threads share, and room that is used again. No rule depends on it.
 #[derive(Debug, Drop)]
 pub struct Lookups<'a> {
-    pub(crate) places: &'a Places,
+    pub(crate) places: &'a PlaceTable,
     /// The items of the set that was looked at last, if it is kept as a word.
     pub(crate) room: [u32; MOST_ITEMS],
     /// The hashes of the items of the last union.
@@ -26,8 +26,8 @@ pub struct Lookups<'a> {
 }
 
 /// The places of the sets of a list by their hashes.
-pub fn places_of(alloc: Global, sets: &CountedSets) -> Result<Places, AllocError> {
-    let mut places = Places::with_room(alloc, sets.len())?;
+pub fn places_of(alloc: Global, sets: &CountedSets) -> Result<PlaceTable, AllocError> {
+    let mut places = PlaceTable::with_room(alloc, sets.len())?;
     let mut room = [0; MOST_ITEMS];
     for place in 0..sets.len() {
         places.keep(items_hash(items_at(sets, place, &mut room)), place);
@@ -37,7 +37,7 @@ pub fn places_of(alloc: Global, sets: &CountedSets) -> Result<Places, AllocError
 
 impl<'a> Lookups<'a> {
     /// Nothing is allocated.
-    pub fn new(alloc: Global, places: &'a Places) -> Self {
+    pub fn new(alloc: Global, places: &'a PlaceTable) -> Self {
         Lookups {
             places,
             room: [0; MOST_ITEMS],

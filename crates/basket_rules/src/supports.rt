@@ -8,7 +8,7 @@ use crate::consequents::MOST_PLACES;
 use crate::listed::items_at;
 use crate::search::find_near;
 use basket_core::{CountedSets, MOST_ITEMS};
-use basket_order::{MOST_STEPS, Places};
+use basket_order::{MOST_STEPS, PlaceTable};
 
 /// The place of the set with the items of a union at the places of a word, if it is found by its
 /// hash.
@@ -17,7 +17,7 @@ pub fn place_of(
     union: &[u32],
     places: u64,
     hash: u64,
-    kept: &Places,
+    kept: &PlaceTable,
     room: &mut [u32; MOST_ITEMS],
 ) -> Option<usize>
     requires { length union.now ≤ MOST_PLACES }

@@ -13,7 +13,7 @@ use Rattle.std.proofs.lemmas.List.{take_more, get_or-map, get_or_default, get_or
 use Rattle.std.proofs.lemmas.List.Sums.{sum_by-cons, sum_by_push, sum_by-le-sum_by, sum_by_more_le, sum_by-take-drop}
 use Rattle.std.proofs.lemmas.List.Sorted.{ranks_by, sorted_far, Contains-permutation, IsPermutation-sym, sum_by-IsPermutation}
 use Rattle.std.proofs.lemmas.Bool.{cases_order, cases_eq, or_cases, or_parts, and_from, and_parts, eq-eqb, cond-false, false≢true, false_from_ne_true}
-use Rattle.basket_sets.specs.declared.merge.Place.{Place}
+use Rattle.basket_sets.specs.declared.merge.DigestedBasket.{DigestedBasket}
 use Rattle.basket_sets.specs.declared.weighted.Weighted.{Weighted}
 use Rattle.basket_sets.specs.Database.{is_of, weight_of}
 use Rattle.basket_sets.specs.Merge.{digest_of, Seen, seen, seen_places, placed, places_from, is_before, has_same_basket, ArePlaces, Leads, LeadsAt, first_weights_after, first_weights}
@@ -297,7 +297,7 @@ first_weights_are baskets places weights moved long are =
 -- ---- for the code
 
 -- a place of the slice, as it is seen
-pub seen_at : (places : List Place) (i : ℕ) (p : Place) → i < length places → p ≡ get_or places i p → (d : Seen) → seen p ≡ get_or (seen_places places) i d
+pub seen_at : (places : List DigestedBasket) (i : ℕ) (p : DigestedBasket) → i < length places → p ≡ get_or places i p → (d : Seen) → seen p ≡ get_or (seen_places places) i d
 seen_at places i p below is d = ap seen is ∙ sym (get_or-map seen places i p d below)
 
 pub leader_of : (baskets : List Weighted) (places : List Seen) (i first : ℕ) (s : Seen) → ((d : Seen) → s ≡ get_or places i d) → LeadsAt baskets places i first → Leads baskets first s.basket
@@ -307,19 +307,19 @@ pub leads_at : (baskets : List Weighted) (places : List Seen) (i first : ℕ) (s
 leads_at baskets places i first s is leads d = subst (λ (q : Seen). Leads baskets first q.basket) (is d) leads
 
 -- the place leads its basket if it is the first, or the one before has another basket
-pub new_leader : (baskets : List Weighted) (places : List Place) (i : ℕ) (p : Place) → ArePlaces baskets (seen_places places) → i < length places → p ≡ get_or places i p
-    → (i ≡ 0) ⊎ ((0 < i) × ((q : Place) × (q ≡ get_or places (i - 1) q) × (has_same_basket (seen p) (seen q) ≡ false))) → LeadsAt baskets (seen_places places) i p.place
+pub new_leader : (baskets : List Weighted) (places : List DigestedBasket) (i : ℕ) (p : DigestedBasket) → ArePlaces baskets (seen_places places) → i < length places → p ≡ get_or places i p
+    → (i ≡ 0) ⊎ ((0 < i) × ((q : DigestedBasket) × (q ≡ get_or places (i - 1) q) × (has_same_basket (seen p) (seen q) ≡ false))) → LeadsAt baskets (seen_places places) i p.place
 new_leader baskets places i p are below is new =
     leads_at baskets (seen_places places) i p.place (seen p) (seen_at places i p below is)
     (new_run_leads baskets (seen_places places) are.permutation are.sorted i (seen p) (omega (arith, length-map places seen)) (seen_at places i p below is) (seen_before new))
   where
-    seen_before : (i ≡ 0) ⊎ ((0 < i) × ((q : Place) × (q ≡ get_or places (i - 1) q) × (has_same_basket (seen p) (seen q) ≡ false)))
+    seen_before : (i ≡ 0) ⊎ ((0 < i) × ((q : DigestedBasket) × (q ≡ get_or places (i - 1) q) × (has_same_basket (seen p) (seen q) ≡ false)))
         → (i ≡ 0) ⊎ ((0 < i) × ((r : Seen) × ((d : Seen) → r ≡ get_or (seen_places places) (i - 1) d) × (has_same_basket (seen p) r ≡ false)))
     seen_before (inl e) = inl e
     seen_before (inr n) = inr (n.0, (seen n.1.0, seen_at places (i - 1) n.1.0 (omega (arith, below)) n.1.1, n.1.2))
 
 -- the place before has the same basket, and so the same leader
-pub same_leader_at : (baskets : List Weighted) (places : List Place) (i first : ℕ) (p q : Place) → i < length places → p ≡ get_or places i p → q ≡ get_or places (i - 1) q
+pub same_leader_at : (baskets : List Weighted) (places : List DigestedBasket) (i first : ℕ) (p q : DigestedBasket) → i < length places → p ≡ get_or places i p → q ≡ get_or places (i - 1) q
     → has_same_basket (seen p) (seen q) ≡ true → LeadsAt baskets (seen_places places) (i - 1) first → LeadsAt baskets (seen_places places) i first
 same_leader_at baskets places i first p q below is before same leads =
     let one = (bytes_decides p.basket.now q.basket.now).0 (and_parts (eqb p.digest q.digest) (pointwise nat_eq p.basket.now q.basket.now) same).1 in

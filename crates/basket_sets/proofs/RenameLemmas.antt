@@ -1,4 +1,4 @@
--- Names put in the places of numbers, one after another.
+-- Renumbering put in the places of numbers, one after another.
 use Rattle.std.proofs.Common.{ℕ, ◌+◌, ◌≡◌, ◌<◌, ◌++◌, List, [], ◌∷◌, length, map, take, get_or, set, ap, sym, subst, ◌∙◌}
 use Rattle.std.proofs.lemmas.List.{get_or-set_same, length-set, map_push, take-set, take_more}
 

@@ -5,7 +5,7 @@ use Rattle.std.specs.List.Sorted.{IsPermutation, IsSorted}
 use Rattle.std.specs.Cmp.Lexicographic.{pointwise}
 use Rattle.std.specs.declared.cmp.Ordering.{Ordering}
 use Rattle.std.specs.Ordering.{nat_cmp, ordering_then}
-use Rattle.basket_sets.specs.declared.merge.Place.{Place}
+use Rattle.basket_sets.specs.declared.merge.DigestedBasket.{DigestedBasket}
 use Rattle.basket_sets.specs.declared.merge.TheConstants.{MULTIPLIER}
 use Rattle.basket_sets.specs.declared.weighted.Weighted.{Weighted}
 use Rattle.basket_sets.specs.Database.{is_of, weight_of, weighted}
@@ -22,10 +22,10 @@ pub record Seen : Type 0 where
   pub place : ℕ
   pub weight : ℕ
 
-abbrev pub seen : Place → Seen
+abbrev pub seen : DigestedBasket → Seen
 seen p = record { digest = p.digest; basket = p.basket.now; place = p.place; weight = p.weight }
 
-abbrev pub seen_places : List Place → List Seen
+abbrev pub seen_places : List DigestedBasket → List Seen
 seen_places places = map seen places
 
 -- a basket of a list, with its place

@@ -1,6 +1,6 @@
 ghost use Rattle.std.specs.Prelude.{◌≡◌, ◌<◌, ◌≤◌, ◌+◌, ◌++◌, ◌^◌, ℕ, List, None, IfOk, IsTrue, if◌then◌else◌, length, map, unwrap_or, slice_index, slice_index_or};
 ghost use Rattle.std.specs.List.{zip};
-ghost use Rattle.basket_sets.specs.declared.weighted.Weighted.{Weighted as Place};
+ghost use Rattle.basket_sets.specs.declared.weighted.Weighted.{Weighted as Basket};
 ghost use Rattle.basket_sets.specs.Counts.{item_supports, tally, IsTable, AllBelow, entries_of};
 ghost use Rattle.basket_sets.specs.Database.{MOST_WEIGHT};
 ghost use Rattle.basket_sets.specs.Itemset.{IsRising, has};
@@ -69,7 +69,7 @@ fn count_by_table(
 pub fn add_places(table: &mut [Slot], baskets: &[Weighted])
     requires within { AllBelow (length table.old) (all_items baskets.now) }
     requires fits { (item : ℕ) → unwrap_or (slice_index_or table.old item None) 0 + total_of baskets.now ≤ MOST_WEIGHT }
-    ensures table { (before : List Place) → IsTable before table.old → IsTable (before ++ baskets.now) table.new }
+    ensures table { (before : List Basket) → IsTable before table.old → IsTable (before ++ baskets.now) table.new }
     ensures bounded { (item : ℕ) → unwrap_or (slice_index_or table.new item None) 0 ≤ unwrap_or (slice_index_or table.old item None) 0 + total_of baskets.now }
 {
     for place in baskets {

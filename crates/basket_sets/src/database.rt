@@ -17,11 +17,11 @@ pub struct Database {
 
 impl Model for Database {
     ghost use Rattle.std.specs.Prelude.{List, ◌≡◌};
-    ghost use Rattle.basket_sets.specs.declared.weighted.Weighted.{Weighted as Place};
+    ghost use Rattle.basket_sets.specs.declared.weighted.Weighted.{Weighted as Basket};
     ghost use Rattle.basket_sets.specs.Database.{IsDatabase};
     ghost use Rattle.basket_sets.specs.Support.{total_of};
 
-    ghost Value = { List Place };
+    ghost Value = { List Basket };
 
     ghost view = { λ d. d.baskets.items };
 

@@ -1,6 +1,6 @@
 //! The supports of items while baskets come.
 ghost use Rattle.std.specs.Prelude.{◌≡◌, ◌<◌, ◌≤◌, ◌+◌, ◌++◌, ◌^◌, [], List, false, IfOk, IsTrue, OnOk, length, map};
-ghost use Rattle.basket_sets.specs.declared.weighted.Weighted.{Weighted as Place};
+ghost use Rattle.basket_sets.specs.declared.weighted.Weighted.{Weighted as Basket};
 ghost use Rattle.basket_sets.specs.Counts.{AllBelow, item_supports};
 ghost use Rattle.basket_sets.specs.Database.{MOST_WEIGHT};
 ghost use Rattle.basket_sets.specs.ItemTable.{HasCounted};
@@ -57,7 +57,7 @@ impl ItemTable {
     /// that the table would be too large for them. Returns whether they were counted.
     pub fn add(&mut self, baskets: &[Weighted]) -> Result<bool, AllocError>
         requires { self.old.total + total_of baskets.now ≤ MOST_WEIGHT }
-        ensures counted { IfOk result (λ counted. IsTrue counted → (before : List Place) → HasCounted self.old before → HasCounted self.new (before ++ baskets.now)) }
+        ensures counted { IfOk result (λ counted. IsTrue counted → (before : List Basket) → HasCounted self.old before → HasCounted self.new (before ++ baskets.now)) }
         ensures left { IfOk result (λ counted. counted ≡ false → self.new ≡ self.old) }
     {
         let greatest = greatest_item(baskets) as usize;
@@ -73,7 +73,7 @@ impl ItemTable {
     /// Counts the baskets that another table has counted.
     pub fn append(&mut self, other: &ItemTable) -> Result<(), AllocError>
         requires { self.old.total + other.now.total ≤ MOST_WEIGHT }
-        ensures { OnOk result ((before more : List Place) → HasCounted self.old before → HasCounted other.now more → HasCounted self.new (before ++ more)) }
+        ensures { OnOk result ((before more : List Basket) → HasCounted self.old before → HasCounted other.now more → HasCounted self.new (before ++ more)) }
     {
         self.reach(other.slots.len())?;
         add_slots(&mut self.slots, &other.slots);
@@ -86,7 +86,7 @@ impl ItemTable {
     fn reach(&mut self, slots: usize) -> Result<(), AllocError>
         requires { slots ≤ 2 ^ 32 }
         ensures reaches { OnOk result (slots ≤ length self.new.slots) }
-        ensures same { OnOk result ((before : List Place) → HasCounted self.old before → HasCounted self.new before) }
+        ensures same { OnOk result ((before : List Basket) → HasCounted self.old before → HasCounted self.new before) }
         ensures total { self.new.total ≡ self.old.total }
     {
         if slots > self.slots.len() {
@@ -99,7 +99,7 @@ impl ItemTable {
     fn count(&mut self, baskets: &[Weighted], occurrences: usize)
         requires within { AllBelow (length self.old.slots) (all_items baskets.now) }
         requires light { self.old.total + total_of baskets.now ≤ MOST_WEIGHT }
-        ensures { (before : List Place) → HasCounted self.old before → HasCounted self.new (before ++ baskets.now) }
+        ensures { (before : List Basket) → HasCounted self.old before → HasCounted self.new (before ++ baskets.now) }
     {
         add_places(&mut self.slots, baskets);
         self.total += weight_of(baskets);
@@ -108,7 +108,7 @@ impl ItemTable {
 
     /// The items in rising order, each with its support.
     pub fn counts(&self, alloc: Global) -> Result<Vec<(u32, u64)>, AllocError>
-        ensures counts { IfOk result (λ counts. (baskets : List Place) → HasCounted self.now baskets → counts.items ≡ item_supports baskets) }
+        ensures counts { IfOk result (λ counts. (baskets : List Basket) → HasCounted self.now baskets → counts.items ≡ item_supports baskets) }
         ensures rising { IfOk result (λ counts. IsRising (map (λ entry. entry.0) counts.items)) }
     {
         listed(alloc, &self.slots)

@@ -9,7 +9,7 @@ ghost use Rattle.basket_sets.specs.Order.{report_order, report_order_total, repo
 ghost use Rattle.basket_sets.specs.Itemset.{AllBelow, IsRising, has, contains, rising, spaced, with_item};
 ghost use Rattle.basket_sets.specs.declared.itemset.TheConstants.{INLINE_ITEMS};
 
-use crate::names::{Names, put_names};
+use crate::renumbering::{Renumbering, renumber};
 use crate::short::put_in_order;
 use smallvec::SmallVec;
 use std::alloc::{AllocError, Global};
@@ -81,10 +81,10 @@ impl Itemset {
     }
 
     /// Replaces the set by that of the names of its items. An item without a name is left out.
-    pub fn put_names<N: Names>(&mut self, names: &N)
+    pub fn renumber<N: Renumbering>(&mut self, names: &N)
         ensures { self.new ≡ rising (filter_map (N.name_of names.now) self.old) }
     {
-        let len = put_names(self.items.as_mut_slice(), names);
+        let len = renumber(self.items.as_mut_slice(), names);
         self.items.truncate(len);
         put_rising(&mut self.items);
     }

@@ -12,14 +12,14 @@ use std::alloc::{AllocError, Global};
 /// A place of a list of baskets. Places are ordered by the basket's digest, which most often
 /// settles it, then by the basket, then by the place itself.
 #[derive(PartialEq, Eq, PartialOrd, Ord, Drop)]
-pub struct Place<'a> {
+pub struct DigestedBasket<'a> {
     digest: u64,
     basket: &'a Itemset,
     place: usize,
     weight: u64,
 }
 
-impl Place<'_> {
+impl DigestedBasket<'_> {
     /// Whether both places have one basket.
     fn same_basket(&self, other: &Self) -> bool
         ensures { result ≡ has_same_basket (seen self.now) (seen other.now) }
@@ -47,12 +47,12 @@ const MULTIPLIER: u64 = 0x9e37_79b9_7f4a_7c15;
 pub fn sorted_places<'a>(
     alloc: Global,
     baskets: &'a [Weighted],
-) -> Result<Vec<Place<'a>>, AllocError>
+) -> Result<Vec<DigestedBasket<'a>>, AllocError>
     ensures { IfOk result (λ places. ArePlaces baskets.now (seen_places places.items)) }
 {
     let mut places = Vec::with_capacity(alloc, baskets.len())?;
     for (place, weighted) in baskets.iter().enumerate() {
-        places.push(Place {
+        places.push(DigestedBasket {
             digest: digest(&weighted.basket),
             basket: &weighted.basket,
             place,
@@ -65,7 +65,7 @@ pub fn sorted_places<'a>(
 
 /// The first place with the basket of the place at the index, where `first` is that of the place
 /// before it.
-fn leader(places: &[Place<'_>], index: usize, first: usize) -> usize
+fn leader(places: &[DigestedBasket<'_>], index: usize, first: usize) -> usize
     requires { index < length places.now }
     ensures { (baskets : List Basket) → ArePlaces baskets (seen_places places.now)
         → (0 < index → LeadsAt baskets (seen_places places.now) (index - 1) first)
@@ -85,7 +85,7 @@ fn leader(places: &[Place<'_>], index: usize, first: usize) -> usize
 pub fn weights_at_firsts(
     alloc: Global,
     baskets: &[Weighted],
-    places: &[Place<'_>],
+    places: &[DigestedBasket<'_>],
 ) -> Result<Vec<u64>, AllocError>
     requires light { total_of baskets.now ≤ MOST_WEIGHT }
     requires places { ArePlaces baskets.now (seen_places places.now) }

@@ -1,4 +1,4 @@
--- Places of a block of baskets as bits, and what rows have of them.
+-- TidWord of a block of baskets as bits, and what rows have of them.
 use Rattle.std.proofs.Common.{◌≡◌, ℕ, zero, suc, ◌+◌, ◌*◌, ◌/◌, ◌%◌, ◌<◌, ◌≤◌, ◌^◌, Bool, true, false, ◌&&◌, List, [], ◌∷◌, ◌++◌, length, take, drop, get_or, ◌-◌, cond, eqb, refl, sym, ap, ◌∙◌, subst, inl, inr, arith, min, w64}
 use Rattle.std.specs.Prelude.{bit_and, bit_or, count_ones}
 use Rattle.std.specs.Int.{bit_at, trailing_zeros}
@@ -17,12 +17,12 @@ use Rattle.basket_sets.specs.Support.{support_of, weight_at}
 use Rattle.basket_sets.proofs.theory.Members.{Member, Member-append_left, Member-append_right}
 use Rattle.basket_sets.proofs.theory.Rising.{Member-from_has, contains_each, has-from_Member, has_each}
 use Rattle.basket_sets.proofs.theory.Support.{support-cons, support_falls}
-use Rattle.mine_apriori.specs.declared.places.Places.{Places}
-use Rattle.mine_apriori.specs.Places.{AreKept, ArePlacesOf, IsJoinable, IsRowOf, basket_at, has_place, part_weight, shared_weight, weight_from}
+use Rattle.mine_apriori.specs.declared.tid_words.TidWord.{TidWord}
+use Rattle.mine_apriori.specs.TidWord.{AreKept, ArePlacesOf, IsJoinable, IsRowOf, basket_at, has_place, part_weight, shared_weight, weight_from}
 use Rattle.mine_apriori.specs.UsedItems.{AreUsed}
 use Rattle.mine_apriori.proofs.OnesLemmas.{one_shared, ones_shared}
 
-abbrev pub places_at : ℕ → ℕ → ℕ → Places
+abbrev pub places_at : ℕ → ℕ → ℕ → TidWord
 places_at word bits weight = record { word = word; bits = bits; weight = weight }
 
 -- the word of a list of words
@@ -36,10 +36,10 @@ both r row word = bit_and (r word) (row word)
 -- ---- places that are added
 
 -- some places more, at those of their word and weight
-pub added_part : (row : ℕ → ℕ) (places : List Places) (at : ℕ) (part more : Places) → at < length places → part ≡ get_or places at more
+pub added_part : (row : ℕ → ℕ) (places : List TidWord) (at : ℕ) (part more : TidWord) → at < length places → part ≡ get_or places at more
     → IsJoinable part more → shared_weight row (set places at (places_at part.word (bit_or part.bits more.bits) part.weight)) ≡ shared_weight row places + part_weight row more
 added_part row places at part more below is join =
-    let new : Places = places_at part.word (bit_or part.bits more.bits) part.weight in
+    let new : TidWord = places_at part.word (bit_or part.bits more.bits) part.weight in
     let step = sum_by-set (part_weight row) places at new more below in
     let old : part_weight row (get_or places at more) ≡ part_weight row part = ap (part_weight row) (sym is) in
     let there : part_weight row more ≡ count_ones (bit_and more.bits (row part.word)) * part.weight =
@@ -86,10 +86,10 @@ rest_more row place rest part start now new le added before = let parts = cond_p
 
 -- ---- places that are kept
 
-kept_part : (r : List ℕ) (row : ℕ → ℕ) (part : Places) → part_weight row (places_at part.word (bit_and part.bits (words r part.word)) part.weight) ≡ part_weight (both (words r) row) part
+kept_part : (r : List ℕ) (row : ℕ → ℕ) (part : TidWord) → part_weight row (places_at part.word (bit_and part.bits (words r part.word)) part.weight) ≡ part_weight (both (words r) row) part
 kept_part r row part = ap (λ n. count_ones n * part.weight) (and_assoc (row part.word) part.bits (words r part.word))
 
-pub kept_more : (r : List ℕ) (places kept new : List Places) (i : ℕ) (part : Places) → i < length places → part ≡ get_or places i part
+pub kept_more : (r : List ℕ) (places kept new : List TidWord) (i : ℕ) (part : TidWord) → i < length places → part ≡ get_or places i part
     → ((row : ℕ → ℕ) → shared_weight row new ≡ shared_weight row kept + part_weight row (places_at part.word (bit_and part.bits (words r part.word)) part.weight))
     → AreKept r (take i places) kept → AreKept r (take (i + 1) places) new
 kept_more r places kept new i part below is pushed before = record {
@@ -196,14 +196,14 @@ row_of : (baskets : List Weighted) (item : ℕ) (r : List ℕ) → IsRowOf baske
 row_of baskets item r is k below = let e : 0 + k ≡ k = omega arith in ap (has_place (words r)) e ∙ is.each k
 
 -- what a row of an item has of the places of a set are those of the set with the item
-pub are_kept : (baskets : List Weighted) (items : List ℕ) (item : ℕ) (r : List ℕ) (places kept : List Places)
+pub are_kept : (baskets : List Weighted) (items : List ℕ) (item : ℕ) (r : List ℕ) (places kept : List TidWord)
     → ArePlacesOf baskets items places → IsRowOf baskets item r → AreKept r places kept → ArePlacesOf baskets (items ++ item ∷ []) kept
 are_kept baskets items item r places kept are is keeps = record {
   weighs = λ row. keeps.weighs row ∙ are.weighs (both (words r) row) ∙ from_both 0 (words r) row items item baskets (row_of baskets item r is);
 }
 
 -- they weigh the support of the set with the item
-pub weighs_support : (baskets : List Weighted) (items : List ℕ) (item : ℕ) (r : List ℕ) (places : List Places)
+pub weighs_support : (baskets : List Weighted) (items : List ℕ) (item : ℕ) (r : List ℕ) (places : List TidWord)
     → ArePlacesOf baskets items places → IsRowOf baskets item r → shared_weight (words r) places ≡ support_of baskets (items ++ item ∷ [])
 weighs_support baskets items item r places are is = are.weighs (words r) ∙ from_row 0 (words r) items item baskets (row_of baskets item r is)
 
@@ -212,7 +212,7 @@ pub none_support : (baskets : List Weighted) (items : List ℕ) → ArePlacesOf 
 none_support baskets items are = sym (from_ones 0 items baskets) ∙ sym (are.weighs ones)
 
 -- the places of all baskets, with one basket more
-pub all_more : (baskets : List Weighted) (basket : Weighted) (place : ℕ) (places new : List Places) → place ≡ length baskets
+pub all_more : (baskets : List Weighted) (basket : Weighted) (place : ℕ) (places new : List TidWord) → place ≡ length baskets
     → ((row : ℕ → ℕ) → shared_weight row new ≡ shared_weight row places + cond (has_place row place) basket.weight 0)
     → ArePlacesOf baskets [] places → ArePlacesOf (baskets ++ basket ∷ []) [] new
 all_more baskets basket place places new long added before = record {

@@ -12,7 +12,7 @@ use Rattle.basket_sets.specs.Itemset.{IsRising, has}
 use Rattle.basket_sets.proofs.theory.Rising.{has_more}
 use Rattle.basket_sets.proofs.theory.Tests.{apart_eqb, or_false, or_true}
 use Rattle.mine_apriori.specs.declared.rows.Rows.{Rows}
-use Rattle.mine_apriori.specs.Places.{IsRowOf, basket_at}
+use Rattle.mine_apriori.specs.TidWord.{IsRowOf, basket_at}
 use Rattle.mine_apriori.specs.Rows.{AreRows, bit_in}
 use Rattle.mine_apriori.specs.UsedItems.{AreNumbers}
 use Rattle.mine_apriori.proofs.UsedItemLemmas.{has_number}

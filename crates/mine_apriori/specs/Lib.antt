@@ -5,7 +5,7 @@ pub mod Join
 pub mod Shard
 pub mod Work
 pub mod Levels
-pub mod Places
+pub mod TidWord
 pub mod UsedItems
 pub mod Needed
 pub mod Prefixes

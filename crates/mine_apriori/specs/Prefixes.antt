@@ -2,20 +2,20 @@ use Rattle.std.specs.Prelude.{◌≡◌, ◌<◌, ◌≤◌, ◌-◌, ◌++◌, 
 use Rattle.std.specs.declared.alloc.Global.{Global}
 use Rattle.std.specs.declared.vec.Vec.{Vec}
 use Rattle.basket_sets.specs.declared.weighted.Weighted.{Weighted}
-use Rattle.mine_apriori.specs.declared.places.Places.{Places}
-use Rattle.mine_apriori.specs.Places.{AreKept, ArePlacesOf}
+use Rattle.mine_apriori.specs.declared.tid_words.TidWord.{TidWord}
+use Rattle.mine_apriori.specs.TidWord.{AreKept, ArePlacesOf}
 
 -- for each number of first items of a set, as far as they go, the places of the baskets that contain those items
-pub record ArePrefixes (baskets : List Weighted) (items : List ℕ) (prefixes : List (Vec Places Global)) : Type 0 where
+pub record ArePrefixes (baskets : List Weighted) (items : List ℕ) (prefixes : List (Vec TidWord Global)) : Type 0 where
   pub some : 1 ≤ length prefixes
-  pub each : (depth : ℕ) (d : Vec Places Global) → depth < length prefixes → ArePlacesOf baskets (take depth items) (slice_index_or prefixes depth d).items
+  pub each : (depth : ℕ) (d : Vec TidWord Global) → depth < length prefixes → ArePlacesOf baskets (take depth items) (slice_index_or prefixes depth d).items
 
 -- the places of the last prefix
-abbrev pub AreLast : List (Vec Places Global) → List Places → Type 0
-AreLast prefixes places = (d : Vec Places Global) → places ≡ (slice_index_or prefixes (length prefixes - 1) d).items
+abbrev pub AreLast : List (Vec TidWord Global) → List TidWord → Type 0
+AreLast prefixes places = (d : Vec TidWord Global) → places ≡ (slice_index_or prefixes (length prefixes - 1) d).items
 
 -- one prefix more, with those places of the last one that a row has too
-pub record IsNext (row : List ℕ) (old new : List (Vec Places Global)) : Type 0 where
-  pub kept : Vec Places Global
+pub record IsNext (row : List ℕ) (old new : List (Vec TidWord Global)) : Type 0 where
+  pub kept : Vec TidWord Global
   pub pushed : new ≡ old ++ kept ∷ []
-  pub keeps : (places : List Places) → AreLast old places → AreKept row places kept.items
+  pub keeps : (places : List TidWord) → AreLast old places → AreKept row places kept.items

@@ -4,7 +4,7 @@ use Rattle.std.specs.Int.{bit_at}
 use Rattle.basket_sets.specs.declared.weighted.Weighted.{Weighted}
 use Rattle.basket_sets.specs.Itemset.{has}
 use Rattle.mine_apriori.specs.declared.rows.Rows.{Rows}
-use Rattle.mine_apriori.specs.Places.{basket_at}
+use Rattle.mine_apriori.specs.TidWord.{basket_at}
 
 -- whether rows of so many words, one behind the other, have a bit for a place in the row of a number
 abbrev pub bit_in : List ℕ → ℕ → ℕ → ℕ → Bool

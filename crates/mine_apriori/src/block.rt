@@ -4,13 +4,13 @@ ghost use Rattle.basket_sets.specs.Database.{MOST_WEIGHT};
 ghost use Rattle.basket_sets.specs.Itemset.{has};
 ghost use Rattle.basket_sets.specs.Support.{total_of};
 ghost use Rattle.mine_apriori.specs.Needed.{needed};
-ghost use Rattle.mine_apriori.specs.Places.{ArePlacesOf, IsRowOf};
+ghost use Rattle.mine_apriori.specs.TidWord.{ArePlacesOf, IsRowOf};
 ghost use Rattle.mine_apriori.specs.Prefixes.{ArePrefixes};
 ghost use Rattle.mine_apriori.specs.Rows.{AreRows};
 
-use crate::places::{Places, WORD, add_place};
 use crate::prefixes::Prefixes;
 use crate::rows::Rows;
+use crate::tid_words::{TidWord, WORD, add_place};
 use crate::used_items::UsedItems;
 use basket_core::Weighted;
 use std::alloc::{AllocError, Global};
@@ -23,7 +23,7 @@ pub struct Block<'a> {
     pub used: &'a UsedItems,
     pub least: usize,
     rows: Rows,
-    places: Vec<Places>,
+    places: Vec<TidWord>,
     ghost rows_of: { AreRows used.now (needed used.now least baskets.now) rows },
     ghost places_of: { ArePlacesOf (needed used.now least baskets.now) [] places.items },
     ghost light: { total_of (needed used.now least baskets.now) ≤ MOST_WEIGHT },

@@ -6,12 +6,12 @@ ghost use Rattle.basket_sets.specs.Support.{support_of, total_of};
 ghost use Rattle.mine_apriori.specs.BlockCounts.{placed};
 ghost use Rattle.mine_apriori.specs.Counter.{AreAdded};
 ghost use Rattle.mine_apriori.specs.Extensions.{extend};
-ghost use Rattle.mine_apriori.specs.Places.{ArePlacesOf};
+ghost use Rattle.mine_apriori.specs.TidWord.{ArePlacesOf};
 ghost use Rattle.mine_apriori.specs.Prefixes.{ArePrefixes};
 
 use crate::block::Block;
-use crate::places::{Places, put_kept, shared_weight};
 use crate::prefixes::Prefixes;
+use crate::tid_words::{TidWord, put_kept, shared_weight};
 use std::alloc::AllocError;
 use std::mem::swap;
 
@@ -72,7 +72,7 @@ impl Block<'_> {
     }
 
     /// Those of the places of a set whose baskets have all of the items.
-    fn kept_by_all(&self, places: &[Places], items: &[u32]) -> Result<Vec<Places>, AllocError>
+    fn kept_by_all(&self, places: &[TidWord], items: &[u32]) -> Result<Vec<TidWord>, AllocError>
         requires used { IsTrue (contains self.now.used.now items.now) }
         ensures { IfOk result (λ kept. (set : List ℕ) → ArePlacesOf (placed self.now) set places.now
             → ArePlacesOf (placed self.now) (set ++ items.now) kept.items) }
@@ -88,7 +88,7 @@ impl Block<'_> {
 
     /// Adds the supports of the sets that have the items of a set whose places are given, and one more each, to the counts
     /// from a place on.
-    fn add_weights(&self, places: &[Places], items: &[u32], start: usize, counts: &mut [u64])
+    fn add_weights(&self, places: &[TidWord], items: &[u32], start: usize, counts: &mut [u64])
         requires used { IsTrue (contains self.now.used.now items.now) }
         requires places { (set : List ℕ) × ArePlacesOf (placed self.now) set places.now }
         requires within { start + length items.now ≤ length counts.old }
@@ -102,7 +102,7 @@ impl Block<'_> {
 
     /// The support of the set that has the items of a set whose places are given, and one more.
     #[inline]
-    fn weight(&self, places: &[Places], item: u32) -> u64
+    fn weight(&self, places: &[TidWord], item: u32) -> u64
         requires used { IsTrue (has self.now.used.now item) }
         requires places { (set : List ℕ) × ArePlacesOf (placed self.now) set places.now }
         ensures { (set : List ℕ) → ArePlacesOf (placed self.now) set places.now → result ≡ support_of (placed self.now) (set ++ item ∷ []) }

@@ -8,7 +8,7 @@ ghost use Rattle.mine_classes.specs.Triangle.{WithSupports};
 
 use crate::block::Block;
 use crate::extensions::Extensions;
-use crate::places::WORD;
+use crate::tid_words::WORD;
 use crate::used_items::UsedItems;
 use basket_core::Weighted;
 use std::alloc::{AllocError, Global};

@@ -8,7 +8,7 @@ ghost use Rattle.mine_classes.specs.Pairs.{ArePairs, lists_of};
 
 use crate::extensions::Extensions;
 use crate::frequent::add_frequent;
-use crate::levels::{Known, Levels};
+use crate::levels::{KnownLevels, Levels};
 use crate::pairs::{pair_sets, sorted_pairs};
 use basket_core::{Coded, CountedSets, MineFault, count_items};
 use mine_classes::pair_count;
@@ -92,7 +92,7 @@ impl<'a> FirstLevel<'a> {
         let pairs = sorted_pairs(alloc, coded, pairs)?;
         let (sets, counts) = pair_sets(alloc, &pairs)?;
         let level = add_frequent(alloc, coded, &sets, &counts, &mut found)?;
-        let known = Known {
+        let known = KnownLevels {
             coded,
             size: 2,
             found,

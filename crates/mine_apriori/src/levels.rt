@@ -52,7 +52,7 @@ impl<'a> Levels<'a> {
         ensures too_many { (most : ℕ) → result ≡ Err (TooMany most) → (most ≡ limit) × AreTooMany coded.now limit }
     {
         let (found, level) = frequent_ranks(alloc, coded)?;
-        let known = Known {
+        let known = KnownLevels {
             coded,
             size: 1,
             found,
@@ -114,7 +114,7 @@ impl<'a> Levels<'a> {
             counted,
         } = self;
         let level = add_frequent(alloc, coded, &asked, counts, &mut found)?;
-        let known = Known {
+        let known = KnownLevels {
             coded,
             size: size + 1,
             found,
@@ -139,7 +139,7 @@ impl<'a> Levels<'a> {
 
 /// What a search knows once all frequent sets up to a size are found.
 #[derive(Drop)]
-pub(crate) struct Known<'a> {
+pub(crate) struct KnownLevels<'a> {
     pub coded: &'a Coded,
     pub size: usize,
     pub found: CountedSets,
@@ -147,7 +147,7 @@ pub(crate) struct Known<'a> {
     pub counted: u64,
 }
 
-impl<'a> Known<'a> {
+impl<'a> KnownLevels<'a> {
     /// The search that goes on from there, from the frequent sets of the size.
     pub(crate) fn ask(
         self,
@@ -164,7 +164,7 @@ impl<'a> Known<'a> {
         ensures ok { IfOk result (λ levels. levels ≡ record { coding = self.entry.coded.now; limit = limit; size = self.entry.size }) }
         ensures too_many { (most : ℕ) → result ≡ Err (TooMany most) → (most ≡ limit) × AreTooMany self.entry.coded.now limit }
     {
-        let Known {
+        let KnownLevels {
             coded,
             size,
             found,

@@ -3,7 +3,7 @@
 //!
 //! `levels` goes from size to size, from the `first_level` on. Sets are kept as `extensions`: prefixes, and the items that
 //! extend them. `join` makes candidates by the `intersection` of lists of items, which `search` looks up. `shard` counts
-//! sets by a `counter`: in each `block` of baskets the `used_items` have `rows` of bits, and the `places` of the baskets
+//! sets by a `counter`: in each `block` of baskets the `used_items` have `rows` of bits, and the `tid_words` of the baskets
 //! that contain a set are found from those of its `prefixes` (`block_counts`). `frequent` keeps the frequent sets. The
 //! second level is made of the frequent `pairs`.
 #![tactic(auto)]
@@ -19,11 +19,11 @@ mod join;
 pub mod laws;
 mod levels;
 mod pairs;
-mod places;
 mod prefixes;
 mod rows;
 mod search;
 mod shard;
+mod tid_words;
 mod used_items;
 pub mod worked;
 

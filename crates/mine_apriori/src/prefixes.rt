@@ -2,20 +2,20 @@
 ghost use Rattle.std.specs.Prelude.{◌≡◌, ◌≤◌, ◌++◌, ◌∷◌, [], IfOk, OnOk, length, take};
 ghost use Rattle.mine_apriori.specs.Prefixes.{AreLast, IsNext};
 
-use crate::places::{Places, put_kept};
+use crate::tid_words::{TidWord, put_kept};
 use std::alloc::{AllocError, Global};
 
 /// The places of some prefixes of a set, one more item from one to the next, and lists whose memory is used again.
 #[derive(Drop)]
 pub struct Prefixes {
     alloc: Global,
-    pub lists: Vec<Vec<Places>>,
-    spare: Vec<Vec<Places>>,
+    pub lists: Vec<Vec<TidWord>>,
+    spare: Vec<Vec<TidWord>>,
 }
 
 impl Prefixes {
     /// The prefix without items, which has all of the places.
-    pub fn of(alloc: Global, places: Vec<Places>) -> Result<Self, AllocError>
+    pub fn of(alloc: Global, places: Vec<TidWord>) -> Result<Self, AllocError>
         ensures { IfOk result (λ prefixes. prefixes.lists.items ≡ places ∷ []) }
     {
         let mut lists = Vec::new(alloc);
@@ -55,7 +55,7 @@ impl Prefixes {
 
     /// The places of the last one.
     #[inline]
-    pub fn last(&self) -> &[Places]
+    pub fn last(&self) -> &[TidWord]
         requires { 1 ≤ length self.now.lists.items }
         ensures { AreLast self.now.lists.items result.now }
     {

@@ -1,12 +1,12 @@
 //! Rows of bits of a block of baskets.
 ghost use Rattle.std.specs.Prelude.{◌≡◌, ◌≤◌, ◌<◌, ◌+◌, ◌*◌, ◌++◌, ◌∷◌, ◌==◌, ◌&&◌, ◌||◌, [], ℕ, All, List, IfOk, OnOk, length, slice_index};
 ghost use Rattle.basket_sets.specs.Itemset.{IsRising, has};
-ghost use Rattle.basket_sets.specs.declared.weighted.Weighted.{Weighted as Place};
-ghost use Rattle.mine_apriori.specs.Places.{IsRowOf};
+ghost use Rattle.basket_sets.specs.declared.weighted.Weighted.{Weighted as Basket};
+ghost use Rattle.mine_apriori.specs.TidWord.{IsRowOf};
 ghost use Rattle.mine_apriori.specs.Rows.{AreRows, bit_in};
 ghost use Rattle.mine_apriori.specs.UsedItems.{AreNumbers};
 
-use crate::places::WORD;
+use crate::tid_words::WORD;
 use crate::used_items::UsedItems;
 use std::alloc::{AllocError, Global};
 
@@ -36,9 +36,9 @@ impl Rows {
 
     /// Adds a basket, whose place is the number of those before it, by the numbers of its used items.
     pub fn push(&mut self, place: usize, numbers: &[usize])
-        requires rows { (used : List ℕ) × (before : List Place) × AreRows used before self.old × All (λ number. number < length used) numbers.now }
+        requires rows { (used : List ℕ) × (before : List Basket) × AreRows used before self.old × All (λ number. number < length used) numbers.now }
         requires room { place < self.old.words * 64 }
-        ensures rows { (used : List ℕ) (before : List Place) (basket : Place) → IsRising used → place ≡ length before → AreRows used before self.old
+        ensures rows { (used : List ℕ) (before : List Basket) (basket : Basket) → IsRising used → place ≡ length before → AreRows used before self.old
             → AreNumbers used basket.basket numbers.now → AreRows used (before ++ basket ∷ []) self.new }
         ensures room { self.new.words ≡ self.old.words }
     {
@@ -48,8 +48,8 @@ impl Rows {
     /// The row of an item by its number.
     #[inline]
     pub fn row(&self, number: usize) -> &[u64]
-        requires { (items : List ℕ) × (baskets : List Place) × (number < length items) × AreRows items baskets self.now }
-        ensures { (items : List ℕ) (baskets : List Place) → number < length items → AreRows items baskets self.now → IsRowOf baskets (slice_index items number) result.now }
+        requires { (items : List ℕ) × (baskets : List Basket) × (number < length items) × AreRows items baskets self.now }
+        ensures { (items : List ℕ) (baskets : List Basket) → number < length items → AreRows items baskets self.now → IsRowOf baskets (slice_index items number) result.now }
     {
         let start = number * self.words;
         &self.bits[start..start + self.words]

@@ -4,7 +4,7 @@ pub mod Runs
 pub mod Sums
 pub mod Pairs
 pub mod Triangle
-pub mod Places
+pub mod RankPlaces
 pub mod BitTable
 pub mod WordPaths
 pub mod Shift

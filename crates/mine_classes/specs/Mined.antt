@@ -27,7 +27,7 @@ MOST_SET_WORK = 2 ^ 32 - 1
 -- the class of a rank is listed, with a number of steps, and told to a tally; or the tally is over, the class is longer than its limit, or memory is out
 pub record MinesClass {T : Type 0} (told_of limit_of : T → ℕ) (is_over : T → Bool) (coding : Coding) (rank : ℕ) (before after : T) (result : Result (List Counted × ℕ) MineFault) : Type 0 where
   pub listed : IfOk result (λ mined. ListsClassItems coding rank mined.0)
-  pub little : IfOk result (λ mined. mined.1 ≤ class_size coding rank * MOST_SET_WORK)
+  pub few : IfOk result (λ mined. mined.1 ≤ class_size coding rank * MOST_SET_WORK)
   pub told : IfOk result (λ mined. told_of after ≡ told_of before + length mined.0)
   pub going_on : OnOk result (is_over after ≡ false)
   pub too_many : (limit : ℕ) → result ≡ Err (TooMany limit) → (limit ≡ limit_of before) × (IsTrue (is_over after) ⊎ (limit < class_size coding rank))

@@ -8,10 +8,10 @@ use Rattle.mine_baskets.specs.declared.span.Span.{Span}
 use Rattle.mine_baskets.specs.ListBaskets.{AreRankBaskets, HaveSameWeights, RankBaskets}
 use Rattle.mine_classes.specs.Conditional.{conditional}
 use Rattle.mine_classes.specs.Pairs.{kept_ranks}
-use Rattle.mine_classes.specs.declared.paths.Form.{Form}
-use Rattle.mine_classes.specs.declared.paths.Form.TheVariants.{Runs, Words}
+use Rattle.mine_classes.specs.declared.paths.PathsForm.{PathsForm}
+use Rattle.mine_classes.specs.declared.paths.PathsForm.TheVariants.{Runs, Words}
 
-abbrev pub form_baskets : Form → RankBaskets
+abbrev pub form_baskets : PathsForm → RankBaskets
 form_baskets (Runs runs) = runs
 form_baskets (Words words) = words
 

@@ -6,7 +6,7 @@ ghost use Rattle.mine_classes.specs.Conditional.{conditional_baskets};
 ghost use Rattle.mine_classes.specs.Pairs.{pairs_of};
 ghost use Rattle.mine_classes.specs.Paths.{IsConditional};
 
-use crate::places::Places;
+use crate::rank_places::RankPlaces;
 use crate::runs::Runs;
 use mine_baskets::{ListBaskets, WordBaskets};
 use std::alloc::{AllocError, Global};
@@ -60,7 +60,7 @@ impl Runs {
     pub fn below(
         &self,
         alloc: Global,
-        places: &mut Places,
+        places: &mut RankPlaces,
         rank: u32,
         least: u64,
         pairs: &[(u32, u64)],

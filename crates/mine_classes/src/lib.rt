@@ -5,19 +5,19 @@
 //!
 //! The class of a rank is the frequent sets whose greatest rank it is, and its conditional database
 //! is what a miner needs to find them. `paths` has coded baskets in the form from which classes are
-//! mined: by `runs`, the places of each rank, or as words if there are few ranks (`word_paths`).
+//! mined: by `runs`, the places of each rank, which `rank_runs` finds, or as words if there are few ranks (`word_paths`).
 //! `conditional` keeps the baskets that have a rank to the ranks that are frequent together with
-//! it, which `places`, `bit_table` and `shift` number anew. `tables` are used again from rank to
+//! it, which `rank_places`, `bit_table` and `shift` number anew. `tables` are used again from rank to
 //! rank.
 #![tactic(auto)]
 
 mod bit_table;
 mod conditional;
-mod found;
 pub mod laws;
 mod pairs;
 mod paths;
-mod places;
+mod rank_list;
+mod rank_places;
 mod rank_range;
 mod rank_runs;
 mod room;
@@ -35,7 +35,7 @@ pub use pairs::{
     runs_with_least,
 };
 pub use paths::Paths;
-pub use places::Places;
+pub use rank_places::RankPlaces;
 pub use rank_range::RankRange;
 pub use rank_runs::runs_of_range;
 pub use runs::Runs;

@@ -8,7 +8,7 @@ ghost use Rattle.mine_classes.specs.Pairs.{pairs_of};
 ghost use Rattle.mine_classes.specs.Paths.{IsConditional, IsOrdered, is_branch};
 
 use crate::conditional::Conditional;
-use crate::places::Places;
+use crate::rank_places::RankPlaces;
 use crate::runs::Runs;
 use crate::sums::Sums;
 use crate::word_paths;
@@ -20,11 +20,11 @@ use std::marker::Model;
 /// there are at most 64 ranks, else by the runs of each rank. Below words all is words.
 #[derive(Debug, Drop)]
 pub struct Paths {
-    form: Form,
+    form: PathsForm,
 }
 
 #[derive(Debug, Drop)]
-pub enum Form {
+pub enum PathsForm {
     Runs(Runs),
     Words(WordBaskets),
 }
@@ -44,7 +44,7 @@ impl Paths {
         ensures { result ≡ runs }
     {
         Paths {
-            form: Form::Runs(runs),
+            form: PathsForm::Runs(runs),
         }
     }
 
@@ -55,7 +55,7 @@ impl Paths {
         match conditional {
             Conditional::Lists(lists) => Ok(Paths::of_runs(Runs::of(alloc, lists)?)),
             Conditional::Words(words) => Ok(Paths {
-                form: Form::Words(words),
+                form: PathsForm::Words(words),
             }),
         }
     }
@@ -65,8 +65,8 @@ impl Paths {
         ensures { result ≡ self.now.ranks }
     {
         match &self.form {
-            Form::Runs(runs) => runs.ranks(),
-            Form::Words(baskets) => baskets.ranks(),
+            PathsForm::Runs(runs) => runs.ranks(),
+            PathsForm::Words(baskets) => baskets.ranks(),
         }
     }
 
@@ -76,8 +76,8 @@ impl Paths {
         ensures { result ≡ is_branch self.now.baskets }
     {
         match &self.form {
-            Form::Runs(runs) => have_whole_paths(runs),
-            Form::Words(baskets) => word_paths::is_single_branch(baskets),
+            PathsForm::Runs(runs) => have_whole_paths(runs),
+            PathsForm::Words(baskets) => word_paths::is_single_branch(baskets),
         }
     }
 
@@ -96,8 +96,8 @@ impl Paths {
         ensures sums { sums.new ≡ sums.old }
     {
         match &self.form {
-            Form::Runs(runs) => runs.pairs(alloc, sums, rank, least),
-            Form::Words(baskets) => word_paths::pairs(alloc, baskets, rank, least),
+            PathsForm::Runs(runs) => runs.pairs(alloc, sums, rank, least),
+            PathsForm::Words(baskets) => word_paths::pairs(alloc, baskets, rank, least),
         }
     }
 
@@ -106,7 +106,7 @@ impl Paths {
     pub fn below(
         &self,
         alloc: Global,
-        places: &mut Places,
+        places: &mut RankPlaces,
         rank: u32,
         least: u64,
         pairs: &[(u32, u64)],
@@ -118,8 +118,8 @@ impl Paths {
         ensures places { places.new ≡ places.old }
     {
         match &self.form {
-            Form::Runs(runs) => runs.below(alloc, places, rank, least, pairs),
-            Form::Words(baskets) => {
+            PathsForm::Runs(runs) => runs.below(alloc, places, rank, least, pairs),
+            PathsForm::Words(baskets) => {
                 let below = below_words(alloc, baskets, rank, least, pairs)?;
                 Ok(Conditional::Words(below))
             }

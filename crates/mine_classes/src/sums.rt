@@ -7,7 +7,7 @@ ghost use Rattle.mine_baskets.specs.ListBaskets.{AreRankBaskets};
 ghost use Rattle.mine_classes.specs.Sums.{AreSums, is_met, ranks_met, weight_with};
 ghost use Rattle.mine_baskets.specs.Span.{IsWithin, baskets_at};
 
-use crate::found::Found;
+use crate::rank_list::RankList;
 use basket_sets::Itemset;
 use mine_baskets::span::{BASKETS_AHEAD, Span, read_ahead};
 use std::alloc::{AllocError, Global};
@@ -18,7 +18,7 @@ use std::marker::Model;
 pub struct Sums {
     /// A sum of 0 for each rank.
     sums: Vec<u64>,
-    found: Found,
+    found: RankList,
 }
 
 impl Model for Sums {
@@ -38,7 +38,7 @@ impl Sums {
     {
         Ok(Sums {
             sums: vec![in alloc; 0; count as usize]?,
-            found: Found::new(alloc),
+            found: RankList::new(alloc),
         })
     }
 
@@ -69,7 +69,7 @@ impl Sums {
 /// Adds the weights of baskets to the sums of their ranks.
 fn add_up(
     sums: &mut [u64],
-    found: &mut Found,
+    found: &mut RankList,
     ranks: &[u32],
     baskets: &[Span],
 ) -> Result<(), AllocError>
@@ -108,7 +108,7 @@ pub fn met_in_order(alloc: Global, sums: &[u64], least: u64) -> Result<Vec<(u32,
 }
 
 /// Sets the sums of the listed ranks to 0; all others are 0 already.
-fn clear(sums: &mut [u64], found: &mut Found)
+fn clear(sums: &mut [u64], found: &mut RankList)
     requires { AreSums (length sums.old) sums.old found.old }
     ensures sums { sums.new ≡ replicate (length sums.old) 0 }
     ensures found { found.new ≡ [] }

@@ -2,7 +2,7 @@
 ghost use Rattle.std.specs.Prelude.{IfOk};
 ghost use Rattle.mine_classes.specs.Tables.{AreTablesOf};
 
-use crate::places::Places;
+use crate::rank_places::RankPlaces;
 use crate::sums::Sums;
 use std::alloc::{AllocError, Global};
 
@@ -10,7 +10,7 @@ use std::alloc::{AllocError, Global};
 #[derive(Debug, Drop)]
 pub struct Tables {
     pub sums: Sums,
-    pub places: Places,
+    pub places: RankPlaces,
 }
 
 impl Tables {
@@ -20,7 +20,7 @@ impl Tables {
     {
         Ok(Tables {
             sums: Sums::new(alloc, count)?,
-            places: Places::new(alloc, count)?,
+            places: RankPlaces::new(alloc, count)?,
         })
     }
 }

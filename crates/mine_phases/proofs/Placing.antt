@@ -16,7 +16,7 @@ use Rattle.mine_round.specs.Lawful.{times, once_below}
 use Rattle.mine_round.specs.Totals.{HoldsNumbersBelow}
 use Rattle.mine_phases.specs.Pieces.{parts_of}
 use Rattle.mine_phases.specs.Placed.{HaveRoom, filled, placed}
-use Rattle.mine_phases.specs.Share.{numbers_of}
+use Rattle.mine_phases.specs.WorkerResult.{numbers_of}
 use Rattle.mine_phases.proofs.theory.Seats.{sum_by-flat_map}
 
 -- ---- how often a piece stands in a list

@@ -9,22 +9,22 @@ use Rattle.std.proofs.lemmas.List.Elements.{All-append, All-head, All-nil, All-t
 use Rattle.mine_round.specs.RoundView.{RoundView}
 use Rattle.mine_round.specs.SeatView.{SeatView}
 use Rattle.mine_round.specs.Totals.{HoldsNumbersBelow, claimed_by}
-use Rattle.mine_phases.specs.declared.share.Share.{Share}
+use Rattle.mine_phases.specs.declared.worker_result.WorkerResult.{WorkerResult}
 use Rattle.mine_phases.specs.Pieces.{AreOfPieces, HasEach, IsPieceShare}
 use Rattle.mine_phases.specs.Placed.{placed}
-use Rattle.mine_phases.specs.Share.{numbers_of}
+use Rattle.mine_phases.specs.WorkerResult.{numbers_of}
 use Rattle.mine_phases.proofs.Placing.{each_value, length-placed}
 
 module _ {X : Type 0} (is_value : ℕ → X → Type 0) (parts : ℕ → List ℕ) (round : RoundView) where
-  values_at : (share : Share (Vec (ℕ × X) Global)) (list : Vec (ℕ × X) Global) → Ok list ≡ share.values → IsPieceShare is_value parts round share → AreOfPieces is_value parts share.seat list.items
+  values_at : (share : WorkerResult (Vec (ℕ × X) Global)) (list : Vec (ℕ × X) Global) → Ok list ≡ share.values → IsPieceShare is_value parts round share → AreOfPieces is_value parts share.seat list.items
   values_at share list e says = subst (λ values. IfOk values (λ list. AreOfPieces is_value parts share.seat list.items)) (sym e) says.values
 
   -- the values of all shares are those of the parts of the pieces that all seats claimed
-  record AreTogether (shares : List (Share (Vec (ℕ × X) Global))) (lists : List (Vec (ℕ × X) Global)) : Type 0 where
+  record AreTogether (shares : List (WorkerResult (Vec (ℕ × X) Global))) (lists : List (Vec (ℕ × X) Global)) : Type 0 where
     pub claimed : flat_map (λ list. numbers_of list.items) lists ≡ flat_map parts (claimed_by (map (λ share. share.seat) shares))
     pub each : All (λ value. is_value value.0 value.1) (flat_map (λ list. list.items) lists)
 
-  together : (shares : List (Share (Vec (ℕ × X) Global))) (lists : List (Vec (ℕ × X) Global)) → map Ok lists ≡ map (λ share. share.values) shares → All (IsPieceShare is_value parts round) shares → AreTogether shares lists
+  together : (shares : List (WorkerResult (Vec (ℕ × X) Global))) (lists : List (Vec (ℕ × X) Global)) → map Ok lists ≡ map (λ share. share.values) shares → All (IsPieceShare is_value parts round) shares → AreTogether shares lists
   together [] [] e says = record { claimed = refl; each = All-nil (λ value. is_value value.0 value.1) }
   together [] (list ∷ lists) e says = absurd cc
   together (share ∷ shares) [] e says = absurd cc
@@ -39,7 +39,7 @@ module _ {X : Type 0} (is_value : ℕ → X → Type 0) (parts : ℕ → List �
         each = All-append (λ value. is_value value.0 value.1) list.items (flat_map (λ list. list.items) lists) first.each rest.each;
       }
 
-  some_ended : (shares : List (Share (Vec (ℕ × X) Global))) (lists : List (Vec (ℕ × X) Global)) → 1 ≤ length shares → map Ok lists ≡ map (λ share. share.values) shares → All (IsPieceShare is_value parts round) shares
+  some_ended : (shares : List (WorkerResult (Vec (ℕ × X) Global))) (lists : List (Vec (ℕ × X) Global)) → 1 ≤ length shares → map Ok lists ≡ map (λ share. share.values) shares → All (IsPieceShare is_value parts round) shares
       → Any (λ seat. 0 < seat.held.past) (map (λ share. share.seat) shares)
   some_ended [] lists some e says = absurd (omega arith)
   some_ended (share ∷ shares) [] some e says = absurd cc
@@ -47,7 +47,7 @@ module _ {X : Type 0} (is_value : ℕ → X → Type 0) (parts : ℕ → List �
       let head : Ok list ≡ share.values = cc in
       (0, share.seat, omega arith, refl, (values_at share list head (All-head (IsPieceShare is_value parts round) share shares says)).ended)
 
-  module _ (shares : List (Share (Vec (ℕ × X) Global))) (lists : List (Vec (ℕ × X) Global)) (all : map Ok lists ≡ map (λ share. share.values) shares) (says : All (IsPieceShare is_value parts round) shares) where
+  module _ (shares : List (WorkerResult (Vec (ℕ × X) Global))) (lists : List (Vec (ℕ × X) Global)) (all : map Ok lists ≡ map (λ share. share.values) shares) (says : All (IsPieceShare is_value parts round) shares) where
     module _ (seats : List SeatView) (count pieces : ℕ) (are : seats ≡ map (λ share. share.seat) shares) (some : 1 ≤ length shares)
         (ended : Any (λ seat. 0 < seat.held.past) seats → count ≡ pieces) (claimed : IsPermutation (claimed_by seats) (range_with_len 0 count)) where
       -- where there is a worker, each piece was claimed

@@ -16,10 +16,10 @@ use Rattle.mine_classes.specs.Mined.{ClassItemsAreAll, ClassSizesAddUp, ListsCla
 use Rattle.mine_round.specs.RoundView.{RoundView}
 use Rattle.mine_round.specs.SeatView.{SeatView}
 use Rattle.mine_round.specs.Totals.{HoldsNumbersBelow, added_by, claimed_by, seen_by}
-use Rattle.mine_phases.specs.declared.share.Share.{Share}
+use Rattle.mine_phases.specs.declared.worker_result.WorkerResult.{WorkerResult}
 use Rattle.mine_phases.specs.Classes.{HasLargeClass, IsClassShare, IsMined, IsWorkOfAll, ToldAll, claimed_size, ranks_of}
 use Rattle.mine_phases.specs.Pieces.{HasEach}
-use Rattle.mine_phases.specs.Share.{fault_after, fault_of}
+use Rattle.mine_phases.specs.WorkerResult.{fault_after, fault_of}
 use Rattle.mine_phases.proofs.Numbers.{sum_fits, sum_more}
 use Rattle.mine_phases.proofs.theory.Seats.{sum_by-flat_map, sums_at_most}
 use Rattle.mine_phases.proofs.Placing.{times_all}
@@ -35,8 +35,8 @@ module _ {X : Type 0} where
   told_here most (Some (TooMany limit)) (Err found) e = inl e
 
   -- where there are too many, the share of a worker says so
-  fault_from : (P : Share X → Type 0) (C : Type 0) (most : ℕ) → ((share : Share X) → P share → share.values ≡ Err (TooMany most) → C)
-      → (shares : List (Share X)) (fault : Option MineFault) → All P shares → fold fault_after fault (map (λ share. share.values) shares) ≡ Some (TooMany most) → (fault ≡ Some (TooMany most)) ⊎ C
+  fault_from : (P : WorkerResult X → Type 0) (C : Type 0) (most : ℕ) → ((share : WorkerResult X) → P share → share.values ≡ Err (TooMany most) → C)
+      → (shares : List (WorkerResult X)) (fault : Option MineFault) → All P shares → fold fault_after fault (map (λ share. share.values) shares) ≡ Some (TooMany most) → (fault ≡ Some (TooMany most)) ⊎ C
   fault_from P C most says [] fault all e = inl e
   fault_from P C most says (share ∷ shares) fault all e = elim (fault_from P C most says shares (fault_after fault share.values) (All-tail P share shares all) e) [
     | inr found ↦ inr found
@@ -51,7 +51,7 @@ seen_within size limit (seat ∷ seats) all =
     let first = (All-head (ToldAll size limit) seat seats all).within in
     let rest = seen_within size limit seats (All-tail (ToldAll size limit) seat seats all) in omega (arith, first, rest)
 
-seen_at_most : {X : Type 0} (shares : List (Share X)) (k : ℕ) (d : Share X) → k < length shares → slice_index (get_or shares k d).seat.held.seen 0 ≤ seen_by (map (λ share. share.seat) shares) 0
+seen_at_most : {X : Type 0} (shares : List (WorkerResult X)) (k : ℕ) (d : WorkerResult X) → k < length shares → slice_index (get_or shares k d).seat.held.seen 0 ≤ seen_by (map (λ share. share.seat) shares) 0
 seen_at_most [] k d below = absurd (omega arith)
 seen_at_most (share ∷ shares) zero d below = omega arith
 seen_at_most (share ∷ shares) (suc k) d below = let rest = seen_at_most shares k d (omega arith) in omega (arith, rest)
@@ -92,7 +92,7 @@ module _ (coding : Coding) (pieces : ℕ) (some : 1 ≤ pieces) where
         omega (arith, told, seen, sum_by-flat_map size (λ (s : SeatView). s.held.claimed) seats, all_claimed_have (claimed_by seats) same, sum, greatest)
 
     -- the fault to tell is that there are too many only where there are
-    pub too_many_are : (round : RoundView) (is_work : ℕ → ℕ → Type 0) (limit : ℕ) (shares : List (Share (Vec (ℕ × (List Counted × ℕ)) Global))) (seats : List SeatView) (most total count : ℕ)
+    pub too_many_are : (round : RoundView) (is_work : ℕ → ℕ → Type 0) (limit : ℕ) (shares : List (WorkerResult (Vec (ℕ × (List Counted × ℕ)) Global))) (seats : List SeatView) (most total count : ℕ)
         → seats ≡ map (λ share. share.seat) shares → All (IsClassShare round coding is_work limit pieces) shares
         → IsPermutation (claimed_by seats) (range_with_len 0 count) → count ≤ pieces → total ≡ added_by seats 0 → total ≡ seen_by seats 0
         → fault_of (map (λ share. share.values) shares) ≡ Some (TooMany most) → (most ≡ limit) × (limit < length (frequent_of_coding coding))
@@ -103,7 +103,7 @@ module _ (coding : Coding) (pieces : ℕ) (some : 1 ≤ pieces) where
         let moved = sum_by-flat_map size (λ (s : SeatView). s.held.claimed) seats in
         let claimed = claimed_have_at_most (claimed_by seats) count same within in
         let seen = greatest ∙ ap (λ l. seen_by l 0) are in
-        let Told : Share (Vec (ℕ × (List Counted × ℕ)) Global) → Type 0 = λ share. IsClassShare round coding is_work limit pieces share × (slice_index share.seat.held.seen 0 ≤ total) in
+        let Told : WorkerResult (Vec (ℕ × (List Counted × ℕ)) Global) → Type 0 = λ share. IsClassShare round coding is_work limit pieces share × (slice_index share.seat.held.seen 0 ≤ total) in
         let Too : Type 0 = (most ≡ limit) × (limit < length (frequent_of_coding coding)) in
         elim (fault_from Told Too most
         (λ share says here.

@@ -8,7 +8,7 @@ use Rattle.basket_sets.specs.declared.counted.Counted.{Counted}
 use Rattle.mine_classes.specs.Mined.{ListsClassItems, MOST_SET_WORK, class_size}
 use Rattle.mine_round.specs.RoundView.{RoundView}
 use Rattle.mine_round.specs.SeatView.{SeatView}
-use Rattle.mine_phases.specs.declared.share.Share.{Share}
+use Rattle.mine_phases.specs.declared.worker_result.WorkerResult.{WorkerResult}
 use Rattle.mine_phases.specs.Pieces.{IsPieceShare}
 
 -- the work of the classes of the ranks below a number, added up
@@ -56,7 +56,7 @@ pub record ToldAll (size : ℕ → ℕ) (limit : ℕ) (seat : SeatView) : Type 0
   pub within : slice_index seat.held.seen 0 ≤ limit
 
 -- what a worker hands back: its seat, which told no more sets than the pieces have that it claimed, and the classes of their ranks, of which it told each set, or why it stopped
-pub record IsClassShare (round : RoundView) (coding : Coding) (is_work : ℕ → ℕ → Type 0) (limit pieces : ℕ) (share : Share (Vec (ℕ × (List Counted × ℕ)) Global)) : Type 0 where
+pub record IsClassShare (round : RoundView) (coding : Coding) (is_work : ℕ → ℕ → Type 0) (limit pieces : ℕ) (share : WorkerResult (Vec (ℕ × (List Counted × ℕ)) Global)) : Type 0 where
   pub of_ranks : IsPieceShare (IsMined coding is_work) (ranks_of coding pieces) round share
   pub at_most : slice_index share.seat.held.added 0 ≤ sum_by (claimed_size coding pieces) share.seat.held.claimed
   pub told : IfOk share.values (λ _. ToldAll (claimed_size coding pieces) limit share.seat)

@@ -1,4 +1,4 @@
-pub mod Share
+pub mod WorkerResult
 pub mod Placed
 pub mod Counting
 pub mod Pieces

@@ -5,8 +5,8 @@ use Rattle.std.specs.List.{flat_map, range_with_len}
 use Rattle.basket_ranks.specs.Shards.{shard_of}
 use Rattle.mine_round.specs.RoundView.{RoundView}
 use Rattle.mine_round.specs.SeatView.{SeatView}
-use Rattle.mine_phases.specs.declared.share.Share.{Share}
-use Rattle.mine_phases.specs.Share.{numbers_of}
+use Rattle.mine_phases.specs.declared.worker_result.WorkerResult.{WorkerResult}
+use Rattle.mine_phases.specs.WorkerResult.{numbers_of}
 
 -- the parts that a piece has
 abbrev pub parts_of : ℕ → ℕ → ℕ → List ℕ
@@ -20,7 +20,7 @@ module _ {V : Type 0} (is_value : ℕ → V → Type 0) where
     pub each : All (λ value. is_value value.0 value.1) values
 
   -- what a worker hands back: its seat, and where it did not stop before the end its values
-  pub record IsPieceShare (parts : ℕ → List ℕ) (round : RoundView) (share : Share (Vec (ℕ × V) Global)) : Type 0 where
+  pub record IsPieceShare (parts : ℕ → List ℕ) (round : RoundView) (share : WorkerResult (Vec (ℕ × V) Global)) : Type 0 where
     pub own : share.seat.round ≡ round.id
     pub values : IfOk share.values (λ values. AreOfPieces parts share.seat values.items)
 

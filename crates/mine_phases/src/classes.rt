@@ -8,7 +8,7 @@ ghost use Rattle.mine_round.specs.Record.{unused};
 ghost use Rattle.mine_phases.specs.Classes.{AreMined, HasLargeClass, IsClassShare, IsMined, IsWorkOfAll, claimed_size, ranks_of};
 ghost use Rattle.mine_phases.specs.Pieces.{HasEach};
 ghost use Rattle.mine_phases.specs.RoundTally.{CountsSets, still};
-ghost use Rattle.mine_phases.specs.Share.{numbers_of};
+ghost use Rattle.mine_phases.specs.WorkerResult.{numbers_of};
 
 use crate::class_miner::ClassMiner;
 use crate::cutting::Cutting;
@@ -17,7 +17,7 @@ use crate::joined::{Class, joined};
 use crate::phase::Phase;
 use crate::placed::collected;
 use crate::round_tally::{RoundTally, Start, are_over};
-use crate::share::{Share, by_workers, claim_piece};
+use crate::worker_result::{WorkerResult, by_workers, claim_piece};
 use basket_core::{Coded, Frequent, MineFault, Tally};
 use mine_classes::Tables;
 use mine_classes::laws::{class_items_are_all, class_sizes_add_up, lists_have_class_size};
@@ -58,7 +58,7 @@ struct Classes<'a, 'g, M: ClassMiner, G> {
 impl<M: ClassMiner, G: Gate> Classes<'_, '_, M, G> {
     /// What a worker does: it mines the classes of each piece that it claims, until none is left,
     /// or it sees more sets than the limit, or it runs out of memory.
-    fn share(&self, alloc: Global, worker: u32, seat: RoundSeat) -> Share<Vec<(u32, Class)>>
+    fn share(&self, alloc: Global, worker: u32, seat: RoundSeat) -> WorkerResult<Vec<(u32, Class)>>
         requires own { seat.round ≡ self.now.round.now.id }
         requires unused { seat.held ≡ unused 1 1 }
         ensures { IsClassShare self.now.round.now (M.coding_of self.now.miner.now) (M.is_work self.now.miner.now) self.now.limit self.now.pieces result }
@@ -67,23 +67,23 @@ impl<M: ClassMiner, G: Gate> Classes<'_, '_, M, G> {
         let mut values = Vec::new(alloc);
         let Ok(mut tables) = Tables::new(alloc, self.ranks) else {
             let values = Err(MineFault::Memory);
-            return Share { seat, values };
+            return WorkerResult { seat, values };
         };
         while !are_over(self.round, &mut seat, self.limit) {
             let Some(claimed) = claim_piece(self.round, &mut seat, self.gate, PHASE, worker) else {
                 let values = Ok(values);
-                return Share { seat, values };
+                return WorkerResult { seat, values };
             };
             let (back, mined) = self.mine::<Brand>(alloc, &mut tables, claimed, &mut values, seat);
             seat = back;
             if let Err(fault) = mined {
                 let values = Err(fault);
-                return Share { seat, values };
+                return WorkerResult { seat, values };
             }
         }
         let limit = self.limit;
         let values = Err(MineFault::TooMany { limit });
-        Share { seat, values }
+        WorkerResult { seat, values }
     }
 
     /// Adds the class of each rank of a claimed piece to the values, reported by a seat.
@@ -193,7 +193,7 @@ fn mined_classes<'a, 'g, R: Threads + Sync, G: Gate + Sync, M: ClassMiner + Sync
         rt,
         alloc,
         seats,
-        &|job: (u32, RoundSeat)| -> Share<Vec<(u32, Class)>>
+        &|job: (u32, RoundSeat)| -> WorkerResult<Vec<(u32, Class)>>
             requires { (job.1.round ≡ lent.now.round.now.id) × (job.1.held ≡ unused 1 1) }
             ensures { IsClassShare lent.entry.now.round.now (M.coding_of lent.entry.now.miner.now) (M.is_work lent.entry.now.miner.now) lent.entry.now.limit lent.entry.now.pieces result }
         { lent.share(alloc, job.0, job.1) },

@@ -1,7 +1,7 @@
 //! The first phase, which counts the items.
 ghost use Rattle.std.specs.Prelude.{◌≡◌, ◌≤◌, List, IfOk, map};
 ghost use Rattle.basket_ranks.specs.Shards.{shard_of};
-ghost use Rattle.basket_sets.specs.declared.weighted.Weighted.{Weighted as Place};
+ghost use Rattle.basket_sets.specs.declared.weighted.Weighted.{Weighted as Basket};
 ghost use Rattle.basket_sets.specs.Counts.{item_supports};
 ghost use Rattle.basket_sets.specs.Database.{MOST_WEIGHT};
 ghost use Rattle.basket_sets.specs.Support.{total_of};
@@ -26,13 +26,13 @@ const MOST_PARTS: u32 = 128;
 
 /// Baskets whose items are counted, in this many parts.
 #[derive(Drop)]
-struct Counting<'a> {
+struct ItemCounting<'a> {
     baskets: &'a [Weighted],
     parts: u32,
     ghost light: { total_of baskets.now ≤ MOST_WEIGHT },
 }
 
-impl PartWork<Counts> for Counting<'_> {
+impl PartWork<Counts> for ItemCounting<'_> {
     type Tools = ();
 
     ghost part_count = { λ work. work.parts };
@@ -57,8 +57,8 @@ impl PartWork<Counts> for Counting<'_> {
 
 /// Counts of parts added, neighbours first, so that no list is long before it must be.
 fn add_up(alloc: Global, lists: &[Counts]) -> Result<Counts, AllocError>
-    requires { (baskets : List Place) × CountParts baskets (map (λ list. list.items) lists.now) × (total_of baskets ≤ MOST_WEIGHT) }
-    ensures { (baskets : List Place) → CountParts baskets (map (λ list. list.items) lists.now) → IfOk result (λ counts. counts.items ≡ item_supports baskets) }
+    requires { (baskets : List Basket) × CountParts baskets (map (λ list. list.items) lists.now) × (total_of baskets ≤ MOST_WEIGHT) }
+    ensures { (baskets : List Basket) → CountParts baskets (map (λ list. list.items) lists.now) → IfOk result (λ counts. counts.items ≡ item_supports baskets) }
 {
     match lists {
         [] => Ok(Vec::new(alloc)),
@@ -97,7 +97,7 @@ pub fn count_shared<R: Threads + Sync, G: Gate + Sync>(
     ensures counts { IfOk result (λ counts. counts.items ≡ item_supports baskets.now) }
 {
     let parts = parts_for(cutting);
-    let counting = Counting { baskets, parts };
+    let counting = ItemCounting { baskets, parts };
     let lists = by_pieces(rt, alloc, &counting, &Phase::new(PHASE, cutting, gate))?;
     add_up(alloc, &lists)
 }

@@ -5,7 +5,7 @@
 //! A `phase` finds a value for each part that its `pieces` have. `counting` counts the items,
 //! `triangle` the pairs of few ranks, over `ranges` of them, and `pairs` finds the frequent pairs of
 //! many. `runs` prepares what `classes` mines class by class with a `class_miner`, whose sets are
-//! reported to a `round_tally`. `share` is what a worker hands back, `placed` puts values in their
+//! reported to a `round_tally`. `worker_result` is what a worker hands back, `placed` puts values in their
 //! order, and workers pass a `gate` with each piece.
 #![tactic(auto)]
 
@@ -22,8 +22,8 @@ mod placed;
 mod ranges;
 mod round_tally;
 mod runs;
-mod share;
 mod triangle;
+mod worker_result;
 
 pub use class_miner::ClassMiner;
 pub use classes::mine_shared;
@@ -33,5 +33,5 @@ pub use gate::{Gate, Open};
 pub use pairs::count_pairs;
 pub use phase::Phase;
 pub use runs::runs_shared;
-pub use share::{Share, add_counts, by_workers, claim_piece};
 pub use triangle::triangle_pairs;
+pub use worker_result::{WorkerResult, add_counts, by_workers, claim_piece};

@@ -1,12 +1,12 @@
 //! Phases that find a value for each part of their work. A piece has some of the parts.
 ghost use Rattle.std.specs.Prelude.{◌≡◌, ◌<◌, ◌++◌, [], ℕ, All, IfOk, OnOk};
 ghost use Rattle.mine_phases.specs.Pieces.{AreOfPieces, HasEach, IsPieceShare, parts_of};
-ghost use Rattle.mine_phases.specs.Share.{numbers_of};
+ghost use Rattle.mine_phases.specs.WorkerResult.{numbers_of};
 
 use crate::gate::Gate;
 use crate::phase::Phase;
 use crate::placed::collected;
-use crate::share::{Share, by_workers, claim_piece};
+use crate::worker_result::{WorkerResult, by_workers, claim_piece};
 use basket_core::{MineFault, shard};
 use mine_round::{Round, RoundSeat};
 use std::alloc::{AllocError, Global};
@@ -53,7 +53,7 @@ impl<P, G: Gate> Pieces<'_, '_, '_, P, G> {
         alloc: Global,
         worker: u32,
         mut seat: RoundSeat,
-    ) -> Share<Vec<(u32, V)>>
+    ) -> WorkerResult<Vec<(u32, V)>>
     where
         P: PartWork<V>,
         requires own { seat.round ≡ self.now.round.now.id }
@@ -65,7 +65,7 @@ impl<P, G: Gate> Pieces<'_, '_, '_, P, G> {
             Ok(values) => Ok(values),
             Err(AllocError) => Err(MineFault::Memory),
         };
-        Share { seat, values }
+        WorkerResult { seat, values }
     }
 
     fn values<V: Drop>(
@@ -142,7 +142,7 @@ pub fn by_pieces<'a, 'p, R: Threads + Sync, G: Gate + Sync, V: Send + Drop, P: P
         rt,
         alloc,
         seats,
-        &|job: (u32, RoundSeat)| -> Share<Vec<(u32, V)>>
+        &|job: (u32, RoundSeat)| -> WorkerResult<Vec<(u32, V)>>
             requires { (job.1.round ≡ lent.now.round.now.id) × (job.1.held.claimed ≡ []) × (lent.now.round.now.pieces ≡ lent.now.phase.now.cutting.pieces) }
             ensures { IsPieceShare (P.is_value lent.entry.now.work.now) (parts_of (P.part_count lent.entry.now.work.now) lent.entry.now.phase.now.cutting.pieces) lent.entry.now.round.now result }
         { lent.share(alloc, job.0, job.1) },

@@ -3,7 +3,7 @@ ghost use Rattle.std.specs.Prelude.{◌≡◌, None, Some, IfOk, map, replicate}
 ghost use Rattle.std.specs.List.{flat_map};
 ghost use Rattle.mine_round.specs.Totals.{HoldsNumbersBelow};
 ghost use Rattle.mine_phases.specs.Placed.{HaveRoom, placed};
-ghost use Rattle.mine_phases.specs.Share.{numbers_of};
+ghost use Rattle.mine_phases.specs.WorkerResult.{numbers_of};
 
 use mine_round::Collector;
 use std::alloc::{AllocError, Global};

@@ -17,14 +17,14 @@ use std::thread::Threads;
 
 /// Ranks whose pairs with lesser ones are counted, a range of them at a time.
 #[derive(Drop)]
-struct Counting<'a> {
+struct PairCounting<'a> {
     coded: &'a Coded,
     least: u64,
     ranges: Vec<RankRange>,
     ghost few: { length ranges.items < 2 ^ 32 },
 }
 
-impl PartWork<Vec<Pairs>> for Counting<'_> {
+impl PartWork<Vec<Pairs>> for PairCounting<'_> {
     type Tools = ();
 
     ghost part_count = { λ work. length work.ranges.items };
@@ -57,7 +57,7 @@ pub fn triangle_pairs<R: Threads + Sync, G: Gate + Sync>(
 ) -> Result<Vec<Pairs>, AllocError>
     ensures { IfOk result (λ lists. ArePairs coded.now (lists_of lists.items)) }
 {
-    let counting = Counting {
+    let counting = PairCounting {
         coded,
         least: least_support(coded),
         ranges: ranges_of(alloc, coded, cutting)?,

@@ -19,19 +19,19 @@ use Rattle.basket_sets.proofs.theory.Members.{Member, All-from_Member, sorted_ma
 use Rattle.basket_sets.proofs.theory.Rising.{Less-from_lt}
 use Rattle.basket_sets.proofs.theory.Sorting.{strictly_sorted, sorted_is, sorted_images}
 use Rattle.mine_sets.specs.declared.asked.Asked.{Asked}
-use Rattle.mine_sets.specs.declared.count.Found.{Found}
+use Rattle.mine_sets.specs.declared.count.PlacedSet.{PlacedSet}
 use Rattle.mine_sets.specs.Asked.{with_set, asked_of}
 use Rattle.mine_sets.specs.Placed.{placed, found_of, found_with}
 
 -- the order of places with their sets and supports
-abbrev pub by_place : Found → Found → Ordering
+abbrev pub by_place : PlacedSet → PlacedSet → Ordering
 by_place a b =
     ordering_then (nat_cmp a.place b.place) (ordering_then (report_order a.counted.set b.counted.set) (nat_cmp a.counted.count b.counted.count))
 
 by_place_total : IsTotalOrder by_place
 by_place_total =
-    then_total (on_total (λ (f : Found). f.place) nat_cmp_total)
-    (then_total (on_total (λ (f : Found). f.counted.set) report_order_total) (on_total (λ (f : Found). f.counted.count) nat_cmp_total))
+    then_total (on_total (λ (f : PlacedSet). f.place) nat_cmp_total)
+    (then_total (on_total (λ (f : PlacedSet). f.counted.set) report_order_total) (on_total (λ (f : PlacedSet). f.counted.count) nat_cmp_total))
 
 later_numbers : (n m : ℕ) (sets : List (List ℕ)) (entry : ℕ × List ℕ) → n < m → Member entry (enumerate_from m sets) → nat_cmp n entry.0 ≡ Less
 later_numbers n m [] entry low k = absurd k
@@ -51,14 +51,14 @@ module _ (baskets : List Weighted) where
   found_joined [] = refl
   found_joined (a ∷ asked) = ap (λ l. found_of baskets a ∷ l) (found_joined asked)
 
-  abbrev found_at : ℕ × List ℕ → Found
+  abbrev found_at : ℕ × List ℕ → PlacedSet
   found_at entry = found_of baskets (record { set = entry.1; place = entry.0 })
 
   found_placed : (n : ℕ) (sets : List (List ℕ)) → map (found_of baskets) (map (λ entry. record { set = entry.1; place = entry.0 }) (enumerate_from n sets)) ≡ map found_at (enumerate_from n sets)
   found_placed n [] = refl
   found_placed n (set ∷ sets) = ap (λ l. found_at (n, set) ∷ l) (found_placed (n + 1) sets)
 
-  counted_placed : (n : ℕ) (sets : List (List ℕ)) → map (λ (f : Found). f.counted) (map found_at (enumerate_from n sets)) ≡ map (counted baskets) sets
+  counted_placed : (n : ℕ) (sets : List (List ℕ)) → map (λ (f : PlacedSet). f.counted) (map found_at (enumerate_from n sets)) ≡ map (counted baskets) sets
   counted_placed n [] = refl
   counted_placed n (set ∷ sets) = ap (λ l. counted baskets set ∷ l) (counted_placed (n + 1) sets)
 
@@ -67,14 +67,14 @@ module _ (baskets : List Weighted) where
       (λ a b less. ap (λ o. ordering_then o (ordering_then (report_order a.1 b.1) (nat_cmp (counted baskets a.1).count (counted baskets b.1).count))) less) (numbers_rise 0 sets)
 
   -- after a sort by place they stand as they were asked for
-  pub found_in_place : (sets : List (List ℕ)) (start sorted : List Asked) (found back : List Found) → start ≡ placed sets → IsPermutation start sorted
-      → found ≡ map (found_of baskets) sorted → IsPermutation found back → IsSorted by_place back → map (λ (f : Found). f.counted) back ≡ map (counted baskets) sets
+  pub found_in_place : (sets : List (List ℕ)) (start sorted : List Asked) (found back : List PlacedSet) → start ≡ placed sets → IsPermutation start sorted
+      → found ≡ map (found_of baskets) sorted → IsPermutation found back → IsSorted by_place back → map (λ (f : PlacedSet). f.counted) back ≡ map (counted baskets) sets
   found_in_place sets start sorted found back is moved with again up =
       let first = map found_at (enumerate_from 0 sets) in
       let rise = found_rise sets in
       let there : IsPermutation first found =
       subst (λ l. IsPermutation l found) (ap (map (found_of baskets)) is ∙ found_placed 0 sets)
       (subst (λ l. IsPermutation (map (found_of baskets) start) l) (sym with) (IsPermutation-map (found_of baskets) start sorted moved)) in
-      ap (map (λ (f : Found). f.counted))
+      ap (map (λ (f : PlacedSet). f.counted))
       (sorted_is by_place_total first back first (IsDistinct-from_sorted by_place first rise) (IsPermutation-trans first found back there again) up rise (λ z m. m) (λ z m. m))
       ∙ counted_placed 0 sets

@@ -16,7 +16,7 @@ use Rattle.basket_sets.specs.Support.{support_of, total_of, weight_at}
 use Rattle.mine_round.specs.SeatView.{SeatView}
 use Rattle.mine_round.specs.Totals.{added_by, claimed_by}
 use Rattle.mine_sets.specs.Supports.{AddsSupports, part_support}
-use Rattle.mine_phases.specs.declared.share.Share.{Share}
+use Rattle.mine_phases.specs.declared.worker_result.WorkerResult.{WorkerResult}
 use Rattle.mine_phases.proofs.theory.Claims.{behind, behind-le, behind_push}
 use Rattle.mine_phases.proofs.theory.Seats.{Ends, each_seat, sum_by-flat_map, sum_by-map, sums_at_most}
 
@@ -150,7 +150,7 @@ totals_are_supports baskets pieces sets seats totals some long all claimed each 
     ∙ sym (get_or-map (support_of baskets) sets k [] 0 short))
 
 -- where each worker came to its end, the totals are the supports in all baskets
-pub shares_are_supports : (baskets : List Weighted) (pieces : ℕ) (sets : List (List ℕ)) (shares : List (Share (Unit {0}))) (done : List (Unit {0})) (seats : List SeatView) (all : ℕ) (totals : List ℕ)
+pub shares_are_supports : (baskets : List Weighted) (pieces : ℕ) (sets : List (List ℕ)) (shares : List (WorkerResult (Unit {0}))) (done : List (Unit {0})) (seats : List SeatView) (all : ℕ) (totals : List ℕ)
     → 1 ≤ pieces → 1 ≤ length shares → map Ok done ≡ map (λ share. share.values) shares → All (Ends (AddsSupports baskets pieces sets)) shares → seats ≡ map (λ share. share.seat) shares
     → (Any (λ seat. 0 < seat.held.past) seats → all ≡ pieces) → IsPermutation (claimed_by seats) (range_with_len 0 all) → length totals ≡ length sets
     → ((k : ℕ) → k < length totals → slice_index totals k ≡ added_by seats k) → totals ≡ map (support_of baskets) sets

@@ -6,7 +6,7 @@ use Rattle.basket_sets.specs.declared.weighted.Weighted.{Weighted}
 use Rattle.basket_sets.specs.Support.{support_of}
 use Rattle.mine_round.specs.RoundView.{RoundView}
 use Rattle.mine_round.specs.SeatView.{SeatView}
-use Rattle.mine_phases.specs.declared.share.Share.{Share}
+use Rattle.mine_phases.specs.declared.worker_result.WorkerResult.{WorkerResult}
 
 -- the support of a set in a part of the baskets
 abbrev pub part_support : List Weighted → ℕ → List ℕ → ℕ → ℕ
@@ -18,6 +18,6 @@ pub record AddsSupports (baskets : List Weighted) (pieces : ℕ) (sets : List (L
   pub added : (k : ℕ) → k < length sets → slice_index seat.held.added k ≡ sum_by (part_support baskets pieces (slice_index_or sets k [])) seat.held.claimed
 
 -- what a worker hands back: its seat, and whether it found memory for all that it claimed
-pub record IsSupportShare (round : RoundView) (baskets : List Weighted) (pieces : ℕ) (sets : List (List ℕ)) (share : Share (Unit {0})) : Type 0 where
+pub record IsSupportShare (round : RoundView) (baskets : List Weighted) (pieces : ℕ) (sets : List (List ℕ)) (share : WorkerResult (Unit {0})) : Type 0 where
   pub own : share.seat.round ≡ round.id
   pub values : IfOk share.values (λ _. AddsSupports baskets pieces sets share.seat)

@@ -14,7 +14,7 @@ use std::thread::Threads;
 
 /// A set with its support, and its place among those that are asked for. They are ordered by place.
 #[derive(PartialEq, Eq, PartialOrd, Ord, Drop)]
-pub struct Found {
+pub struct PlacedSet {
     place: usize,
     counted: Counted,
 }
@@ -46,7 +46,7 @@ fn count_placed<R: Threads + Sync, G: Gate + Sync>(
     asked: Vec<Asked>,
     cutting: Cutting,
     gate: &G,
-) -> Result<Vec<Found>, AllocError>
+) -> Result<Vec<PlacedSet>, AllocError>
     ensures { IfOk result (λ found. found.items ≡ map (found_of database.now) asked.items) }
 {
     let places: Vec<usize> = asked.iter().map(|asked| asked.place).collect(alloc)?;
@@ -61,13 +61,13 @@ fn joined(
     places: Vec<usize>,
     sets: Vec<Itemset>,
     supports: Vec<u64>,
-) -> Result<Vec<Found>, AllocError>
+) -> Result<Vec<PlacedSet>, AllocError>
     ensures { IfOk result (λ found. found.items ≡ map found_with (zip places.items (zip sets.items supports.items))) }
 {
     places
         .into_iter()
         .zip(sets.into_iter().zip(supports))
-        .map(|(place, (set, count))| Found {
+        .map(|(place, (set, count))| PlacedSet {
             place,
             counted: Counted { set, count },
         })
@@ -75,7 +75,7 @@ fn joined(
 }
 
 /// The sets with their supports, without their places.
-fn listed(alloc: Global, found: Vec<Found>) -> Result<Vec<Counted>, AllocError>
+fn listed(alloc: Global, found: Vec<PlacedSet>) -> Result<Vec<Counted>, AllocError>
     ensures { IfOk result (λ list. list.items ≡ map (λ f. f.counted) found.items) }
 {
     found.into_iter().map(|found| found.counted).collect(alloc)

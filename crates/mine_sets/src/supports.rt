@@ -7,7 +7,7 @@ ghost use Rattle.mine_round.specs.Record.{unused};
 
 use basket_core::{MineFault, Weighted, shard};
 use mine_apriori::RowCounter;
-use mine_phases::{Gate, Phase, Share, add_counts, by_workers, claim_piece};
+use mine_phases::{Gate, Phase, WorkerResult, add_counts, by_workers, claim_piece};
 use mine_round::{Round, RoundSeat};
 use std::alloc::{AllocError, Global};
 use std::thread::Threads;
@@ -20,17 +20,17 @@ const FEW_PARTS: usize = 128;
 
 /// The phase as its workers see it.
 #[derive(Drop)]
-struct Counting<'r, 'b, 'c, 's, 'p, G> {
+struct SetCounting<'r, 'b, 'c, 's, 'p, G> {
     round: &'r Round,
     baskets: &'b [Weighted],
     counter: &'c RowCounter<'s>,
     phase: &'r Phase<'p, G>,
 }
 
-impl<G: Gate> Counting<'_, '_, '_, '_, '_, G> {
+impl<G: Gate> SetCounting<'_, '_, '_, '_, '_, G> {
     /// What a worker does: it counts the sets in each part of the baskets that it claims, and adds
     /// its counts to the shared counters once no part is left.
-    fn share(&self, alloc: Global, worker: u32, mut seat: RoundSeat) -> Share<()>
+    fn share(&self, alloc: Global, worker: u32, mut seat: RoundSeat) -> WorkerResult<()>
         requires own { seat.round ≡ self.now.round.now.id }
         requires unused { seat.held ≡ unused 1 (length self.now.counter.now) }
         requires pieces { self.now.round.now.pieces ≡ self.now.phase.now.cutting.pieces }
@@ -42,7 +42,7 @@ impl<G: Gate> Counting<'_, '_, '_, '_, '_, G> {
             Ok(()) => Ok(()),
             Err(AllocError) => Err(MineFault::Memory),
         };
-        Share { seat, values }
+        WorkerResult { seat, values }
     }
 
     fn add_supports(
@@ -86,7 +86,7 @@ pub fn count_supports<'b, 'c, 's, 'p, R: Threads + Sync, G: Gate + Sync>(
     let phase = phase.for_parts((baskets.len() / SMALL_PART).max(FEW_PARTS));
     let cutting = phase.cutting;
     let (round, seats) = Round::new(alloc, cutting.pieces, counter.len(), cutting.workers)?;
-    let counting = Counting {
+    let counting = SetCounting {
         round: &round,
         baskets,
         counter,
@@ -97,7 +97,7 @@ pub fn count_supports<'b, 'c, 's, 'p, R: Threads + Sync, G: Gate + Sync>(
         rt,
         alloc,
         seats,
-        &|job: (u32, RoundSeat)| -> Share<()>
+        &|job: (u32, RoundSeat)| -> WorkerResult<()>
             requires { (job.1.round ≡ lent.now.round.now.id) × (job.1.held ≡ unused 1 (length lent.now.counter.now))
                 × (lent.now.round.now.pieces ≡ lent.now.phase.now.cutting.pieces) × (lent.now.round.now.counters ≡ length lent.now.counter.now)
                 × (total_of lent.now.baskets.now ≤ MOST_WEIGHT) }

@@ -7,19 +7,19 @@ use Rattle.std.proofs.lemmas.List.{get_or-set_other, get_or-set_same, get_or-tak
 use Rattle.std.proofs.Math.Seq.{get_or-append_seam}
 use Rattle.mine_rows.specs.declared.marks.Marks.{Marks}
 use Rattle.mine_vertical.specs.declared.siblings.Siblings.{Siblings}
-use Rattle.mine_vertical.specs.declared.room.Room.{Room}
+use Rattle.mine_vertical.specs.declared.search_scratch.SearchScratch.{SearchScratch}
 use Rattle.mine_vertical.specs.Projected.{AreAtRest, Keeps, Serves}
 
-pub keeps_same : {R : Type 0} (at_rest : List ℕ → Marks → Type 0) (base : Siblings R) (before after : Room R) → after.marks ≡ before.marks → Keeps at_rest base before after
+pub keeps_same : {R : Type 0} (at_rest : List ℕ → Marks → Type 0) (base : Siblings R) (before after : SearchScratch R) → after.marks ≡ before.marks → Keeps at_rest base before after
 keeps_same at_rest base before after same = record {
   outer = λ place weights low held. subst (λ (m : Vec Marks Global). (place < length m.items) × HoldsAt (at_rest weights) m.items place) (sym same) held;
   own = λ held. subst (λ (m : Vec Marks Global). (base.marks < length m.items) × HoldsAt (at_rest base.weights.value) m.items base.marks) (sym same) held;
 }
 
-pub keeps_both : {R : Type 0} {at_rest : List ℕ → Marks → Type 0} {base : Siblings R} {first second third : Room R} → Keeps at_rest base first second → Keeps at_rest base second third → Keeps at_rest base first third
+pub keeps_both : {R : Type 0} {at_rest : List ℕ → Marks → Type 0} {base : Siblings R} {first second third : SearchScratch R} → Keeps at_rest base first second → Keeps at_rest base second third → Keeps at_rest base first third
 keeps_both one two = record { outer = λ place weights low held. two.outer place weights low (one.outer place weights low held); own = λ held. two.own (one.own held) }
 
-module _ {R : Type 0} (at_rest : List ℕ → Marks → Type 0) (base : Siblings R) (before after : Room R) (serves : Serves at_rest before base) where
+module _ {R : Type 0} (at_rest : List ℕ → Marks → Type 0) (base : Siblings R) (before after : SearchScratch R) (serves : Serves at_rest before base) where
   -- its own marks are changed
   pub keeps_own : (marks : Marks) → at_rest base.weights.value marks → after.marks.items ≡ set before.marks.items base.marks marks → Keeps at_rest base before after
   keeps_own marks rests are = record {

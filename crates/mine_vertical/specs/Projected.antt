@@ -10,7 +10,7 @@ use Rattle.mine_search.specs.Node.{Node, is_met, kept}
 use Rattle.mine_search.specs.Walk.{kept_below}
 use Rattle.mine_vertical.specs.declared.siblings.Siblings.{Siblings}
 use Rattle.mine_vertical.specs.declared.joins.Sibling.{Sibling}
-use Rattle.mine_vertical.specs.declared.room.Room.{Room}
+use Rattle.mine_vertical.specs.declared.search_scratch.SearchScratch.{SearchScratch}
 use Rattle.mine_vertical.specs.Siblings.{AreSiblings}
 
 -- the siblings that are kept, and their ranks
@@ -45,14 +45,14 @@ abbrev pub Extend : {R : Type 0} → (List ℕ → List ℕ → List ℕ → R �
 Extend stands base node = (baskets : List Weighted) × (set : List ℕ) × AreExtensions stands base node baskets set
 
 -- the marks at a place of the room are at rest over weights
-abbrev pub AreAtRest : {R : Type 0} → (List ℕ → Marks → Type 0) → Room R → ℕ → List ℕ → Type 0
+abbrev pub AreAtRest : {R : Type 0} → (List ℕ → Marks → Type 0) → SearchScratch R → ℕ → List ℕ → Type 0
 AreAtRest at_rest room place weights = (place < length room.marks.items) × HoldsAt (at_rest weights) room.marks.items place
 
 -- the room serves extensions: its marks at their place are at rest over their weights
-abbrev pub Serves : {R : Type 0} → (List ℕ → Marks → Type 0) → Room R → Siblings R → Type 0
+abbrev pub Serves : {R : Type 0} → (List ℕ → Marks → Type 0) → SearchScratch R → Siblings R → Type 0
 Serves at_rest room base = AreAtRest at_rest room base.marks base.weights.value
 
 -- the room keeps what is at rest at the places before theirs, and serves them if it did
-pub record Keeps {R : Type 0} (at_rest : List ℕ → Marks → Type 0) (base : Siblings R) (before after : Room R) : Type 0 where
+pub record Keeps {R : Type 0} (at_rest : List ℕ → Marks → Type 0) (base : Siblings R) (before after : SearchScratch R) : Type 0 where
   pub outer : (place : ℕ) (weights : List ℕ) → place < base.marks → AreAtRest at_rest before place weights → AreAtRest at_rest after place weights
   pub own : Serves at_rest before base → Serves at_rest after base

@@ -5,7 +5,7 @@ ghost use Rattle.mine_classes.specs.Mined.{MinesClass, RanksAreFrequent};
 ghost use Rattle.mine_classes.specs.Tables.{AreTablesOf};
 
 use crate::joins::Joins;
-use crate::room::Room;
+use crate::search_scratch::SearchScratch;
 use crate::siblings::{Siblings, class_siblings};
 use crate::vertical::Vertical;
 use basket_core::{CountedSets, MineFault, Tally};
@@ -62,7 +62,7 @@ pub fn eclat_class_with<R: Row, T: Tally>(
     }
     let mut joins = Joins::none();
     let (weights, siblings) = class_siblings::<R>(alloc, runs, tables, &mut joins, rank, least)?;
-    let mut room = Room::new(alloc);
+    let mut room = SearchScratch::new(alloc);
     room.add_marks(alloc, 0, &weights)?;
     let below = Siblings {
         coded,

@@ -8,7 +8,7 @@ mod joins;
 pub mod laws;
 mod projected;
 mod remade;
-mod room;
+mod search_scratch;
 mod siblings;
 mod vertical;
 pub mod worked;

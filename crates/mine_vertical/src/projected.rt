@@ -8,7 +8,7 @@ ghost use Rattle.mine_vertical.specs.Siblings.{AreKept, AreOver, AreSiblings};
 
 use crate::joins::{Joins, Sibling};
 use crate::remade::remade;
-use crate::room::{Room, make_place};
+use crate::search_scratch::{SearchScratch, make_place};
 use crate::siblings::Siblings;
 use mine_rows::{Marks, Row};
 use mine_search::Projected;
@@ -16,7 +16,7 @@ use std::alloc::{AllocError, Global};
 use std::rc::Rc;
 
 impl<'a, R: Row> Projected for Siblings<'a, R> {
-    type Scratch = Room<R>;
+    type Scratch = SearchScratch<R>;
 
     ghost gives = { Extend R.stands };
 
@@ -44,7 +44,7 @@ impl<'a, R: Row> Projected for Siblings<'a, R> {
         &self,
         alloc: Global,
         at: usize,
-        room: &mut Room<R>,
+        room: &mut SearchScratch<R>,
         work: &mut u64,
     ) -> Result<Option<Self>, AllocError> {
         // The first sibling is joined with none.
@@ -85,7 +85,7 @@ impl<'a, R: Row> Projected for Siblings<'a, R> {
     }
 
     // Each database that is made anew has a list of its own, so those lists are not kept.
-    fn give_back(self, room: &mut Room<R>) {
+    fn give_back(self, room: &mut SearchScratch<R>) {
         if Rc::strong_count(&self.weights) > 1 {
             room.take_back(self.list);
         }
@@ -145,7 +145,7 @@ impl<'a, R: Row> Siblings<'a, R> {
         alloc: Global,
         siblings: &[Sibling<R>],
         is_large: bool,
-        room: &mut Room<R>,
+        room: &mut SearchScratch<R>,
     ) -> Result<Option<Self>, AllocError>
         requires rises { IsRising (map (λ sibling. sibling.rank) siblings.now) }
         requires rows { (baskets : List Basket) × (set : List ℕ) × AreSiblings R.stands self.now.weights.value siblings.now baskets set }

@@ -14,7 +14,7 @@ ghost use Rattle.mine_vertical.specs.Siblings.{AreClassSiblings, AreOver};
 
 use crate::joins::{Joins, Sibling};
 use basket_core::Coded;
-use mine_classes::{Conditional, Places, Runs, Tables, ranks_of};
+use mine_classes::{Conditional, RankPlaces, Runs, Tables, ranks_of};
 use mine_rows::{Row, Weights};
 use std::alloc::{AllocError, Global};
 use std::rc::Rc;
@@ -37,7 +37,7 @@ pub struct Siblings<'a, R> {
 fn conditional_of(
     alloc: Global,
     runs: &Runs,
-    places: &mut Places,
+    places: &mut RankPlaces,
     rank: u32,
     least: u64,
     pairs: &[(u32, u64)],

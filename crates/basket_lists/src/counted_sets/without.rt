@@ -5,13 +5,13 @@ ghost use Rattle.basket_lists.specs.Without.{ArePlacesWithout};
 
 use crate::counted_sets::CountedSets;
 use crate::known::MOST_ITEMS;
-use basket_order::{NOWHERE, Places};
+use basket_order::{NOWHERE, PlaceTable};
 use std::alloc::{AllocError, Global};
 
 impl CountedSets {
     /// Where the list has the set at a place without one of its items: each such place beside the
     /// place of the item, as far as the places know it.
-    pub fn places_without(&self, places: &Places, number: usize, found: &mut [u32; MOST_ITEMS])
+    pub fn places_without(&self, places: &PlaceTable, number: usize, found: &mut [u32; MOST_ITEMS])
         requires { number < length self.now }
         ensures { ArePlacesWithout self.now (set_at self.now number) MOST_ITEMS found.new }
     {
@@ -26,10 +26,10 @@ impl CountedSets {
     }
 
     /// The places of the sets from `start` up to `end`.
-    pub fn places(&self, alloc: Global, start: usize, end: usize) -> Result<Places, AllocError>
+    pub fn places(&self, alloc: Global, start: usize, end: usize) -> Result<PlaceTable, AllocError>
         requires { end ≤ length self.now }
     {
-        let mut places = Places::with_room(alloc, end.saturating_sub(start))?;
+        let mut places = PlaceTable::with_room(alloc, end.saturating_sub(start))?;
         for place in start..end {
             places.keep(self.hash(place), place);
         }

@@ -6,7 +6,7 @@ ghost use Rattle.basket_lists.specs.Packed.{IsPacked, items_in, unpacked};
 
 use crate::known::{KnownItems, MOST_ITEMS};
 use crate::packed::{Packed, WORD, bits_hash, find_bits};
-use basket_order::Places;
+use basket_order::PlaceTable;
 
 impl KnownItems {
     /// The hash of a packed set, whatever its count is.
@@ -20,7 +20,7 @@ impl KnownItems {
     pub fn places_without(
         &self,
         sets: &[Packed],
-        places: &Places,
+        places: &PlaceTable,
         packed: &Packed,
         found: &mut [u32; MOST_ITEMS],
     )
@@ -38,7 +38,7 @@ impl KnownItems {
     fn add_places<const LOWEST: u32>(
         &self,
         sets: &[Packed],
-        places: &Places,
+        places: &PlaceTable,
         bits: u128,
         found: &mut [u32; MOST_ITEMS],
         first: usize,

@@ -6,12 +6,12 @@ ghost use Rattle.basket_sets.specs.Itemset.{IsRising};
 
 use crate::known::MOST_ITEMS;
 use crate::plain::PlainSets;
-use basket_order::{MOST_STEPS, NOWHERE, Places, item_hash, items_hash};
+use basket_order::{MOST_STEPS, NOWHERE, PlaceTable, item_hash, items_hash};
 
 impl PlainSets {
     /// Where the list has the set at a place without one of its items, as far as the places know
     /// it.
-    pub fn places_without(&self, places: &Places, number: usize, found: &mut [u32; MOST_ITEMS])
+    pub fn places_without(&self, places: &PlaceTable, number: usize, found: &mut [u32; MOST_ITEMS])
         requires { number < length self.now }
         ensures { ArePlacesWithout self.now (set_at self.now number) MOST_ITEMS found.new }
     {
@@ -40,7 +40,7 @@ impl PlainSets {
     /// The place of the set with this hash that is another without the item at a place, if the
     /// places know it.
     #[inline(never)]
-    fn find_without(&self, places: &Places, items: &[u32], place: usize, hash: u64) -> u32
+    fn find_without(&self, places: &PlaceTable, items: &[u32], place: usize, hash: u64) -> u32
         requires place { place < length items.now }
         requires rises { IsRising items.now }
         ensures { IsPlaceWithout self.now items.now (slice_index_or items.now place 0) result }
@@ -60,7 +60,7 @@ impl PlainSets {
 
 /// The first place that is kept for a set without each of its items. All are read before a set is looked
 /// at, so that none waits for another.
-fn first_places(places: &Places, items: &[u32], hash: u64, found: &mut [u32; MOST_ITEMS]) {
+fn first_places(places: &PlaceTable, items: &[u32], hash: u64, found: &mut [u32; MOST_ITEMS]) {
     for place in 0..items.len().min(MOST_ITEMS) {
         found[place] = places.at(hash.wrapping_sub(item_hash(items[place])), 0);
     }

@@ -10,7 +10,7 @@ use Rattle.std.proofs.lemmas.Bool.{false≢true, true≢false, or_cases, or_left
 use Rattle.basket_read.specs.declared.counted_line.CountedLine.{CountedLine}
 use Rattle.basket_sets.specs.Order.{IsInReportOrder, report_order, report_order_total, report_order_ties}
 use Rattle.basket_sets.proofs.theory.Members.{Member, All-from_Member, first_is_less, rest_is_sorted, same_members}
-use Rattle.basket_parts.specs.Together.{is_of, has_set, with_set, sets_of}
+use Rattle.basket_parts.specs.CombinedCounts.{is_of, has_set, with_set, sets_of}
 
 abbrev pub set_of : CountedLine → List ℕ
 set_of line = line.set

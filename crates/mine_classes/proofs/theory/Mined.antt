@@ -16,7 +16,7 @@ module _ {T : Type 0} {told_of limit_of : T → ℕ} {is_over : T → Bool} {cod
       → told_of after ≤ told_of before + class_size coding rank → limit_of after ≡ limit_of before → MinesClass told_of limit_of is_over coding rank before after result
   mining_fails {before} {after} {result} {fault} is many most limit = subst (MinesClass told_of limit_of is_over coding rank before after) (sym is) (record {
     listed = tt;
-    little = tt;
+    few = tt;
     told = tt;
     going_on = tt;
     too_many = λ n e. many n (let same : fault ≡ TooMany n = cc in same);
@@ -29,7 +29,7 @@ module _ {T : Type 0} {told_of limit_of : T → ℕ} {is_over : T → Bool} {cod
       → MinesClass told_of limit_of is_over coding rank before before (Ok (list, 0))
   mining_none {before} {list} law rare none going = record {
     listed = record { sets = []; listed = law coding.baskets coding.minimum rank rare; decoded = none };
-    little = omega arith;
+    few = omega arith;
     told = omega (arith, ap length none);
     going_on = going;
     too_many = λ limit e. absurd (let other = e in cc);

@@ -7,15 +7,15 @@ use Rattle.std.proofs.lemmas.List.Sums.{sum_by-append, sum_by-cons}
 use Rattle.basket_core.specs.declared.fault.MineFault.{MineFault}
 use Rattle.mine_round.specs.RoundView.{RoundView}
 use Rattle.mine_round.specs.SeatView.{SeatView}
-use Rattle.mine_phases.specs.declared.share.Share.{Share}
+use Rattle.mine_phases.specs.declared.worker_result.WorkerResult.{WorkerResult}
 
 -- the seats are of the round that the seats of the shares are of
-pub all_own : {V : Type 0} (round : RoundView) (shares : List (Share V)) (seats : List SeatView) → seats ≡ map (λ share. share.seat) shares → All (λ share. share.seat.round ≡ round.id) shares
+pub all_own : {V : Type 0} (round : RoundView) (shares : List (WorkerResult V)) (seats : List SeatView) → seats ≡ map (λ share. share.seat) shares → All (λ share. share.seat.round ≡ round.id) shares
     → All (λ seat. seat.round ≡ round.id) seats
 all_own round shares seats are own = All-same (λ (s : SeatView). s.round ≡ round.id) _ _ are (All-map (λ (s : SeatView). s.round ≡ round.id) (λ share. share.seat) shares own)
 
 module _ {V : Type 0} (P : SeatView → Type 0) where
-  abbrev pub Ends : Share V → Type 0
+  abbrev pub Ends : WorkerResult V → Type 0
   Ends share = IfOk share.values (λ _. P share.seat)
 
   ends_at : (seat : SeatView) (value : V) (values : Result V MineFault) → Ok value ≡ values → IfOk values (λ _. P seat) → P seat
@@ -23,7 +23,7 @@ module _ {V : Type 0} (P : SeatView → Type 0) where
   ends_at seat value (Err fault) e h = absurd cc
 
   -- where each worker came to its end, it holds of each seat
-  pub each_seat : (shares : List (Share V)) (done : List V) → map Ok done ≡ map (λ share. share.values) shares → All Ends shares → All P (map (λ share. share.seat) shares)
+  pub each_seat : (shares : List (WorkerResult V)) (done : List V) → map Ok done ≡ map (λ share. share.values) shares → All Ends shares → All P (map (λ share. share.seat) shares)
   each_seat [] done e ends = All-nil P
   each_seat (share ∷ shares) [] e ends = absurd cc
   each_seat (share ∷ shares) (value ∷ done) e ends =

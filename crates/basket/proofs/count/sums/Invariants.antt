@@ -4,6 +4,6 @@ use Rattle.basket.proofs.count.sums.Given as goal
 
 abbrev pub invariant-loop-nth : goal.invariant-loop-nth
 invariant-loop-nth l = record {
-  counted : l.counted.items ≡ map (counted_in l.together) (take l.nth l.sets);
-  behind : first_uncounted l.together 0 l.sets ≡ first_uncounted l.together l.nth (drop l.nth l.sets);
+  counted : l.counted.items ≡ map (counted_in l.combined) (take l.nth l.sets);
+  behind : first_uncounted l.combined 0 l.sets ≡ first_uncounted l.combined l.nth (drop l.nth l.sets);
 }

@@ -1,6 +1,6 @@
 use Rattle.std.proofs.Common.{◌++◌, refl}
 use Rattle.std.proofs.lemmas.Result.{err_from_is_err_and}
-use Rattle.basket_csv.specs.Collector.{Start}
+use Rattle.basket_csv.specs.RecordCollector.{Start}
 use Rattle.basket_csv.specs.Csv.{behind_header, first_number, baskets_in, all_names}
 use Rattle.basket_csv.specs.Names.{in_order}
 use Rattle.basket_csv.specs.Records.{records_of}

@@ -1,5 +1,5 @@
 use Rattle.std.proofs.Common.{◌≡◌, ◌+◌, ◌++◌, ℕ, List, length}
-use Rattle.basket_csv.specs.Collector.{Start}
+use Rattle.basket_csv.specs.RecordCollector.{Start}
 use Rattle.basket_csv.specs.Csv.{fault_from}
 use Rattle.basket_csv.specs.Records.{records_left, records_taken, IsReading}
 use Rattle.basket_csv.proofs.collector.add_left.Given as goal
@@ -7,10 +7,10 @@ use Rattle.basket_csv.proofs.collector.add_left.Given as goal
 abbrev pub invariant-rows : goal.invariant-rows
 invariant-rows g l = record {
   reading : IsReading l.records;
-  read : (start : Start) (rows : List (List (List ℕ))) → start.first + length rows ≡ records_taken l.fn.records + 1 → g.C.Collector.has_read l.fn.collector start rows
-      → (done : List (List (List ℕ))) × g.C.Collector.has_read l.collector start done × (start.first + length done ≡ records_taken l.records + 1)
+  read : (start : Start) (rows : List (List (List ℕ))) → start.first + length rows ≡ records_taken l.fn.records + 1 → g.C.RecordCollector.has_read l.fn.collector start rows
+      → (done : List (List (List ℕ))) × g.C.RecordCollector.has_read l.collector start done × (start.first + length done ≡ records_taken l.records + 1)
       × (rows ++ records_left l.fn.records ≡ done ++ records_left l.records)
-      × (fault_from (g.C.Collector.fault_of start) (records_taken l.fn.records + 1) (records_left l.fn.records) ≡ fault_from (g.C.Collector.fault_of start) (records_taken l.records + 1) (records_left l.records));
+      × (fault_from (g.C.RecordCollector.fault_of start) (records_taken l.fn.records + 1) (records_left l.fn.records) ≡ fault_from (g.C.RecordCollector.fault_of start) (records_taken l.records + 1) (records_left l.records));
 }
 
 abbrev pub decreases-rows : goal.decreases-rows

@@ -1,6 +1,6 @@
 use Rattle.std.proofs.Common.{◌++◌, true, refl}
 use Rattle.std.proofs.lemmas.Result.{err_from_is_err_and}
-use Rattle.basket_csv.specs.Collector.{Start}
+use Rattle.basket_csv.specs.RecordCollector.{Start}
 use Rattle.basket_csv.specs.Counts.{lines_from}
 use Rattle.basket_csv.specs.Csv.{all_names, behind_header, first_number}
 use Rattle.basket_csv.specs.Names.{in_order}

@@ -1,6 +1,6 @@
 use Rattle.std.proofs.Common.{arith, false, refl}
 use Rattle.std.proofs.lemmas.Result.{err_from_is_err_and}
-use Rattle.basket_csv.specs.Collector.{Start}
+use Rattle.basket_csv.specs.RecordCollector.{Start}
 use Rattle.basket_csv.specs.Csv.{behind_header, first_number, pairs_of, baskets_of_pairs, names_of_pairs}
 use Rattle.basket_csv.specs.Records.{records_of}
 use Rattle.basket_csv.proofs.PairLemmas.{few_groups}

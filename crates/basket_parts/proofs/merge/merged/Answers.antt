@@ -4,7 +4,7 @@ use Rattle.std.specs.Vec.Iter.{into_iter_items}
 use Rattle.std.proofs.lemmas.List.Elements.{All-push}
 use Rattle.basket_read.specs.declared.counted_line.CountedLine.{CountedLine}
 use Rattle.basket_sets.specs.Database.{MOST_WEIGHT}
-use Rattle.basket_parts.specs.Together.{is_heavy}
+use Rattle.basket_parts.specs.CombinedCounts.{is_heavy}
 use Rattle.basket_parts.specs.Merge.{IsLight, merged, merged_from}
 use Rattle.basket_parts.proofs.StableLemmas.{heavy_first, heavy_behind, heavy_sum, heavy_line, apart_more}
 use Rattle.basket_parts.proofs.merge.merged.Goals as goal

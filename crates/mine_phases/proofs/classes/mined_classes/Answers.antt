@@ -8,10 +8,10 @@ use Rattle.basket_core.specs.declared.fault.MineFault.TheVariants.{TooMany}
 use Rattle.basket_sets.specs.declared.counted.Counted.{Counted}
 use Rattle.mine_round.specs.Lawful.{once_below}
 use Rattle.mine_round.specs.SeatView.{SeatView}
-use Rattle.mine_phases.specs.declared.share.Share.{Share}
+use Rattle.mine_phases.specs.declared.worker_result.WorkerResult.{WorkerResult}
 use Rattle.mine_phases.specs.Classes.{IsClassShare, IsMined, ToldAll, claimed_size, ranks_of}
 use Rattle.mine_phases.specs.Pieces.{HasEach}
-use Rattle.mine_phases.specs.Share.{fault_of}
+use Rattle.mine_phases.specs.WorkerResult.{fault_of}
 use Rattle.mine_phases.proofs.theory.Seats.{all_own, each_seat}
 use Rattle.mine_phases.proofs.Shares.{all_claimed, have_each, hold_numbers}
 use Rattle.mine_phases.proofs.Sharing.{no_more_than_limit, ranks_once, too_many_are}
@@ -19,7 +19,7 @@ use Rattle.mine_phases.proofs.classes.mined_classes.Goals as goal
 
 -- what a worker hands back: the classes of its ranks
 abbrev Mined : Type 0
-Mined = Share (Vec (ℕ × (List Counted × ℕ)) Global)
+Mined = WorkerResult (Vec (ℕ × (List Counted × ℕ)) Global)
 
 pub by_workers-requires-clause-accepted : goal.by_workers-requires-clause-accepted
 by_workers-requires-clause-accepted g c κs within i seat below is =

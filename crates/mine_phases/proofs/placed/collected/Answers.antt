@@ -4,7 +4,7 @@ use Rattle.std.specs.Vec.Iter.{into_iter_items}
 use Rattle.std.proofs.lemmas.List.{length-replicate, nil_from_length}
 use Rattle.mine_round.specs.Totals.{HoldsNumbersBelow}
 use Rattle.mine_phases.specs.Placed.{placed}
-use Rattle.mine_phases.specs.Share.{numbers_of}
+use Rattle.mine_phases.specs.WorkerResult.{numbers_of}
 use Rattle.mine_phases.proofs.Placing.{AreAll, all_at_first, room_for_front, all_behind, placed-append, none_vacant}
 use Rattle.mine_phases.proofs.placed.collected.Goals as goal
 

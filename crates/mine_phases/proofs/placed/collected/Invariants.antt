@@ -2,7 +2,7 @@ use Rattle.std.proofs.Common.{◌≡◌, None, replicate}
 use Rattle.std.specs.List.{flat_map}
 use Rattle.std.specs.Vec.Iter.{into_iter_items}
 use Rattle.mine_phases.specs.Placed.{placed}
-use Rattle.mine_phases.specs.Share.{numbers_of}
+use Rattle.mine_phases.specs.WorkerResult.{numbers_of}
 use Rattle.mine_phases.proofs.Placing.{AreAll}
 use Rattle.mine_phases.proofs.placed.collected.Given as goal
 

@@ -2,7 +2,7 @@ use Rattle.std.proofs.Common.{◌≡◌, ap, sym, ◌∙◌, subst}
 use Rattle.std.specs.Vec.Iter.{into_iter_items}
 use Rattle.std.proofs.lemmas.Bool.{false≢true}
 use Rattle.mine_phases.specs.Placed.{HaveRoom, placed}
-use Rattle.mine_phases.specs.Share.{numbers_of}
+use Rattle.mine_phases.specs.WorkerResult.{numbers_of}
 use Rattle.mine_phases.proofs.Placing.{next_lacks, room_next}
 use Rattle.mine_phases.proofs.placed.put_all.Goals as goal
 

@@ -1,7 +1,7 @@
 use Rattle.std.proofs.Common.{◌≡◌}
 use Rattle.std.specs.Vec.Iter.{into_iter_items}
 use Rattle.mine_phases.specs.Placed.{HaveRoom, placed}
-use Rattle.mine_phases.specs.Share.{numbers_of}
+use Rattle.mine_phases.specs.WorkerResult.{numbers_of}
 use Rattle.mine_phases.proofs.placed.put_all.Given as goal
 
 abbrev pub invariant-loop-number : goal.invariant-loop-number

@@ -24,17 +24,18 @@ runs_joined : (ranks : List ℕ) (baskets : List Weighted) (count : ℕ) (ranges
 runs_joined ranks baskets count ranges values of are has is =
     let parts : List (List (List Span)) = map (λ (lists : Vec (Vec Span Global) Global). lists_in lists.items) values in
     let flat : lists_in of.items ≡ flat_map (λ lists. lists) parts =
-        ap lists_in is ∙ map_flat (λ (list : Vec Span Global). list.items) (λ (lists : Vec (Vec Span Global) Global). lists.items) values
-        ∙ sym (flat_map-map (λ (lists : List (List Span)). lists) (λ (lists : Vec (Vec Span Global) Global). lists_in lists.items) values) in
+    ap lists_in is ∙ map_flat (λ (list : Vec Span Global). list.items) (λ (lists : Vec (Vec Span Global) Global). lists.items) values
+    ∙ sym (flat_map-map (λ (lists : List (List Span)). lists) (λ (lists : Vec (Vec Span Global) Global). lists_in lists.items) values) in
     let list : (part : ℕ) → part < length ranges → get_or parts part [] ≡ lists_in (get_or values part of).items =
-        λ part below. get_or-map (λ (lists : Vec (Vec Span Global) Global). lists_in lists.items) values part of [] (omega (arith, below, has.count)) in
+    λ part below. get_or-map (λ (lists : Vec (Vec Span Global) Global). lists_in lists.items) values part of [] (omega (arith, below, has.count)) in
     let all : AreOf (AreRunsOf ranks baskets) (range_with_len 0 count) (lists_in of.items) =
-        subst (AreOf (AreRunsOf ranks baskets) (range_with_len 0 count)) (sym flat)
-        (subst (λ r. AreOf (AreRunsOf ranks baskets) r (flat_map (λ lists. lists) parts)) are
-        (are_joined (AreRunsOf ranks baskets) ranges parts (length-map values (λ (lists : Vec (Vec Span Global) Global). lists_in lists.items) ∙ has.count)
-        (λ part range below at.
-          (ap length (list part below) ∙ (has.each part of below range at).long,
-          λ n low. subst (λ l. AreRunsOf ranks baskets (range.first + n) (get_or l n [])) (sym (list part below)) ((has.each part of below range at).are n low))))) in
+    subst (AreOf (AreRunsOf ranks baskets) (range_with_len 0 count)) (sym flat)
+    (subst (λ r. AreOf (AreRunsOf ranks baskets) r (flat_map (λ lists. lists) parts)) are
+    (are_joined (AreRunsOf ranks baskets) ranges parts (length-map values (λ (lists : Vec (Vec Span Global) Global). lists_in lists.items) ∙ has.count)
+    (λ part range below at. (
+      ap length (list part below) ∙ (has.each part of below range at).long,
+      λ n low. subst (λ l. AreRunsOf ranks baskets (range.first + n) (get_or l n [])) (sym (list part below)) ((has.each part of below range at).are n low),
+    )))) in
     record {
       long = length-are (AreRunsOf ranks baskets) 0 count (lists_in of.items) all;
       are = are_at (AreRunsOf ranks baskets) 0 count (lists_in of.items) all;

@@ -2,10 +2,10 @@ use Rattle.std.proofs.Common.{◌∙◌, Some, None, sym}
 use Rattle.basket_counts.specs.Counts.{counts_of}
 use Rattle.basket_csv.specs.Counts.{named_counts_of}
 use Rattle.basket_csv.specs.Csv.{baskets_of_csv, pairs_of_csv}
-use Rattle.basket_parts.specs.Together.{together_of}
+use Rattle.basket_parts.specs.CombinedCounts.{combined_of}
 use Rattle.basket_read.specs.Fimi.{fimi_of}
 use Rattle.basket.specs.declared.contents.Contents.TheVariants as contents
-use Rattle.basket.specs.Contents.{named_together_of, where_read}
+use Rattle.basket.specs.Contents.{named_combined_of, where_read}
 use Rattle.basket.proofs.ContentsLemmas.{fails, fimi_fails, from_csv, from_fimi, is_err, says, still_err, still_read}
 use Rattle.basket.proofs.contents.Contents.read.Goals as goal
 
@@ -46,25 +46,25 @@ pub returns-in-Single-clause-read_is_failed : goal.returns-in-Single-clause-read
 returns-in-Single-clause-read_is_failed g c is = c.read_single.ensures.read_is_failed (still_read (λ both. contents.Baskets both.0 (Some both.1)) c.read_single.result (sym c.named-in-Single.ensures ∙ is))
 
 pub returns-in-Counts-clause-exact : goal.returns-in-Counts-clause-exact
-returns-in-Counts-clause-exact g c working = rw (c.counted.ensures, c.in-Counts.is) (says (λ a. contents.Counts a None) (g.S.Source.left c.args.reader.now) (λ bytes. where_read together_of (counts_of bytes)) c.read_together.result (c.read_together.ensures.exact working))
+returns-in-Counts-clause-exact g c working = rw (c.counted.ensures, c.in-Counts.is) (says (λ a. contents.Counts a None) (g.S.Source.left c.args.reader.now) (λ bytes. where_read combined_of (counts_of bytes)) c.read_combined.result (c.read_combined.ensures.exact working))
 
 pub returns-in-Counts-clause-failed : goal.returns-in-Counts-clause-failed
-returns-in-Counts-clause-failed g c failed = rw (c.counted.ensures, c.in-Counts.is) (fails (λ a. contents.Counts a None) c.read_together.result (c.read_together.ensures.failed failed))
+returns-in-Counts-clause-failed g c failed = rw (c.counted.ensures, c.in-Counts.is) (fails (λ a. contents.Counts a None) c.read_combined.result (c.read_combined.ensures.failed failed))
 
 pub returns-in-Counts-clause-failed_is_err : goal.returns-in-Counts-clause-failed_is_err
-returns-in-Counts-clause-failed_is_err g c failed = rw c.counted.ensures (is_err (λ a. contents.Counts a None) c.read_together.result (c.read_together.ensures.failed failed))
+returns-in-Counts-clause-failed_is_err g c failed = rw c.counted.ensures (is_err (λ a. contents.Counts a None) c.read_combined.result (c.read_combined.ensures.failed failed))
 
 pub returns-in-Counts-clause-read_is_failed : goal.returns-in-Counts-clause-read_is_failed
-returns-in-Counts-clause-read_is_failed g c is = c.read_together.ensures.read_is_failed (still_read (λ a. contents.Counts a None) c.read_together.result (sym c.counted.ensures ∙ is))
+returns-in-Counts-clause-read_is_failed g c is = c.read_combined.ensures.read_is_failed (still_read (λ a. contents.Counts a None) c.read_combined.result (sym c.counted.ensures ∙ is))
 
 pub returns-in-CsvCounts-clause-exact : goal.returns-in-CsvCounts-clause-exact
-returns-in-CsvCounts-clause-exact g c working = rw (c.named_counts.ensures, c.in-CsvCounts.is) (says (λ both. contents.Counts both.0 (Some both.1)) (g.S.Source.left c.args.reader.now) (λ bytes. where_read named_together_of (named_counts_of c.args.layout.separator c.args.layout.header c.args.known bytes)) c.read_named_together.result (c.read_named_together.ensures.exact working))
+returns-in-CsvCounts-clause-exact g c working = rw (c.named_counts.ensures, c.in-CsvCounts.is) (says (λ both. contents.Counts both.0 (Some both.1)) (g.S.Source.left c.args.reader.now) (λ bytes. where_read named_combined_of (named_counts_of c.args.layout.separator c.args.layout.header c.args.known bytes)) c.read_named_combined.result (c.read_named_combined.ensures.exact working))
 
 pub returns-in-CsvCounts-clause-failed : goal.returns-in-CsvCounts-clause-failed
-returns-in-CsvCounts-clause-failed g c failed = rw (c.named_counts.ensures, c.in-CsvCounts.is) (fails (λ both. contents.Counts both.0 (Some both.1)) c.read_named_together.result (c.read_named_together.ensures.failed failed))
+returns-in-CsvCounts-clause-failed g c failed = rw (c.named_counts.ensures, c.in-CsvCounts.is) (fails (λ both. contents.Counts both.0 (Some both.1)) c.read_named_combined.result (c.read_named_combined.ensures.failed failed))
 
 pub returns-in-CsvCounts-clause-failed_is_err : goal.returns-in-CsvCounts-clause-failed_is_err
-returns-in-CsvCounts-clause-failed_is_err g c failed = rw c.named_counts.ensures (is_err (λ both. contents.Counts both.0 (Some both.1)) c.read_named_together.result (c.read_named_together.ensures.failed failed))
+returns-in-CsvCounts-clause-failed_is_err g c failed = rw c.named_counts.ensures (is_err (λ both. contents.Counts both.0 (Some both.1)) c.read_named_combined.result (c.read_named_combined.ensures.failed failed))
 
 pub returns-in-CsvCounts-clause-read_is_failed : goal.returns-in-CsvCounts-clause-read_is_failed
-returns-in-CsvCounts-clause-read_is_failed g c is = c.read_named_together.ensures.read_is_failed (still_read (λ both. contents.Counts both.0 (Some both.1)) c.read_named_together.result (sym c.named_counts.ensures ∙ is))
+returns-in-CsvCounts-clause-read_is_failed g c is = c.read_named_combined.ensures.read_is_failed (still_read (λ both. contents.Counts both.0 (Some both.1)) c.read_named_combined.result (sym c.named_counts.ensures ∙ is))

@@ -3,7 +3,7 @@ use Rattle.std.specs.List.{flat_map}
 use Rattle.std.proofs.lemmas.Result.{err_from_is_err_and}
 use Rattle.basket_read.specs.Fimi.{basket_of_numbers}
 use Rattle.basket_csv.specs.Csv.{baskets_of_pairs, names_of_pairs, gather}
-use Rattle.basket_csv.specs.Gathered.{HasGathered}
+use Rattle.basket_csv.specs.GatheredBaskets.{HasGathered}
 use Rattle.basket_csv.proofs.PairLemmas.{all_baskets, refused, answered}
 use Rattle.basket_csv.proofs.pairs.Pairs.finish.Goals as goal
 

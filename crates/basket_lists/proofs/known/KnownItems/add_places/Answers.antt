@@ -4,7 +4,7 @@ use Rattle.std.proofs.lemmas.Nat.{one_shl}
 use Rattle.basket_lists.specs.Known.{IsRestOf}
 use Rattle.basket_lists.specs.Packed.{HasBits, count_bits}
 use Rattle.basket_lists.proofs.WithoutLemmas.{found_without, item_inside, moved_one, places_more, rest_after}
-use Rattle.basket_order.specs.declared.places.TheConstants.{NOWHERE}
+use Rattle.basket_order.specs.declared.place_table.TheConstants.{NOWHERE}
 use Rattle.basket_sets.specs.Itemset.{IsRising}
 use Rattle.basket_lists.proofs.known.KnownItems.add_places.Goals as goal
 

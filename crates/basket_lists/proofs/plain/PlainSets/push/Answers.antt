@@ -1,7 +1,7 @@
 use Rattle.std.proofs.Common.{◌++◌, ◌∷◌, [], length, sym, ap, ◌∙◌, subst}
 use Rattle.std.specs.Prelude.{All}
 use Rattle.std.proofs.lemmas.List.{length-append}
-use Rattle.basket_lists.specs.declared.place.Place.{Place}
+use Rattle.basket_lists.specs.declared.set_span.SetSpan.{SetSpan}
 use Rattle.basket_lists.specs.Plain.{IsPlaceOfSet, placed_sets}
 use Rattle.basket_lists.proofs.PlainLemmas.{IsAtEnd, places_pushed, placed_sets_pushed}
 use Rattle.basket_lists.proofs.plain.PlainSets.push.Goals as goal
@@ -19,7 +19,7 @@ pub invariant_of-self-2 : goal.invariant_of-self-2
 invariant_of-self-2 c =
     let items = c.self.inside.items.items in
     let places = c.self.inside.places.items in
-    let place : Place = record { start = c.in_ok-start.start; end = c.in_ok-end.end; count = c.args.count } in
+    let place : SetSpan = record { start = c.in_ok-start.start; end = c.in_ok-end.end; count = c.args.count } in
     let all = places_pushed items c.args.set.now places place c.self.invariant c.requires (at_end c) in
     subst (λ l. All (IsPlaceOfSet l) c.push.new.self.items) (sym c.in_ok-extend_from_slice.ensures.items)
     (subst (All (IsPlaceOfSet (items ++ c.args.set.now))) (sym c.in_ok-push.ensures.items) all)
@@ -28,7 +28,7 @@ pub returns : goal.returns
 returns c =
     let items = c.self.inside.items.items in
     let places = c.self.inside.places.items in
-    let place : Place = record { start = c.in_ok-start.start; end = c.in_ok-end.end; count = c.args.count } in
+    let place : SetSpan = record { start = c.in_ok-start.start; end = c.in_ok-end.end; count = c.args.count } in
     ap (λ l. placed_sets l c.push.new.self.items) c.in_ok-extend_from_slice.ensures.items ∙ ap (placed_sets (items ++ c.args.set.now)) c.in_ok-push.ensures.items
     ∙ placed_sets_pushed items c.args.set.now places place c.self.invariant (at_end c)
     ∙ ap (λ sets. sets ++ record { set = c.args.set.now; count = c.args.count } ∷ []) c.self.view_is

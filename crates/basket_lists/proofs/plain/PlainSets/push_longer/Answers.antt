@@ -2,7 +2,7 @@ use Rattle.std.proofs.Common.{◌≡◌, ◌<◌, ◌++◌, ◌∷◌, [], List,
 use Rattle.std.specs.Prelude.{All}
 use Rattle.std.specs.List.{slice_range}
 use Rattle.std.proofs.lemmas.List.{length-append, length-map, take-append-drop}
-use Rattle.basket_lists.specs.declared.place.Place.{Place}
+use Rattle.basket_lists.specs.declared.set_span.SetSpan.{SetSpan}
 use Rattle.basket_lists.specs.CountedSets.{set_at}
 use Rattle.basket_lists.specs.Plain.{IsPlaceOfSet, placed, placed_sets}
 use Rattle.basket_lists.proofs.PlainLemmas.{IsAtEnd, places_kept, places_pushed, placed_at, placed_sets_pushed}
@@ -44,7 +44,7 @@ invariant_of-self-2 c =
     let items = c.self.inside.items.items in
     let places = c.self.inside.places.items in
     let set = with_item c.args.item (slice_range items c.index.result.now.start c.index.result.now.end) in
-    let place : Place = record { start = c.in_ok-start.start; end = c.in_ok-end.end; count = c.args.count } in
+    let place : SetSpan = record { start = c.in_ok-start.start; end = c.in_ok-end.end; count = c.args.count } in
     let all = places_pushed items set places place c.self.invariant (longer_rises c) (at_end c) in
     subst (λ l. All (IsPlaceOfSet l) c.push.new.self.items) (sym c.in_ok-add_longer.ensures.added)
     (subst (All (IsPlaceOfSet (items ++ set))) (sym c.in_ok-push.ensures.items) all)
@@ -55,10 +55,10 @@ returns c =
     let places = c.self.inside.places.items in
     let from = c.index.result.now in
     let set = with_item c.args.item (slice_range items from.start from.end) in
-    let place : Place = record { start = c.in_ok-start.start; end = c.in_ok-end.end; count = c.args.count } in
+    let place : SetSpan = record { start = c.in_ok-start.start; end = c.in_ok-end.end; count = c.args.count } in
     let here : c.args.place < length places = omega (arith, c.requires, ap length c.self.view_is, length-map places (placed items)) in
     let same : slice_range items from.start from.end ≡ set_at c.args.self.now c.args.place =
-    ap (λ (p : Place). slice_range items p.start p.end) c.index.ensures ∙ sym (placed_at items places c.args.place from here) ∙ ap (λ sets. set_at sets c.args.place) c.self.view_is in
+    ap (λ (p : SetSpan). slice_range items p.start p.end) c.index.ensures ∙ sym (placed_at items places c.args.place from here) ∙ ap (λ sets. set_at sets c.args.place) c.self.view_is in
     ap (λ l. placed_sets l c.push.new.self.items) c.in_ok-add_longer.ensures.added ∙ ap (placed_sets (items ++ set)) c.in_ok-push.ensures.items
     ∙ placed_sets_pushed items set places place c.self.invariant (at_end c)
     ∙ ap (λ sets. sets ++ record { set = set; count = c.args.count } ∷ []) c.self.view_is

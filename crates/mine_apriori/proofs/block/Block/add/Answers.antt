@@ -2,7 +2,7 @@ use Rattle.std.proofs.Common.{◌≡◌, ◌-◌, ℕ, length, take, subst, sym,
 use Rattle.std.proofs.lemmas.Bool.{eqb-true}
 use Rattle.std.proofs.lemmas.List.{nil_from_length, take_all}
 use Rattle.mine_apriori.specs.BlockCounts.{placed}
-use Rattle.mine_apriori.specs.Places.{ArePlacesOf}
+use Rattle.mine_apriori.specs.TidWord.{ArePlacesOf}
 use Rattle.mine_apriori.proofs.PlaceLemmas.{none_with_prefix, part_used}
 use Rattle.mine_apriori.proofs.PrefixLemmas.{last_prefix, none_added, rest_joined}
 use Rattle.mine_apriori.proofs.block.Block.add.Goals as goal

@@ -1,7 +1,7 @@
 use Rattle.std.proofs.Common.{◌≡◌, ℕ, List, [], ◌∷◌, ◌++◌, ◌+◌, ◌<◌, ◌≤◌, get_or}
 use Rattle.basket_sets.specs.Support.{support_of}
 use Rattle.mine_apriori.specs.BlockCounts.{placed}
-use Rattle.mine_apriori.specs.Places.{ArePlacesOf}
+use Rattle.mine_apriori.specs.TidWord.{ArePlacesOf}
 use Rattle.mine_apriori.proofs.block.Block.add_weights.Given as goal
 
 abbrev pub invariant-loop-number : goal.invariant-loop-number

@@ -1,7 +1,7 @@
 use Rattle.std.proofs.Common.{[], ◌∷◌, ◌++◌, ◌+◌, append_assoc, get_or, take, ap, subst, sym, ◌∙◌}
 use Rattle.std.proofs.lemmas.List.{take_more}
 use Rattle.mine_apriori.specs.BlockCounts.{placed}
-use Rattle.mine_apriori.specs.Places.{AreKept, ArePlacesOf}
+use Rattle.mine_apriori.specs.TidWord.{AreKept, ArePlacesOf}
 use Rattle.mine_apriori.proofs.PlaceLemmas.{are_kept}
 use Rattle.mine_apriori.proofs.block.Block.kept_by_all.Goals as goal
 

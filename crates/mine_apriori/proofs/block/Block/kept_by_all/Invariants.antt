@@ -1,6 +1,6 @@
 use Rattle.std.proofs.Common.{◌++◌, ℕ, List, take}
 use Rattle.mine_apriori.specs.BlockCounts.{placed}
-use Rattle.mine_apriori.specs.Places.{ArePlacesOf}
+use Rattle.mine_apriori.specs.TidWord.{ArePlacesOf}
 use Rattle.mine_apriori.proofs.block.Block.kept_by_all.Given as goal
 
 abbrev pub invariant-loop-item : goal.invariant-loop-item

@@ -5,7 +5,7 @@ use Rattle.std.proofs.lemmas.List.Sums.{sum_by-take-le}
 use Rattle.basket_sets.specs.Itemset.{has}
 use Rattle.basket_sets.specs.Support.{weight_at}
 use Rattle.mine_apriori.specs.Needed.{is_needed, needed}
-use Rattle.mine_apriori.specs.Places.{ArePlacesOf}
+use Rattle.mine_apriori.specs.TidWord.{ArePlacesOf}
 use Rattle.mine_apriori.specs.Rows.{AreRows}
 use Rattle.mine_apriori.specs.UsedItems.{AreNumbers}
 use Rattle.mine_apriori.proofs.NeededLemmas.{needed_more, needed_total}

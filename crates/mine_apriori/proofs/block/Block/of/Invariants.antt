@@ -1,6 +1,6 @@
 use Rattle.std.proofs.Common.{◌≡◌, ◌≤◌, ◌-◌, ◌*◌, [], length, min, take}
 use Rattle.mine_apriori.specs.Needed.{needed}
-use Rattle.mine_apriori.specs.Places.{ArePlacesOf}
+use Rattle.mine_apriori.specs.TidWord.{ArePlacesOf}
 use Rattle.mine_apriori.specs.Rows.{AreRows}
 use Rattle.mine_apriori.proofs.block.Block.of.Given as goal
 

@@ -1,5 +1,5 @@
 use Rattle.std.proofs.Common.{subst, sym, ◌∙◌}
-use Rattle.mine_apriori.specs.Places.{AreKept}
+use Rattle.mine_apriori.specs.TidWord.{AreKept}
 use Rattle.mine_apriori.proofs.prefixes.Prefixes.push_kept.Goals as goal
 
 pub returns : goal.returns

@@ -10,7 +10,7 @@ use Rattle.basket_core.specs.declared.fault.MineFault.TheVariants.{TooMany}
 use Rattle.basket_sets.specs.declared.counted.Counted.{Counted}
 use Rattle.mine_classes.specs.Mined.{class_size}
 use Rattle.mine_phases.specs.Classes.{IsMined, claimed_size, rank_from_end}
-use Rattle.mine_phases.specs.Share.{numbers_of}
+use Rattle.mine_phases.specs.WorkerResult.{numbers_of}
 use Rattle.mine_phases.proofs.Ranks.{all_ranks, first_ranks, next_rank, ranks_before, ranks_fit}
 use Rattle.mine_phases.proofs.classes.Classes.add_classes.Goals as goal
 
@@ -91,7 +91,7 @@ loop-place-preserved g c =
       turn = add-mod_right place pieces ∙ was.turn;
       numbers = ap numbers_of pushed ∙ map-append (λ (value : ℕ × (List Counted × ℕ)). value.0) c.loop-place.values.items _ ∙ ap (λ l. l ++ rank ∷ []) was.numbers
           ∙ append_assoc before ranks (rank ∷ []) ∙ ap (λ l. before ++ l) (sym next);
-      each = All-same Mined _ _ pushed (All-push Mined c.loop-place.values.items _ was.each (record { listed = class.listed; work = c.in_ok-class.ensures.work; few = class.little }));
+      each = All-same Mined _ _ pushed (All-push Mined c.loop-place.values.items _ was.each (record { listed = class.listed; work = c.in_ok-class.ensures.work; few = class.few }));
       told = omega (arith, sum, size, was.told, class.told, c.look.ensures.told);
     }
 

@@ -3,7 +3,7 @@ use Rattle.std.specs.List.{sum_by}
 use Rattle.mine_classes.specs.Mined.{class_size}
 use Rattle.mine_classes.specs.Tables.{AreTablesOf}
 use Rattle.mine_phases.specs.Classes.{AreMined}
-use Rattle.mine_phases.specs.Share.{numbers_of}
+use Rattle.mine_phases.specs.WorkerResult.{numbers_of}
 use Rattle.mine_phases.proofs.Ranks.{ranks_before}
 use Rattle.mine_phases.proofs.classes.Classes.add_classes.Given as goal
 

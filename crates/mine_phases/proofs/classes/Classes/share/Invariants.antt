@@ -3,7 +3,7 @@ use Rattle.std.specs.List.{flat_map, sum_by}
 use Rattle.mine_classes.specs.Tables.{AreTablesOf}
 use Rattle.mine_phases.specs.Classes.{AreMined, claimed_size, ranks_of}
 use Rattle.mine_phases.specs.RoundTally.{CountsSets}
-use Rattle.mine_phases.specs.Share.{numbers_of}
+use Rattle.mine_phases.specs.WorkerResult.{numbers_of}
 use Rattle.mine_phases.proofs.theory.Claims.{behind}
 use Rattle.mine_phases.proofs.classes.Classes.share.Given as goal
 

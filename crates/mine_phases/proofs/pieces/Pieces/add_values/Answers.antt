@@ -1,7 +1,7 @@
 use Rattle.std.proofs.Common.{◌≡◌, ◌++◌, ◌-◌, ap, sym, ◌∙◌, arith}
 use Rattle.std.specs.List.{range_with_len}
 use Rattle.std.proofs.lemmas.List.Elements.{All-push, All-same}
-use Rattle.mine_phases.specs.Share.{numbers_of}
+use Rattle.mine_phases.specs.WorkerResult.{numbers_of}
 use Rattle.mine_phases.proofs.Numbers.{numbers_are, numbers_next}
 use Rattle.mine_phases.proofs.pieces.Pieces.add_values.Goals as goal
 

@@ -69,7 +69,7 @@ returns g c =
     record {
       class = (let f = found known class in record {
         listed = lists class.over_coding rank (is_frequent_rank class) c.match-below-4.mined.sets all;
-        little = omega (arith, f.going.few, long, many);
+        few = omega (arith, f.going.few, long, many);
         told = omega (arith, f.told, c.add.ensures.told, long, length-map (sets_at (of_rank known rank)) (found_at known));
         going_on = f.going.going;
         too_many = λ limit e. absurd cc;

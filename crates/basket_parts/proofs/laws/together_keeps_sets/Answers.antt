@@ -1,5 +1,0 @@
-use Rattle.basket_parts.proofs.LawLemmas.{together_keeps_sets}
-use Rattle.basket_parts.proofs.laws.together_keeps_sets.Goals as goal
-
-pub returns : goal.returns
-returns c = together_keeps_sets

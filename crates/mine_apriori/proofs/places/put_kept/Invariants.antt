@@ -1,6 +1,0 @@
-use Rattle.std.proofs.Common.{take}
-use Rattle.mine_apriori.specs.Places.{AreKept}
-use Rattle.mine_apriori.proofs.places.put_kept.Given as goal
-
-abbrev pub invariant-loop-part : goal.invariant-loop-part
-invariant-loop-part l = AreKept l.row (take l.part-index l.places) l.kept.items
