@@ -1,0 +1,58 @@
+"""The names of code that documents cite are defined in the code."""
+
+import re
+import unittest
+from pathlib import Path
+
+from .program import ROOT
+
+PAGES = ("ARCHITECTURE", "PROVED", "DECISIONS")
+
+# Words of Rust, of the kit's crates, of the Makefile and of a run that the gate repeats.
+OTHER_NAMES = set(
+    "Display None Ord args checks clap csv false make map_vec mod runs std stdin stdout thread true".split()
+)
+
+DEFINED_IN_CODE = (
+    r"\b(?:fn|struct|enum|trait|const|type|mod|ensures|requires|ghost) (?:\w+ (?=fn))?(\w+)",
+    r"(?m)^\s+(?:pub )?(\w+): ",
+    r"(?m)^\s+([A-Z]\w*)(?:,| \{|\()",
+)
+
+DEFINED_IN_SPECS = (
+    r"(?m)^(?:abbrev )?(?:pub )?(?:record )?(\w+)",
+    r"(?m)^  pub (\w+) :",
+)
+
+
+def defined_in(path: Path, patterns: tuple[str, ...]) -> set[str]:
+    text = path.read_text(encoding="utf-8")
+    return {path.stem}.union(*(re.findall(pattern, text) for pattern in patterns))
+
+
+def defined() -> set[str]:
+    crates = ROOT / "crates"
+    found = {folder.name for folder in crates.iterdir()}
+    for path in crates.glob("*/src/**/*.rt"):
+        found |= defined_in(path, DEFINED_IN_CODE)
+    for path in crates.glob("*/specs/**/*.antt"):
+        found |= defined_in(path, DEFINED_IN_SPECS)
+    return found.union(path.stem for path in crates.glob("*/proofs/*.antt"))
+
+
+def cited_in(page: str) -> list[str]:
+    text = (ROOT / "docs" / f"{page}.md").read_text(encoding="utf-8")
+    return re.findall(r"`([A-Za-z_]\w*(?:::\w+)*)`", text)
+
+
+class CitedNames(unittest.TestCase):
+    """A page that cites a name which was changed since is wrong."""
+
+    def test_each_name_that_a_page_cites_is_defined(self) -> None:
+        known = defined() | OTHER_NAMES
+        for page in PAGES:
+            cited = cited_in(page)
+            self.assertGreater(len(cited), 50, page)
+            lost = {name for name in cited if set(name.split("::")) - known}
+            with self.subTest(page=page):
+                self.assertEqual(lost, set())
