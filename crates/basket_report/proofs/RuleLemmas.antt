@@ -1,19 +1,21 @@
 -- The lines of the rules of a listing, union after union.
-use Rattle.std.proofs.Common.{◌≡◌, ◌∙◌, Result, Ok, suc, arith, map, ◌+◌, ◌<◌, ◌≤◌, ◌++◌, ℕ, List, [], ◌∷◌, get_or, length, take, refl, ap, subst, sym}
-use Rattle.std.specs.Prelude.{IfOk, Vec}
-use Rattle.std.specs.declared.alloc.AllocError.{AllocError}
+use Rattle.std.proofs.Common.{◌≡◌, ◌∙◌, suc, add-one, arith, ◌+◌, ◌<◌, ◌≤◌, ◌++◌, ℕ, List, [], ◌∷◌, get_or, length, take, refl, ap, subst, sym}
+use Rattle.std.specs.Prelude.{Vec}
 use Rattle.std.specs.Global.{Global}
 use Rattle.std.specs.List.{flat_map}
-use Rattle.std.proofs.lemmas.List.{append-nil, append_assoc, get_or-map, length-map, take_all, take_more}
+use Rattle.std.proofs.lemmas.List.{append-nil, append_assoc, get_or-map, take_all, take_more}
 use Rattle.std.proofs.lemmas.List.Concat.{flat_map-append}
 use Rattle.basket_core.specs.Listing.{Listing}
 use Rattle.basket_sets.specs.declared.counted.Counted.{Counted}
+use Rattle.basket_ranks.specs.Shards.{shard_start}
+use Rattle.basket_ranks.proofs.theory.Shards.{shard_start-all, shard_start-zero}
 use Rattle.basket_rules.specs.declared.association.Rule.{Rule}
 use Rattle.basket_rules.specs.Consistency.{IsConsistent}
 use Rattle.basket_rules.specs.Listed.{set_at}
 use Rattle.basket_rules.specs.Rules.{rules_among, rules_among_with}
 use Rattle.basket_rules.proofs.theory.Consistency.{frequent_is_consistent}
 use Rattle.basket_rules.proofs.theory.Rules.{rules_of_baskets}
+use Rattle.mine_phases.specs.Pieces.{HasEach}
 use Rattle.basket_report.specs.Bytes.{joined}
 use Rattle.basket_report.specs.Report.{rule_text, rules_report_of}
 use Rattle.basket_report.specs.Rules.{ReportsRules, ReportsUnions, first_rules}
@@ -21,12 +23,6 @@ use Rattle.basket_report.specs.Style.{Wording}
 
 none : Counted
 none = record { set = []; count = 0 }
-
-abbrev the_made : Vec ℕ Global → Result (Vec ℕ Global) AllocError
-the_made = Ok
-
-pub length_made : (texts : List (Vec ℕ Global)) (made : List (Result (Vec ℕ Global) AllocError)) → map Ok texts ≡ made → length texts ≡ length made
-length_made texts made same = sym (length-map texts the_made) ∙ ap length same
 
 module _ (wording : Wording) (listing : Listing) (confidence : ℕ × ℕ) where
   abbrev Reports : ℕ → ℕ → List ℕ → Type 0
@@ -52,23 +48,28 @@ module _ (wording : Wording) (listing : Listing) (confidence : ℕ × ℕ) where
   both from middle to front rest before behind consistent =
       sym (append_assoc (first_rules wording listing confidence from) front rest) ∙ ap (λ text. text ++ rest) (before consistent) ∙ behind consistent
 
-  -- texts of unions and of those behind them
-  pub both_texts : (from middle to : ℕ) (front rest : List (Vec ℕ Global)) → Reports from middle (joined front) → Reports middle to (joined rest) → Reports from to (joined (front ++ rest))
-  both_texts from middle to front rest before behind =
-      subst (Reports from to) (sym (flat_map-append (λ (text : Vec ℕ Global). text.items) front rest)) (both from middle to (joined front) (joined rest) before behind)
-
   -- the texts between cuts
-  pub cut_texts : (cut : ℕ → ℕ) (texts : List (Vec ℕ Global))
-      → ((i : ℕ) (made : Result (Vec ℕ Global) AllocError) → i < length texts → IfOk (get_or (map Ok texts) i made) (λ text. Reports (cut i) (cut (suc i)) text.items))
+  cut_texts : (cut : ℕ → ℕ) (texts : List (Vec ℕ Global)) → ((i : ℕ) (text : Vec ℕ Global) → i < length texts → Reports (cut i) (cut (suc i)) (get_or texts i text).items)
       → Reports (cut 0) (cut (length texts)) (joined texts)
   cut_texts cut [] each = no_rules (cut 0)
   cut_texts cut (text ∷ texts) each =
-      both (cut 0) (cut 1) (cut (suc (length texts))) text.items (joined texts) (each 0 (Ok text) (omega arith))
-      (cut_texts (λ i. cut (suc i)) texts (λ i made below. each (suc i) made (omega (arith, below))))
+      both (cut 0) (cut 1) (cut (suc (length texts))) text.items (joined texts) (each 0 text (omega arith))
+      (cut_texts (λ i. cut (suc i)) texts (λ i other below. each (suc i) other (omega (arith, below))))
 
-  pub all_rules : (number : ℕ) (text : List ℕ) → length listing.sets ≤ number → Reports 0 number text → IsConsistent listing.sets → text ≡ rules_report_of wording (rules_among listing confidence)
+  all_rules : (number : ℕ) (text : List ℕ) → length listing.sets ≤ number → Reports 0 number text → IsConsistent listing.sets → text ≡ rules_report_of wording (rules_among listing confidence)
   all_rules number text whole so consistent =
       so consistent ∙ ap (λ sets. rules_report_of wording (flat_map (λ (c : Counted). rules_among_with listing confidence c.set) sets)) (take_all number listing.sets whole)
+
+  -- the texts of all parts, one after another
+  pub part_texts : (parts : ℕ) (texts : List (Vec ℕ Global)) → 1 ≤ parts
+      → HasEach (λ part text. Reports (shard_start part parts (length listing.sets)) (shard_start (part + 1) parts (length listing.sets)) text.items) parts texts
+      → IsConsistent listing.sets → joined texts ≡ rules_report_of wording (rules_among listing confidence)
+  part_texts parts texts some has =
+      let start : ℕ → ℕ = λ part. shard_start part parts (length listing.sets) in
+      let all : Reports (start 0) (start (length texts)) (joined texts) =
+      cut_texts start texts (λ i text below. subst (λ to. Reports (start i) (start to) (get_or texts i text).items) (add-one i) (has.each i text (omega (arith, below, has.count)))) in
+      let end : start (length texts) ≡ length listing.sets = ap start has.count ∙ shard_start-all parts (length listing.sets) some in
+      all_rules (start (length texts)) (joined texts) (omega (arith, end)) (subst (λ from. Reports from (start (length texts)) (joined texts)) (shard_start-zero parts (length listing.sets)) all)
 
   -- so is that of the rules of baskets whose listing it is
   pub report_of_baskets : (text : List ℕ) → (IsConsistent listing.sets → text ≡ rules_report_of wording (rules_among listing confidence)) → ReportsRules wording listing confidence text

@@ -1,5 +1,5 @@
 //! The report of association rules.
-ghost use Rattle.std.specs.Prelude.{◌≡◌, ◌≤◌, ◌<◌, ◌+◌, ◌^◌, IfOk, length, map, Ok};
+ghost use Rattle.std.specs.Prelude.{◌≡◌, ◌≤◌, IfOk, length};
 ghost use Rattle.basket_ranks.specs.Shards.{shard_start};
 ghost use Rattle.basket_rules.specs.Consistency.{IsConsistent};
 ghost use Rattle.basket_rules.specs.Rules.{rules_among};
@@ -15,19 +15,22 @@ use crate::texts::Texts;
 use basket_core::{Frequent, Share, shard};
 use basket_order::PlaceTable;
 use basket_rules::{Lookups, met_rules, places_of};
+use mine_phases::{Cutting, Open, PartWork, Phase, by_pieces};
 use std::alloc::{AllocError, Global};
-use std::thread::{self, Threads};
+use std::thread::Threads;
 
-/// Fewer unions are not worth a thread.
+/// The number of the phase that makes the rules.
+const PHASE: u32 = 3;
+
+/// Fewer unions are not worth a claim.
 const LEAST: usize = 1_024;
 
-/// Unions don't take equally long, so each worker gets up to this many parts.
+/// Unions don't take equally long, so there are up to this many parts for each worker.
 const PARTS_FOR_EACH: u32 = 16;
 
 /// The sets of a list as unions of rules, cut into parts, and what their reports need.
 #[derive(Drop)]
 struct Unions<'a> {
-    alloc: Global,
     frequent: &'a Frequent,
     confidence: Share,
     style: Style<'a>,
@@ -36,8 +39,42 @@ struct Unions<'a> {
     parts: u32,
 }
 
+impl<'a> PartWork<Vec<u8>> for Unions<'a> {
+    type Tools = Lookups<'a>;
+
+    ghost part_count = { λ work. work.parts };
+
+    ghost are_tools = { λ work lookups. Unit {0} };
+
+    ghost is_value = { λ work part text. let start = λ at. shard_start at work.parts (length work.frequent.now.sets) in
+        ReportsUnions (wording_of work.style) work.frequent.now work.confidence (start part) (start (part + 1)) text.items };
+
+    fn parts(&self) -> u32 {
+        self.parts
+    }
+
+    fn tools(&self, alloc: Global) -> Result<Lookups<'a>, AllocError> {
+        Ok(Lookups::new(alloc, self.places))
+    }
+
+    fn value(
+        &self,
+        alloc: Global,
+        lookups: &mut Lookups<'a>,
+        part: u32,
+    ) -> Result<Vec<u8>, AllocError> {
+        let (from, to) = shard(part, self.parts, self.frequent.sets().len());
+        let mut report = Report::for_rules(alloc, self.style, self.texts)?;
+        for number in from..to {
+            let met = met_rules(alloc, self.frequent, number, self.confidence, lookups)?;
+            report.put_rules(self.frequent, number, &met, lookups)?;
+        }
+        report.into_text()
+    }
+}
+
 /// The report of the rules that meet the confidence, as texts one after another, which this many
-/// workers make. The rules of one union are made and written before those of the next.
+/// workers make, at most 64. The rules of one union are made and written before those of the next.
 pub fn rules_report<R: Threads + Sync>(
     rt: &R,
     alloc: Global,
@@ -52,9 +89,9 @@ pub fn rules_report<R: Threads + Sync>(
     let sets = frequent.sets();
     let places = places_of(alloc, sets)?;
     let texts = Extent::of(sets).texts(alloc)?;
+    let workers = workers.clamp(1, 64);
     let parts = part_count(sets.len(), workers);
     let unions = Unions {
-        alloc,
         frequent,
         confidence,
         style,
@@ -62,86 +99,17 @@ pub fn rules_report<R: Threads + Sync>(
         texts: &texts,
         parts,
     };
-    let mut reports = Vec::new(alloc);
-    let mut part = 0;
-    while part < parts {
-        let count = workers.clamp(1, parts - part);
-        reports.append(&mut reports_of(rt, &unions, part, count)?)?;
-        part += count;
-    }
-    Ok(reports)
+    by_pieces(rt, alloc, &unions, &Phase::new(PHASE, Cutting::new(workers, parts), &Open))
 }
 
 /// Into how many parts the unions are cut.
 fn part_count(unions: usize, workers: u32) -> u32
-    ensures { 1 ≤ result }
+    requires { workers ≤ 64 }
+    ensures { (1 ≤ result) × (result ≤ 65536) }
 {
     let most = match workers {
         0 | 1 => 1,
-        _ => workers.saturating_mul(PARTS_FOR_EACH),
+        _ => workers * PARTS_FOR_EACH,
     };
     (unions / LEAST).clamp(1, most as usize) as u32
-}
-
-/// The reports of neighbouring parts, each by a worker of its own.
-fn reports_of<R: Threads + Sync>(
-    rt: &R,
-    unions: &Unions<'_>,
-    part: u32,
-    count: u32,
-) -> Result<Vec<Vec<u8>>, AllocError>
-    requires within { part + count ≤ unions.now.parts }
-    requires fits { part + count < 2 ^ 32 }
-    ensures { IfOk result (λ texts. ReportsUnions (wording_of unions.now.style) unions.now.frequent.now unions.now.confidence
-        (shard_start part unions.now.parts (length unions.now.frequent.now.sets)) (shard_start (part + count) unions.now.parts (length unions.now.frequent.now.sets)) (joined texts.items)) }
-{
-    let made = thread::map_indices(
-        rt,
-        unions.alloc,
-        count as usize,
-        &|number: usize| -> Result<Vec<u8>, AllocError>
-            requires { (part + number < unions.now.parts) × (part + number < 2 ^ 32) }
-            ensures { IfOk result (λ text. ReportsUnions (wording_of unions.entry.now.style) unions.entry.now.frequent.now unions.entry.now.confidence
-                (shard_start (part + number) unions.entry.now.parts (length unions.entry.now.frequent.now.sets)) (shard_start (part + number + 1) unions.entry.now.parts (length unions.entry.now.frequent.now.sets)) text.items) }
-        { unions.report(part + number as u32) },
-    )?;
-    all_made(unions.alloc, made)
-}
-
-/// The texts, if all of them are made.
-fn all_made(
-    alloc: Global,
-    made: Vec<Result<Vec<u8>, AllocError>>,
-) -> Result<Vec<Vec<u8>>, AllocError>
-    ensures { IfOk result (λ texts. map Ok texts.items ≡ made.items) }
-{
-    let mut texts = Vec::with_capacity(alloc, made.len())?;
-    for text in made {
-        texts.push(text?)?;
-    }
-    Ok(texts)
-}
-
-impl Unions<'_> {
-    /// The report of the rules with the sets of a part as their unions.
-    fn report(&self, part: u32) -> Result<Vec<u8>, AllocError>
-        requires { part < self.now.parts }
-        ensures { IfOk result (λ text. ReportsUnions (wording_of self.now.style) self.now.frequent.now self.now.confidence
-            (shard_start part self.now.parts (length self.now.frequent.now.sets)) (shard_start (part + 1) self.now.parts (length self.now.frequent.now.sets)) text.items) }
-    {
-        let (from, to) = shard(part, self.parts, self.frequent.sets().len());
-        let mut lookups = Lookups::new(self.alloc, self.places);
-        let mut report = Report::for_rules(self.alloc, self.style, self.texts)?;
-        for number in from..to {
-            let met = met_rules(
-                self.alloc,
-                self.frequent,
-                number,
-                self.confidence,
-                &mut lookups,
-            )?;
-            report.put_rules(self.frequent, number, &met, &mut lookups)?;
-        }
-        report.into_text()
-    }
 }

@@ -3,7 +3,6 @@ ghost use Rattle.std.specs.Prelude.{◌≡◌, ◌≤◌, All, IfOk, length, sum
 ghost use Rattle.basket_sets.specs.Counts.{AllBelow};
 ghost use Rattle.basket_sets.specs.Database.{MOST_WEIGHT};
 ghost use Rattle.mine_baskets.specs.declared.words.Word.{Word as Bits};
-ghost use Rattle.mine_baskets.specs.Covers.{AreCovers, weights_of};
 ghost use Rattle.mine_baskets.specs.ListBaskets.{AreRankBaskets, HaveSameWeights};
 ghost use Rattle.mine_baskets.specs.Words.{AreInOrder, rank_bits, word_places};
 
@@ -86,21 +85,6 @@ impl WordBaskets {
         ensures { IfOk result (λ lists. lists ≡ self.now) }
     {
         ListBaskets::of_words(alloc, self.count, &self.words)
-    }
-
-    /// The weight of each basket, by the basket's place.
-    #[tactic(auto, using(crate::proofs::CoversLemmas::word_weights))]
-    pub fn weights(&self, alloc: Global) -> Result<Vec<u64>, AllocError>
-        ensures { IfOk result (λ weights. weights.items ≡ weights_of self.now.baskets) }
-    {
-        self.words.iter().map(|word| word.weight).collect(alloc)
-    }
-
-    /// The cover of each rank: the places, rising, of the baskets that have it.
-    pub fn covers(&self, alloc: Global) -> Result<Vec<Vec<u32>>, AllocError>
-        ensures { IfOk result (λ covers. AreCovers self.now covers.items) }
-    {
-        self.lists(alloc)?.covers(alloc)
     }
 
     /// The words, in order.

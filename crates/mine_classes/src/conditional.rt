@@ -1,6 +1,5 @@
 //! The conditional database of a rank.
 ghost use Rattle.std.specs.Prelude.{◌≡◌, ◌≤◌, ◌<◌, IfOk, map};
-ghost use Rattle.mine_baskets.specs.Covers.{AreCovers, weights_of};
 ghost use Rattle.mine_baskets.specs.ListBaskets.{AreRankBaskets, HaveSameWeights};
 ghost use Rattle.mine_classes.specs.Conditional.{conditional_baskets};
 ghost use Rattle.mine_classes.specs.Pairs.{pairs_of};
@@ -21,37 +20,19 @@ pub enum Conditional {
 }
 
 impl Conditional {
-    /// The same baskets in order, equal ones merged. Words are in order already.
-    pub fn sorted(self, alloc: Global) -> Result<Conditional, AllocError>
+    /// The same baskets as lists, equal ones merged, those whose weights have more bits first.
+    pub fn merged(self, alloc: Global) -> Result<ListBaskets, AllocError>
         requires { AreRankBaskets (conditional_baskets self) }
-        ensures ranks { IfOk result (λ sorted. (conditional_baskets sorted).ranks ≡ (conditional_baskets self).ranks) }
-        ensures ranked { IfOk result (λ sorted. AreRankBaskets (conditional_baskets sorted)) }
-        ensures weights { IfOk result (λ sorted. HaveSameWeights (conditional_baskets self).baskets (conditional_baskets sorted).baskets) }
+        ensures ranks { IfOk result (λ merged. merged.ranks ≡ (conditional_baskets self).ranks) }
+        ensures ranked { IfOk result AreRankBaskets }
+        ensures weights { IfOk result (λ merged. HaveSameWeights (conditional_baskets self).baskets merged.baskets) }
     {
-        match self {
-            Conditional::Lists(lists) => Ok(Conditional::Lists(lists.sorted(alloc)?)),
-            Conditional::Words(words) => Ok(Conditional::Words(words)),
-        }
-    }
-
-    /// The weight of each basket, by the basket's place.
-    pub fn weights(&self, alloc: Global) -> Result<Vec<u64>, AllocError>
-        ensures { IfOk result (λ weights. weights.items ≡ weights_of (conditional_baskets self.now).baskets) }
-    {
-        match self {
-            Conditional::Lists(lists) => lists.weights(alloc),
-            Conditional::Words(words) => words.weights(alloc),
-        }
-    }
-
-    /// The cover of each rank: the places, rising, of the baskets that have it.
-    pub fn covers(&self, alloc: Global) -> Result<Vec<Vec<u32>>, AllocError>
-        ensures { IfOk result (λ covers. AreCovers (conditional_baskets self.now) covers.items) }
-    {
-        match self {
-            Conditional::Lists(lists) => lists.covers(alloc),
-            Conditional::Words(words) => words.covers(alloc),
-        }
+        let merged = match self {
+            Conditional::Lists(lists) => lists.sorted(alloc)?,
+            // Equal words are merged already.
+            Conditional::Words(words) => words.lists(alloc)?,
+        };
+        Ok(merged.heavy_first())
     }
 }
 

@@ -32,6 +32,7 @@ pub use cutting::Cutting;
 pub use gate::{Gate, Open};
 pub use pairs::count_pairs;
 pub use phase::Phase;
+pub use pieces::{PartWork, by_pieces};
 pub use runs::runs_shared;
 pub use triangle::triangle_pairs;
 pub use worker_result::{WorkerResult, add_counts, by_workers, claim_piece};

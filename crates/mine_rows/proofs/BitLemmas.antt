@@ -7,7 +7,7 @@ use Rattle.std.specs.Simd.{first_chunks}
 use Rattle.std.specs.Simd.Lanes.{sum_l, zip2}
 use Rattle.std.proofs.Common.{length-drop}
 use Rattle.std.proofs.lemmas.List.{drop_more, length-take-le, take-append-drop}
-use Rattle.std.proofs.lemmas.List.Elements.{All-from_recursion}
+use Rattle.std.proofs.lemmas.List.Elements.{All-from_recursion, All-head, All-tail}
 use Rattle.std.proofs.lemmas.Nat.{and_le_l, and_le_r, ones-le}
 use Rattle.mine_rows.specs.Bits.{shared_bits, shared_in_chunks}
 
@@ -31,6 +31,22 @@ shared-append (x ∷ xs) (y ∷ ys) more others same = let rest = shared-append 
 pub shared_step : (xs ys : List ℕ) (i : ℕ) → length xs ≡ length ys → i < length xs
     → shared_bits (drop i xs) (drop i ys) ≡ count_ones (bit_and (get_or xs i 0) (get_or ys i 0)) + shared_bits (drop (i + 1) xs) (drop (i + 1) ys)
 shared_step xs ys i same here = ap (λ l. shared_bits l (drop i ys)) (drop_more xs i 0 here) ∙ ap (shared_bits (get_or xs i 0 ∷ drop (i + 1) xs)) (drop_more ys i 0 (omega arith))
+
+shared_none : (xs ys : List ℕ) → All (λ word. word ≡ 0) ys → shared_bits xs ys ≡ 0
+shared_none [] ys none = refl
+shared_none (x ∷ xs) [] none = refl
+shared_none (x ∷ xs) (y ∷ ys) none =
+    let rest = shared_none xs ys (All-tail (λ (word : ℕ). word ≡ 0) y ys none) in
+    let first = All-head (λ (word : ℕ). word ≡ 0) y ys none in
+    let below = and_le_r x y in
+    let ones = ones-le 0 (bit_and x y) (omega arith) in omega arith
+
+-- words without ones at the end share nothing
+pub shared_front : (n : ℕ) (xs ys : List ℕ) → All (λ word. word ≡ 0) (drop n ys) → shared_bits (take n xs) (take n ys) ≡ shared_bits xs ys
+shared_front zero xs ys none = sym (shared_none xs ys none)
+shared_front (suc n) [] ys none = refl
+shared_front (suc n) (x ∷ xs) [] none = refl
+shared_front (suc n) (x ∷ xs) (y ∷ ys) none = ap (λ m. count_ones (bit_and x y) + m) (shared_front n xs ys none)
 
 pub chunks_step : (xs ys : List (List ℕ)) (i : ℕ) → length xs ≡ length ys → i < length xs
     → shared_in_chunks (drop i xs) (drop i ys) ≡ shared_bits (get_or xs i []) (get_or ys i []) + shared_in_chunks (drop (i + 1) xs) (drop (i + 1) ys)

@@ -17,7 +17,7 @@ use Rattle.basket_sets.specs.Database.{MOST_WEIGHT}
 use Rattle.basket_sets.proofs.theory.Members.{Member, Member-filter, Member-from_filter}
 use Rattle.basket_sets.proofs.theory.Rising.{Member-from_has, has-from_Member, same_rising, same_test}
 use Rattle.basket_sets.proofs.theory.Ranges.{Member-into_range, Member-range, filter_rises, range_more, range_rises}
-use Rattle.mine_rows.specs.declared.planes.Plane.{Plane}
+use Rattle.mine_rows.specs.declared.plane.Plane.{Plane}
 use Rattle.mine_rows.specs.Cover.{IsCover, common, cover_weight}
 use Rattle.mine_rows.specs.Planes.{ArePlanes, IsPlane, are_ones, bits_of, has_bit, plane_weight}
 use Rattle.mine_rows.proofs.CoverLemmas.{cover_light}

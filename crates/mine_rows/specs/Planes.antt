@@ -1,7 +1,7 @@
 -- Weights of places bit by bit.
 use Rattle.std.specs.Prelude.{◌≡◌, ℕ, Bool, ◌*◌, ◌/◌, ◌%◌, ◌^◌, ◌==◌, List, [], All, filter, length, map, slice_index, if◌then◌else◌}
 use Rattle.std.specs.List.{list_all, list_any, range_with_len}
-use Rattle.mine_rows.specs.declared.planes.Plane.{Plane}
+use Rattle.mine_rows.specs.declared.plane.Plane.{Plane}
 use Rattle.mine_rows.specs.Bits.{shared_bits, word_count, words_from}
 
 -- whether a number has a bit

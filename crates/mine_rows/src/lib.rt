@@ -8,6 +8,7 @@ mod bits;
 mod cover;
 mod diffs;
 mod marks;
+mod plane;
 mod planes;
 mod row;
 mod row_words;

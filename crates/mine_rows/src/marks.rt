@@ -6,7 +6,7 @@ ghost use Rattle.basket_sets.specs.Itemset.{AllBelow, has};
 ghost use Rattle.mine_rows.specs.Marks.{IsMarked};
 ghost use Rattle.mine_rows.specs.Planes.{ArePlanes, are_ones};
 
-use crate::planes::Plane;
+use crate::plane::Plane;
 use crate::weights::Weights;
 use std::alloc::{AllocError, Global};
 

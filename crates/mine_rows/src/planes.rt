@@ -7,18 +7,12 @@ ghost use Rattle.mine_rows.specs.Planes.{ArePlanes, IsPlane, has_bit, plane_weig
 ghost use Rattle.mine_rows.specs.Weights.{MOST_PLACES};
 
 use crate::bits::and_count;
+use crate::plane::Plane;
 use crate::row_words::{RowWords, set, zeros};
 use std::alloc::{AllocError, Global};
 
 /// The bits of the greatest weight that there may be.
 const WEIGHT_BITS: u32 = 40;
-
-/// The places whose weights have a bit, as a row of bits.
-#[derive(Debug, Drop)]
-pub struct Plane {
-    pub bit: u32,
-    pub words: RowWords,
-}
 
 /// The plane of a bit.
 fn plane_of(alloc: Global, weights: &[u64], bit: u32) -> Result<Plane, AllocError>
@@ -33,7 +27,7 @@ fn plane_of(alloc: Global, weights: &[u64], bit: u32) -> Result<Plane, AllocErro
             set(&mut words, place);
         }
     }
-    Ok(Plane { bit, words })
+    Ok(Plane::of(bit, words))
 }
 
 /// The bits that some weight has.
@@ -75,7 +69,7 @@ pub fn weight_by_planes(words: &RowWords, planes: &[Plane]) -> u64
 {
     let mut weight = 0;
     for plane in planes {
-        weight += and_count(words.as_slice(), plane.words.as_slice()) << plane.bit;
+        weight += plane.count(words) << plane.bit;
     }
     weight
 }

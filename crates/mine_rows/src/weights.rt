@@ -7,7 +7,8 @@ ghost use Rattle.mine_rows.specs.Bits.{words_of};
 ghost use Rattle.mine_rows.specs.Planes.{ArePlanes, are_ones};
 ghost use Rattle.mine_rows.specs.Weights.{MOST_PLACES};
 
-use crate::planes::{Plane, planes_of, weight_by_planes};
+use crate::plane::Plane;
+use crate::planes::{planes_of, weight_by_planes};
 use crate::row_words::RowWords;
 use std::alloc::{AllocError, Global};
 use std::marker::Model;

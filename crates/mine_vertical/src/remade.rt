@@ -15,7 +15,6 @@ use crate::joins::Sibling;
 use crate::siblings::siblings_of;
 use mine_baskets::WordBaskets;
 use mine_baskets::words::{WORD_RANKS, Word, bit_of};
-use mine_classes::Conditional;
 use mine_rows::{Row, Weights};
 use std::alloc::{AllocError, Global};
 
@@ -91,5 +90,6 @@ pub fn remade<R: Row>(
     let unmerged = words.len();
     let kept = ranks_of(alloc, siblings)?;
     let merged = WordBaskets::of(alloc, kept.len() as u32, words)?;
-    Ok(Some(siblings_of(alloc, &kept, &Conditional::Words(merged), unmerged)?))
+    let lists = merged.lists(alloc)?.heavy_first();
+    Ok(Some(siblings_of(alloc, &kept, &lists, unmerged)?))
 }

@@ -5,7 +5,6 @@ ghost use Rattle.basket_sets.specs.declared.minimum.Minimum.TheVariants.{Count};
 ghost use Rattle.basket_sets.specs.declared.weighted.Weighted.{Weighted as Basket};
 ghost use Rattle.basket_sets.specs.Database.{HasWeight, MOST_WEIGHT};
 ghost use Rattle.basket_sets.specs.Support.{total_of};
-ghost use Rattle.mine_classes.specs.Conditional.{conditional_baskets};
 ghost use Rattle.mine_baskets.specs.Covers.{weights_of};
 ghost use Rattle.mine_classes.specs.Pairs.{pairs_of};
 ghost use Rattle.mine_classes.specs.Paths.{IsConditional};
@@ -14,7 +13,8 @@ ghost use Rattle.mine_vertical.specs.Siblings.{AreClassSiblings, AreOver};
 
 use crate::joins::{Joins, Sibling};
 use basket_core::Coded;
-use mine_classes::{Conditional, RankPlaces, Runs, Tables, ranks_of};
+use mine_baskets::ListBaskets;
+use mine_classes::{RankPlaces, Runs, Tables, ranks_of};
 use mine_rows::{Row, Weights};
 use std::alloc::{AllocError, Global};
 use std::rc::Rc;
@@ -33,7 +33,8 @@ pub struct Siblings<'a, R> {
     ghost within: { kept ≤ length list.items },
 }
 
-/// The conditional database of a rank with these pairs, its baskets merged: each gets a place in the covers.
+/// The conditional database of a rank with these pairs, its baskets merged: each gets a place in the
+/// covers.
 fn conditional_of(
     alloc: Global,
     runs: &Runs,
@@ -41,15 +42,15 @@ fn conditional_of(
     rank: u32,
     least: u64,
     pairs: &[(u32, u64)],
-) -> Result<Conditional, AllocError>
+) -> Result<ListBaskets, AllocError>
     requires rank { rank < runs.now.ranks }
     requires places { runs.now.ranks ≤ places.old }
     requires pairs { pairs.now ≡ pairs_of runs.now.baskets least rank }
-    ensures merged { IfOk result (λ merged. IsConditional runs.now.baskets least rank (conditional_baskets merged)) }
+    ensures merged { IfOk result (IsConditional runs.now.baskets least rank) }
     ensures places { places.new ≡ places.old }
 {
     let below = runs.below(alloc, places, rank, least, pairs)?;
-    let merged = below.sorted(alloc)?;
+    let merged = below.merged(alloc)?;
     Ok(merged)
 }
 
@@ -57,12 +58,12 @@ fn conditional_of(
 /// count as out of memory.
 fn merged_weights(
     alloc: Global,
-    baskets: &Conditional,
+    baskets: &ListBaskets,
     unmerged: usize,
 ) -> Result<Weights, AllocError>
-    requires some { All HasWeight (conditional_baskets baskets.now).baskets }
-    requires light { total_of (conditional_baskets baskets.now).baskets ≤ MOST_WEIGHT }
-    ensures { IfOk result (λ weights. weights ≡ weights_of (conditional_baskets baskets.now).baskets) }
+    requires some { All HasWeight baskets.now.baskets }
+    requires light { total_of baskets.now.baskets ≤ MOST_WEIGHT }
+    ensures { IfOk result (λ weights. weights ≡ weights_of baskets.now.baskets) }
 {
     let weights = baskets.weights(alloc)?;
     if weights.len() > u32::MAX as usize {
@@ -77,12 +78,12 @@ fn merged_weights(
 pub fn siblings_of<R: Row>(
     alloc: Global,
     kept: &[u32],
-    baskets: &Conditional,
+    baskets: &ListBaskets,
     unmerged: usize,
 ) -> Result<(Weights, Vec<Sibling<R>>), AllocError>
-    requires ranks { (conditional_baskets baskets.now).ranks ≡ length kept.now }
-    requires coding { IsCoding (record { items = kept.now; minimum = Count 1; baskets = (conditional_baskets baskets.now).baskets }) }
-    ensures { IfOk result (λ made. AreOver R.stands kept.now made.0 made.1.items (map (decoded_place kept.now) (conditional_baskets baskets.now).baskets)) }
+    requires ranks { baskets.now.ranks ≡ length kept.now }
+    requires coding { IsCoding (record { items = kept.now; minimum = Count 1; baskets = baskets.now.baskets }) }
+    ensures { IfOk result (λ made. AreOver R.stands kept.now made.0 made.1.items (map (decoded_place kept.now) baskets.now.baskets)) }
 {
     let weights = merged_weights(alloc, baskets, unmerged)?;
     let covers = baskets.covers(alloc)?;

@@ -37,7 +37,7 @@ returns g c =
     let ranks = map (λ s. s.rank) siblings in
     let kept = c.deref-2.result.now in
     let bits = c.deref.result.now in
-    let merged = c.in_ok-merged.merged.baskets in
+    let merged = c.heavy_first.result.baskets in
     let others : List Weighted = map (decoded_place kept) merged in
     let made = rw c.in-Some.is at c.in_ok-bits.ensures in
     let count : c.len.result ≡ length kept = omega (arith, c.len.ensures, c.deref-2.ensures.len) in
@@ -48,7 +48,7 @@ returns g c =
           let test : List ℕ → Bool = λ basket. contains (decoded kept basket) more in
           let is = subst (λ k. AreBitsOf baskets set k bits) (sym kept_are)
           (subst (λ b. AreBitsOf baskets set ranks b) (sym c.deref.ensures.value) (made baskets set (sym (ap length given.weighs) ∙ sym c.places.ensures) given.rows)) in
-          changed_weight (λ basket. contains basket more) (decoded kept) merged ∙ sym (c.in_ok-merged.ensures.weights test)
+          changed_weight (λ basket. contains basket more) (decoded kept) merged ∙ sym (c.heavy_first.ensures.weights test) ∙ ap (λ (lists : RankBaskets). weight_where test lists.baskets) c.in_ok-lists.ensures ∙ sym (c.in_ok-merged.ensures.weights test)
           ∙ ap (λ n. weight_where test (word_places n c.in_ok-words.words.items)) count
           ∙ sym (c.in_ok-words.ensures.weights (length kept) test (nothing_in kept more some))
           ∙ ap (λ w. weight_where test (bit_places (length kept) bits w)) given.weighs

@@ -8,7 +8,7 @@ pub returns-clause-merged : goal.returns-clause-merged
 returns-clause-merged c =
     let below = c.in_ok-below.ensures.below in
     let baskets = (conditional_baskets c.in_ok-below.below).baskets in
-    let merged = (conditional_baskets c.in_ok-merged.merged).baskets in
+    let merged = c.in_ok-merged.merged.baskets in
     record {
       ranks = c.in_ok-merged.ensures.ranks ∙ below.ranks;
       ranked = c.in_ok-merged.ensures.ranked;

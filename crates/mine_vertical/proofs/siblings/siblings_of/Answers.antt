@@ -6,7 +6,6 @@ use Rattle.std.proofs.lemmas.List.{map-append, take_all, take_more}
 use Rattle.std.proofs.lemmas.List.Elements.{All-push, recursion_from_All}
 use Rattle.basket_ranks.specs.Codes.{IsCodedPlace, decoded_place}
 use Rattle.mine_baskets.specs.Covers.{cover_of, weights_of}
-use Rattle.mine_classes.specs.Conditional.{conditional_baskets}
 use Rattle.mine_rows.specs.Cover.{IsCover, all_places}
 use Rattle.mine_vertical.specs.Siblings.{IsSibling}
 use Rattle.mine_vertical.proofs.CoverLemmas.{cover_covers, cover_of_none}
@@ -15,13 +14,13 @@ use Rattle.mine_vertical.proofs.siblings.siblings_of.Goals as goal
 
 pub first-requires-clause-rises : goal.first-requires-clause-rises
 first-requires-clause-rises g c =
-    let baskets = (conditional_baskets c.args.baskets.now).baskets in
+    let baskets = c.args.baskets.now.baskets in
     let cover = c.deref.ensures.value ∙ ap (λ (v : Vec _ Global). v.items) c.index.ensures ∙ c.in_ok-covers.ensures.at c.loop-place.place c.index.result.now (omega (arith, c.loop-place-test.true, c.requires.ranks)) in
     (subst (IsCover (weights_of baskets)) (sym cover) (cover_covers baskets (c.loop-place.place ∷ []))).rises
 
 pub first-requires-clause-below : goal.first-requires-clause-below
 first-requires-clause-below g c =
-    let baskets = (conditional_baskets c.args.baskets.now).baskets in
+    let baskets = c.args.baskets.now.baskets in
     let cover = c.deref.ensures.value ∙ ap (λ (v : Vec _ Global). v.items) c.index.ensures ∙ c.in_ok-covers.ensures.at c.loop-place.place c.index.result.now (omega (arith, c.loop-place-test.true, c.requires.ranks)) in
     (subst (λ w. IsCover w c.deref.result.now) (sym c.in_ok-weights.ensures)
     (subst (IsCover (weights_of baskets)) (sym cover) (cover_covers baskets (c.loop-place.place ∷ [])))).below
@@ -30,7 +29,7 @@ pub loop-place-preserved : goal.loop-place-preserved
 loop-place-preserved g c =
     let stands = g.R.Row.stands in
     let kept = c.args.kept.now in
-    let baskets = (conditional_baskets c.args.baskets.now).baskets in
+    let baskets = c.args.baskets.now.baskets in
     let decoded = map (decoded_place kept) baskets in
     let l = c.loop-place.place in
     let rank = get_or kept l 0 in
@@ -56,7 +55,7 @@ pub returns : goal.returns
 returns g c =
     let kept = c.args.kept.now in
     record {
-      weighs = c.in_ok-weights.ensures ∙ sym (decoded_weights kept (conditional_baskets c.args.baskets.now).baskets);
+      weighs = c.in_ok-weights.ensures ∙ sym (decoded_weights kept c.args.baskets.now.baskets);
       ranks_are = c.loop-place.invariant.ranks ∙ take_all c.loop-place.place kept (omega (arith, c.loop-place-test.false));
       rows = c.loop-place.invariant.rows;
     }

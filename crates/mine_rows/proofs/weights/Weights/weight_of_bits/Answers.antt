@@ -1,8 +1,5 @@
-use Rattle.std.proofs.Common.{◌≡◌, ◌<◌, ◌≤◌, length, sym, ap, subst, ◌∙◌}
-use Rattle.std.specs.Prelude.{All}
-use Rattle.std.specs.List.{sum_by}
-use Rattle.basket_sets.specs.Database.{MOST_WEIGHT}
-use Rattle.mine_rows.specs.Planes.{are_ones, plane_weight}
+use Rattle.std.proofs.Common.{sym, ap, subst, ◌∙◌}
+use Rattle.mine_rows.specs.Planes.{are_ones}
 use Rattle.mine_rows.specs.Weights.{KeepsWeights}
 use Rattle.mine_rows.proofs.PlaneLemmas.{kept_few, kept_light, kept_narrow, kept_weigh, kept_wide, ones_weigh}
 use Rattle.mine_rows.proofs.weights.Weights.weight_of_bits.Goals as goal
