@@ -99,7 +99,12 @@ pub fn rules_report<R: Threads + Sync>(
         texts: &texts,
         parts,
     };
-    by_pieces(rt, alloc, &unions, &Phase::new(PHASE, Cutting::new(workers, parts), &Open))
+    by_pieces(
+        rt,
+        alloc,
+        &unions,
+        &Phase::new(PHASE, Cutting::new(workers, parts), &Open),
+    )
 }
 
 /// Into how many parts the unions are cut.

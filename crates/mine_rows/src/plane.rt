@@ -33,7 +33,10 @@ impl Plane {
         requires few { length words.now.items ≤ MOST_WORDS }
         ensures { result ≡ shared_bits words.now.items self.now.words.items }
     {
-        and_count(&words.as_slice()[..self.used], &self.words.as_slice()[..self.used])
+        and_count(
+            &words.as_slice()[..self.used],
+            &self.words.as_slice()[..self.used],
+        )
     }
 }
 
