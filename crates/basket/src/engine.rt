@@ -12,6 +12,7 @@ use crate::fault::RunFault;
 use crate::items::report_items;
 use crate::mining::{cutting, mine_in_place};
 use crate::prepared::PreparedReport;
+use crate::workers::plan_for;
 use basket_core::{Database, MineFault, Sink, Source};
 use basket_csv::Names;
 use basket_plan::{Ask, Form, Plan};
@@ -109,7 +110,8 @@ fn report_contents<R: Threads + Sync>(
 {
     match contents {
         Contents::Baskets(database, names) => {
-            Ok(report_baskets(rt, alloc, database, &names, plan)?)
+            let plan = plan_for(&database, plan);
+            Ok(report_baskets(rt, alloc, database, &names, &plan)?)
         }
         Contents::Counts(combined, names) => match listing(alloc, plan, &combined) {
             Ok(frequent) => Ok(report_listing(rt, alloc, frequent, &names, plan)?),

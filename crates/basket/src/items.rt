@@ -10,6 +10,7 @@ ghost use Rattle.basket.specs.Engine.{MakesReport};
 use crate::fault::RunFault;
 use crate::mining::cutting;
 use crate::prepared::PreparedReport;
+use crate::workers::plan_for;
 use basket_core::{MineFault, Source, add_counts};
 use basket_plan::{Ask, Form, Plan};
 use basket_read::{ItemCounts, count_fimi_shared};
@@ -53,7 +54,8 @@ fn report_counts<R: Threads + Sync>(
         → IfOk result (λ report. report.items ≡ report_of Numbered (frequent_items_of baskets plan.now.question.minimum)) }
 {
     let first = counts.table.counts(alloc)?;
-    let rest = count_shared(rt, alloc, counts.rest.baskets(), cutting(plan), &Open)?;
+    let cutting = cutting(&plan_for(&counts.rest, plan));
+    let rest = count_shared(rt, alloc, counts.rest.baskets(), cutting, &Open)?;
     let all = add_counts(alloc, &first, &rest)?;
     let total = counts.table.total() + counts.rest.total();
     items_report(alloc, &all, plan.minimum(), total, Style::Numbers)

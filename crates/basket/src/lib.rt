@@ -14,6 +14,7 @@ mod merging;
 mod mining;
 mod prepared;
 pub mod worked;
+mod workers;
 
 pub use asked::read_asked;
 pub use basket_core::{CountedSets, Database, Frequent, Itemset, MineFault, Minimum, Share};

@@ -52,6 +52,12 @@ impl Extent {
         self.items.saturating_mul(digits + 1).saturating_add(counts)
     }
 
+    /// How many strips are worth a thread each, of this many: as many as the report half fills.
+    pub fn strips(self, workers: u32) -> u32 {
+        let most = self.room() / (LEAST_STRIP / 2) + 1;
+        most.min(workers as usize) as u32
+    }
+
     /// How many bytes each of this many strips has room for: twice its part of the report, within
     /// bounds.
     pub fn strip_room(self, strips: u32) -> usize {

@@ -29,17 +29,18 @@ pub struct SetLines {
 }
 
 impl SetLines {
-    /// Nothing is written yet. This many workers will make the lines.
+    /// Nothing is written yet. At most this many workers will make the lines, fewer if they are short.
     pub fn new(alloc: Global, sets: &CountedSets, workers: u32) -> Result<Self, AllocError> {
         let extent = Extent::of(sets);
-        let mut strips = Vec::with_capacity(alloc, workers as usize)?;
-        for _worker in 0..workers {
-            strips.push(Strip::new(alloc, extent, workers)?)?;
+        let count = extent.strips(workers);
+        let mut strips = Vec::with_capacity(alloc, count as usize)?;
+        for _strip in 0..count {
+            strips.push(Strip::new(alloc, extent, count)?)?;
         }
         Ok(SetLines {
             texts: extent.texts(alloc)?,
             strips,
-            share: extent.share(workers),
+            share: extent.share(count),
         })
     }
 

@@ -26,15 +26,20 @@ impl<'a, G: Gate> Phase<'a, G> {
         }
     }
 
-    /// The same phase over this many parts: it has no more pieces than parts, and at least one.
+    /// The same phase over this many parts: it has no more pieces than parts, and at least one, and
+    /// no more workers than pieces.
     pub fn for_parts(&self, parts: usize) -> Self
         ensures number { result.number ≡ self.now.number }
-        ensures workers { result.cutting.workers ≡ self.now.cutting.workers }
+        ensures workers { result.cutting.workers ≡ min self.now.cutting.workers result.cutting.pieces }
         ensures pieces { result.cutting.pieces ≡ max 1 (min parts self.now.cutting.pieces) }
         ensures gate { result.gate.now ≡ self.now.gate.now }
     {
         let Cutting { workers, pieces } = self.cutting;
         let pieces = parts.clamp(1, pieces as usize) as u32;
-        Phase::new(self.number, Cutting::new(workers, pieces), self.gate)
+        Phase::new(
+            self.number,
+            Cutting::new(workers.min(pieces), pieces),
+            self.gate,
+        )
     }
 }

@@ -1,0 +1,27 @@
+//! How many workers are worth their threads.
+ghost use Rattle.std.specs.Prelude.{◌≡◌};
+
+use basket_core::Database;
+use basket_plan::Plan;
+
+/// Baskets that have no more subsets than this together are done before another thread has started.
+const FEW_SUBSETS: u64 = 16_384;
+
+/// A basket of so many items has more subsets than these.
+const MANY_ITEMS: usize = 15;
+
+/// The plan for a database. One worker is enough if the baskets have few subsets together, since
+/// each frequent itemset is one of these.
+pub fn plan_for(database: &Database, plan: &Plan) -> Plan
+    ensures { result.question ≡ plan.now.question }
+{
+    let mut subsets = 0u64;
+    for basket in database.baskets() {
+        let items = basket.basket.len().min(MANY_ITEMS);
+        subsets = subsets.saturating_add(1 << items);
+        if subsets > FEW_SUBSETS {
+            return *plan;
+        }
+    }
+    plan.with_workers(1)
+}
