@@ -12,6 +12,7 @@ use crate::asked::read_asked;
 use crate::contents::{Contents, style_of};
 use crate::fault::RunFault;
 use crate::prepared::PreparedReport;
+use crate::workers::counting_workers;
 use basket_core::{Counted, CountedSets, Itemset, Sink, Source};
 use basket_csv::Names;
 use basket_parts::CombinedCounts;
@@ -98,7 +99,8 @@ fn counted<R: RandomSource + Threads + Sync>(
 {
     match contents {
         Contents::Baskets(database, names) => {
-            let cutting = Cutting::new(plan.workers(), plan.pieces());
+            let workers = counting_workers(&database, sets.len(), plan.workers());
+            let cutting = Cutting::new(workers, plan.pieces());
             let counted = count_sets(rt, alloc, &database, sets, cutting, &Open)?;
             Ok(listed(alloc, &counted, &names, plan)?)
         }

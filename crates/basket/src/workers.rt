@@ -1,5 +1,5 @@
 //! How many workers are worth their threads.
-ghost use Rattle.std.specs.Prelude.{◌≡◌};
+ghost use Rattle.std.specs.Prelude.{◌≡◌, ◌≤◌};
 
 use basket_core::Database;
 use basket_plan::Plan;
@@ -15,13 +15,34 @@ const MANY_ITEMS: usize = 15;
 pub fn plan_for(database: &Database, plan: &Plan) -> Plan
     ensures { result.question ≡ plan.now.question }
 {
+    if has_few_subsets(database) {
+        plan.with_workers(1)
+    } else {
+        *plan
+    }
+}
+
+/// How many of the workers count this many sets in a database.
+pub fn counting_workers(database: &Database, sets: usize, workers: u32) -> u32
+    requires { (1 ≤ workers) × (workers ≤ 64) }
+    ensures { (1 ≤ result) × (result ≤ 64) }
+{
+    if sets as u64 <= FEW_SUBSETS && has_few_subsets(database) {
+        1
+    } else {
+        workers
+    }
+}
+
+/// Whether the baskets have few subsets together.
+fn has_few_subsets(database: &Database) -> bool {
     let mut subsets = 0u64;
     for basket in database.baskets() {
         let items = basket.basket.len().min(MANY_ITEMS);
         subsets = subsets.saturating_add(1 << items);
         if subsets > FEW_SUBSETS {
-            return *plan;
+            return false;
         }
     }
-    plan.with_workers(1)
+    true
 }
