@@ -11,10 +11,13 @@ const WHOLE: u32 = 16;
 /// Replaces the length of a longer name.
 pub const LONG: u32 = 17;
 
-/// The hash of a name. It has no key: names that are chosen to have one hash push one another out
-/// of their bucket, and are then looked up in the map like names that aren't kept.
-#[inline(always)]
-pub fn hash_of(name: &[u8]) -> u64 {
+/// Odd factors of the hash of a key, with as many ones as zeros.
+const FRONT_FACTOR: u64 = 0x9e37_79b9_7f4a_7c15;
+
+const BACK_FACTOR: u64 = 0xd1b5_4a32_d192_ed03;
+
+/// The hash of a name of any length.
+fn hash_of(name: &[u8]) -> u64 {
     let mut hasher = FoldHasher::default();
     hasher.write(name);
     hasher.finish()
@@ -107,6 +110,19 @@ impl Key {
             front,
             back,
             len: name.len().min(LONG as usize) as u32,
+        }
+    }
+
+    /// A hash of the name, whose upper bits depend on all others. It has no secret: names that are
+    /// chosen to have one hash push one another out of their bucket, and are then looked up in the
+    /// map like names that aren't kept.
+    #[inline(always)]
+    pub fn hash(&self, name: &[u8]) -> u64 {
+        if self.is_whole() {
+            let front = self.front.wrapping_mul(FRONT_FACTOR);
+            front.wrapping_add(self.back.wrapping_mul(BACK_FACTOR))
+        } else {
+            hash_of(name)
         }
     }
 

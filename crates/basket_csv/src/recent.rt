@@ -2,13 +2,16 @@
 ghost use Rattle.std.specs.Prelude.{◌≡◌, ℕ, List, IsTrue, IfSome};
 ghost use Rattle.basket_csv.specs.Recent.{IsNumberAt, KeepsKnown};
 
-use crate::key::{Key, LONG, hash_of};
+use crate::key::{Key, LONG};
 use std::alloc::{AllocError, Global};
 
 /// How many buckets there are at first, and at most. They grow fourfold.
 const FEWEST: usize = 4_096;
 
 const MOST: usize = 262_144;
+
+/// How many bits of a hash are left out: all but the upper ones that a bucket may need.
+const LEFT_OUT: u32 = 46;
 
 /// A name that was found: its key and its number.
 #[derive(Clone, Copy)]
@@ -56,11 +59,11 @@ struct Bucket {
     older: RecentName,
 }
 
-/// The numbers of names that were found recently. The lower bits of a name's hash are its bucket.
+/// The numbers of names that were found recently. Some upper bits of a name's hash are its bucket.
 #[derive(Drop)]
 pub struct Recent {
     buckets: Vec<Bucket>,
-    /// The bits of a hash that are its bucket.
+    /// The bits of these that are its bucket.
     mask: usize,
 }
 
@@ -75,16 +78,18 @@ impl Recent {
         }
     }
 
-    /// The number that a name of this key has, or may have if the name is long. If nothing is kept
-    /// yet, no hash is made.
+    /// The bucket of a name.
+    #[inline(always)]
+    fn place(&self, key: &Key, name: &[u8]) -> usize {
+        (key.hash(name) >> LEFT_OUT) as usize & self.mask
+    }
+
+    /// The number that a name of this key has, or may have if the name is long.
     #[inline(always)]
     pub fn number(&self, key: &Key, name: &[u8]) -> Option<u32>
         ensures { (names : List (List ℕ)) → KeepsKnown names self.now → IfSome result (IsNumberAt names key.now) }
     {
-        if self.buckets.is_empty() {
-            return None;
-        }
-        let bucket = self.buckets.get(hash_of(name) as usize & self.mask)?;
+        let bucket = self.buckets.get(self.place(key, name))?;
         if bucket.newer.has(key) {
             return Some(bucket.newer.number);
         }
@@ -96,7 +101,7 @@ impl Recent {
     pub fn keep(&mut self, key: &Key, name: &[u8], number: u32)
         ensures { (names : List (List ℕ)) → IsNumberAt names key.now number → KeepsKnown names self.old → KeepsKnown names self.new }
     {
-        let place = hash_of(name) as usize & self.mask;
+        let place = self.place(key, name);
         if let Some(bucket) = self.buckets.get_mut(place) {
             *bucket = Bucket {
                 newer: RecentName::new(key, number),

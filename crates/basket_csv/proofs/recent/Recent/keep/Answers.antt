@@ -1,4 +1,4 @@
-use Rattle.std.proofs.Common.{◌<◌, length, bit_and, refl, sym, subst, arith}
+use Rattle.std.proofs.Common.{◌<◌, length, refl, sym, subst, arith}
 use Rattle.std.proofs.lemmas.List.Elements.{All-get_or, All-set}
 use Rattle.basket_csv.specs.declared.recent.Bucket.{Bucket}
 use Rattle.basket_csv.specs.Recent.{HasKnown}
@@ -7,7 +7,7 @@ use Rattle.basket_csv.proofs.recent.Recent.keep.Goals as goal
 pub returns-in-Some : goal.returns-in-Some
 returns-in-Some c = λ names is h.
     let recent = c.args.self.now in
-    let place = bit_and c.hash_of.result recent.mask in
+    let place = c.place-place.result in
     let bucket = c.in-Some.bucket.now in
     let known : Bucket → Type 0 = λ bucket. HasKnown names bucket.newer × HasKnown names bucket.older in
     let test = c.in-Some.ensures.variant.0 refl in
