@@ -1,5 +1,7 @@
 mod LineLemmas
 mod TextLemmas
+mod ListedLemmas
+mod HalvesLemmas
 mod InputLemmas
 mod ReadLemmas
 mod GrammarLemmas

@@ -1,5 +1,5 @@
 -- How a line goes on.
-use Rattle.std.proofs.Common.{◌≡◌, ◌≢◌, ℕ, ◌+◌, ◌*◌, ◌-◌, Bool, true, false, ◌&&◌, not, leb, eqb, List, [], ◌∷◌, ◌++◌, cond, Option, Some, None, refl, sym, ap, ◌∙◌, subst, inl, inr, arith}
+use Rattle.std.proofs.Common.{◌≡◌, ℕ, ◌+◌, ◌*◌, ◌-◌, Bool, true, false, ◌&&◌, not, leb, List, [], ◌∷◌, ◌++◌, cond, Option, Some, None, refl, sym, ap, ◌∙◌, inl, inr, arith}
 use Rattle.std.specs.List.{list_all}
 use Rattle.std.proofs.lemmas.Bool.{cases_Bool, and_parts, and_from, and_right, eqb-true, le-leb, leb-true}
 use Rattle.basket_sets.specs.Number.{is_digit, value_of}
@@ -8,12 +8,11 @@ use Rattle.basket_sets.proofs.theory.Numerals.{all_push, and_true, value_push}
 use Rattle.basket_read.specs.Cut.{Cut, cut_at}
 use Rattle.basket_read.specs.Fimi.{is_blank, is_line_feed, is_nil, are_numbers}
 use Rattle.basket_read.specs.Numbers.{NumbersState, numbers_state, numbers_at, number_ended, IsNumbersSoFar, AreTaken}
-use Rattle.basket_read.specs.declared.fault.ReadFault.TheVariants.{Number as TooGreat}
 use Rattle.basket_counts.specs.declared.line.SetLine.{SetLine}
 use Rattle.basket_counts.specs.declared.tail.Tail.{Tail}
 use Rattle.basket_counts.specs.declared.tail.Tail.TheVariants.{Absent, Opened, Count, Closed}
 use Rattle.basket_counts.specs.Counts.{is_open, is_close, is_count, is_tail_of, is_tail, is_line_of, is_line, count_fault, digit_fault, bare_entry, entry, count_before, entry_of_parts, entry_of}
-use Rattle.basket_counts.specs.Line.{LineState, line_state, count_begun, tail_in, tail_at, tail_with, state_of_parts, line_at, line_ended, digit_added, blank_added, close_added, is_there, said_by, said_at, digit_fault_in, IsLineSoFar, IsTaken}
+use Rattle.basket_counts.specs.Line.{LineState, count_begun, tail_in, tail_at, tail_with, state_of_parts, line_at, digit_added, blank_added, close_added, is_there, said_by, said_at, digit_fault_in, IsLineSoFar, IsTaken}
 use Rattle.basket_read.proofs.theory.Cuts.{cut, cut_ended, cut_joined}
 use Rattle.basket_read.proofs.theory.Grammar as grammar
 use Rattle.basket_read.proofs.theory.Numbers.{other_byte, digit_is_no_blank, blank_is_no_digit, within_push, within_ends, ended_at, refuses_other, numbers_joined}

@@ -56,6 +56,12 @@ faultless all bytes text longer front is long few none = (
       | inr le ↦ take_all MOST_BYTES all le
     ]
 
+-- bytes that are too many, without a fault before
+pub too_long : (all bytes text : List ℕ) (longer : Bool) → bytes ≡ take MOST_BYTES all → text ≡ text_of bytes → longer ≡ ltb MOST_BYTES (length all) → longer ≡ true → first_fault text ≡ None
+    → fault_in all ≡ Some TooLong
+too_long all bytes text longer front is long more none =
+    λ i. or_else ((ap first_fault (sym (is ∙ ap text_of front)) ∙ none) i) (cond ((sym long ∙ more) i) (Some TooLong) None)
+
 -- a fault of the bytes is the answer
 pub fault_told : (left : Option (List ℕ)) (fault : ReadFault) → IfSome left (λ bytes. Tells fault (fault_in bytes))
     → IfSome left (λ bytes. (fault ≢ Memory → sets_of_bytes bytes ≡ Err fault) × (fault ≢ Memory → counts_of bytes ≡ Err fault))

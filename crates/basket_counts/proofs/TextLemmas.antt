@@ -1,5 +1,5 @@
 -- How a text goes on with one more byte.
-use Rattle.std.proofs.Common.{◌≡◌, ◌≢◌, ℕ, ◌+◌, ◌-◌, ◌<◌, ◌≤◌, Bool, true, false, List, [], ◌∷◌, ◌++◌, length, fold, leb, take, take-add, drop, get_or, suc, cond, Option, Some, None, refl, sym, ap, ◌∙◌, subst, append_assoc, arith}
+use Rattle.std.proofs.Common.{◌≡◌, ◌≢◌, ℕ, ◌+◌, ◌<◌, ◌≤◌, true, false, List, [], ◌∷◌, ◌++◌, length, take, take-add, drop, get_or, suc, cond, Some, refl, sym, ap, ◌∙◌, subst, append_assoc, arith}
 use Rattle.std.specs.List.{list_all}
 use Rattle.std.proofs.lemmas.Bool.{and_from}
 use Rattle.std.proofs.lemmas.List.{append-nil, length-append, take_more, take-append-drop}
@@ -7,109 +7,117 @@ use Rattle.basket_sets.specs.Number.{is_digit}
 use Rattle.basket_sets.proofs.theory.Numerals.{all_push}
 use Rattle.basket_read.specs.declared.fault.ReadFault.{ReadFault}
 use Rattle.basket_read.specs.declared.fault.ReadFault.TheVariants.{Byte}
-use Rattle.basket_read.specs.Cut.{Cut, cut_more, cut_at}
-use Rattle.basket_read.specs.Fimi.{line_after, is_line_feed}
+use Rattle.basket_read.specs.Cut.{Cut, cut_at}
+use Rattle.basket_read.specs.Fimi.{is_line_feed}
 use Rattle.basket_read.specs.Text.{Tells}
-use Rattle.basket_counts.specs.declared.listed_set.ListedSet.{ListedSet}
+use Rattle.basket_counts.specs.declared.listed.Listed.{Listed}
 use Rattle.basket_counts.specs.declared.line.SetLine.{SetLine}
 use Rattle.basket_counts.specs.declared.text.SetText.{SetText}
-use Rattle.basket_counts.specs.Counts.{is_line, fault_at, first_fault, entry_of, entries_from}
-use Rattle.basket_counts.specs.Line.{LineState, line_state, line_at, said_at, digit_fault_in, IsLineSoFar}
+use Rattle.basket_counts.specs.Counts.{ListedSet, is_line, fault_at_from, fault_from, entry_of, entries_from}
+use Rattle.basket_counts.specs.Line.{line_state, line_at, said_at, digit_fault_in, IsLineSoFar}
+use Rattle.basket_counts.specs.Listed.{HasEntries}
 use Rattle.basket_counts.specs.Text.{IsTextSoFar}
 use Rattle.basket_read.proofs.theory.Cuts.{cut, cut_ended, cut_on, size_after}
 use Rattle.basket_counts.proofs.LineLemmas.{no_line_feed, line_says, digit_says}
-use Rattle.basket_counts.proofs.GrammarLemmas.{line_fronts_are_good, good_is_faultless}
+use Rattle.basket_counts.proofs.GrammarLemmas.{line_front, line_fronts_are_good}
 use Rattle.basket_read.proofs.theory.Grammar as grammar
 
--- what one line more says
-entries_push : (line : ℕ) (texts : List (List ℕ)) (text : List ℕ) → entries_from line (texts ++ text ∷ []) ≡ entries_from line texts ++ entry_of text (length texts + line)
-entries_push line [] text = append-nil (entry_of text line) ∙ ap (entry_of text) same
+-- what more lines say
+pub entries_append : (line : ℕ) (texts more : List (List ℕ)) → entries_from line (texts ++ more) ≡ entries_from line texts ++ entries_from (length texts + line) more
+entries_append line [] more = ap (λ n. entries_from n more) same
   where
     same : line ≡ 0 + line
     same = omega arith
-entries_push line (first ∷ texts) text =
-    ap (λ l. entry_of first line ++ l) (entries_push (line + 1) texts text ∙ ap (λ n. entries_from (line + 1) texts ++ entry_of text n) same)
-    ∙ sym (append_assoc (entry_of first line) (entries_from (line + 1) texts) (entry_of text (suc (length texts) + line)))
+entries_append line (first ∷ texts) more =
+    ap (λ l. entry_of first line ++ l) (entries_append (line + 1) texts more ∙ ap (λ n. entries_from (line + 1) texts ++ entries_from n more) same)
+    ∙ sym (append_assoc (entry_of first line) (entries_from (line + 1) texts) (entries_from (suc (length texts) + line) more))
   where
     same : length texts + (line + 1) ≡ suc (length texts) + line
     same = omega arith
 
-module _ (text : SetText) (bytes : List ℕ) (t : IsTextSoFar text bytes) where
+module _ (text : SetText) (number : ℕ) (bytes : List ℕ) (t : IsTextSoFar text number bytes) where
+  abbrev ended : List (List ℕ)
+  ended = (cut_at is_line_feed bytes).ended
+
   abbrev last : List ℕ
   last = (cut_at is_line_feed bytes).last
 
   pub line_so_far : IsLineSoFar text.line last
-  line_so_far = record { good = (grammar.lines_good is_line fault_at refl bytes t.faultless).1; state = t.line }
+  line_so_far = record { good = (grammar.lines_good is_line (fault_at_from number) refl bytes t.faultless).1; state = t.state }
 
   -- the text goes on as its line does
-  pub goes_on : (line : SetLine) (run : List ℕ) → IsLineSoFar line (last ++ run) → IsTextSoFar (record text { line = line }) (bytes ++ run)
+  pub goes_on : (line : SetLine) (run : List ℕ) → IsLineSoFar line (last ++ run) → IsTextSoFar (record text { line = line }) number (bytes ++ run)
   goes_on line run s =
-      let k = cut_at is_line_feed bytes in
       let joined = cut_on is_line_feed is_line line_fronts_are_good no_line_feed bytes run s.good in
       record {
-        faultless = (good_is_faultless (bytes ++ run)).0
+        faultless = (grammar.good_is_faultless is_line (fault_at_from number) refl line_front (bytes ++ run)).0
             (ap (λ (j : Cut). list_all is_line (j.ended ++ j.last ∷ [])) joined
-            ∙ all_push is_line k.ended (last ++ run) ∙ and_from (list_all is_line k.ended) (is_line (last ++ run)) (grammar.lines_good is_line fault_at refl bytes t.faultless).0 s.good);
-        ended = t.ended ∙ ap (λ (k : Cut). length k.ended) (sym joined);
-        entries = t.entries ∙ ap (λ (k : Cut). entries_from 1 k.ended) (sym joined);
-        line = s.state ∙ ap (λ (k : Cut). line_at k.last) (sym joined);
+            ∙ all_push is_line ended (last ++ run)
+            ∙ and_from (list_all is_line ended) (is_line (last ++ run)) (grammar.lines_good is_line (fault_at_from number) refl bytes t.faultless).0 s.good);
+        ended = t.ended ∙ ap (λ (k : Cut). length k.ended + number) (sym joined);
+        listed = subst (HasEntries text.listed) (ap (λ (k : Cut). entries_from number k.ended) (sym joined)) t.listed;
+        state = s.state ∙ ap (λ (k : Cut). line_at k.last) (sym joined);
       }
 
   -- a byte that the line refused
   pub refuses : (byte : ℕ) → is_line_feed byte ≡ false → is_line (last ++ byte ∷ []) ≡ false
-      → first_fault (bytes ++ byte ∷ []) ≡ Some (cond (is_digit byte) (digit_fault_in (line_state text.line).tail (text.ended + 1) byte) (Byte (text.ended + 1) byte))
+      → fault_from number (bytes ++ byte ∷ []) ≡ Some (cond (is_digit byte) (digit_fault_in (line_state text.line).tail (text.ended + 1) byte) (Byte (text.ended + 1) byte))
   refuses byte e bad =
-      grammar.fault_here is_line fault_at refl bytes t.faultless byte false e bad
-      ∙ ap (λ fault. Some (cond (is_digit byte) fault (Byte (line_after bytes) byte))) (sym (digit_says last (line_after bytes) byte))
-      ∙ (λ i. Some (cond (is_digit byte) (digit_fault_in (sym t.line i).tail (sym t.ended i + 1) byte) (Byte (sym t.ended i + 1) byte)))
+      grammar.fault_here is_line (fault_at_from number) refl bytes t.faultless byte false e bad
+      ∙ ap (λ fault. Some (cond (is_digit byte) fault (Byte (length ended + number) byte))) (sym (digit_says last (length ended + number) byte))
+      ∙ (λ i. Some (cond (is_digit byte) (digit_fault_in (sym t.state i).tail (sym t.ended i) byte) (Byte (sym t.ended i) byte)))
 
   -- what the text says once its last line has ended
-  pub says_all : (entries : List ListedSet) → entries ≡ text.entries.items ++ said_at (line_state text.line) (text.ended + 1) → entries ≡ entries_from 1 ((cut_at is_line_feed bytes).ended ++ last ∷ [])
-  says_all entries e =
-      e ∙ (λ i. t.entries i ++ said_at (t.line i) (t.ended i + 1))
-      ∙ ap (λ l. entries_from 1 (cut_at is_line_feed bytes).ended ++ l) (line_says last (length (cut_at is_line_feed bytes).ended + 1))
-      ∙ sym (entries_push 1 (cut_at is_line_feed bytes).ended last)
+  pub says_all : (listed : Listed) → ((entries : List ListedSet) → HasEntries text.listed entries → HasEntries listed (entries ++ said_at (line_state text.line) (text.ended + 1)))
+      → HasEntries listed (entries_from number (ended ++ last ∷ []))
+  says_all listed more =
+      subst (HasEntries listed)
+      ((λ i. entries_from number ended ++ said_at (t.state i) (t.ended i))
+      ∙ ap (λ l. entries_from number ended ++ l) (line_says last (length ended + number) ∙ sym (append-nil (entry_of last (length ended + number))))
+      ∙ sym (entries_append number ended (last ∷ [])))
+      (more (entries_from number ended) t.listed)
 
   pub takes_line_feed : (new : SetText) (byte : ℕ) → is_line_feed byte ≡ true → line_state new.line ≡ line_at [] → new.ended ≡ text.ended + 1
-      → new.entries.items ≡ text.entries.items ++ said_at (line_state text.line) (text.ended + 1) → IsTextSoFar new (bytes ++ byte ∷ [])
+      → ((entries : List ListedSet) → HasEntries text.listed entries → HasEntries new.listed (entries ++ said_at (line_state text.line) (text.ended + 1)))
+      → IsTextSoFar new number (bytes ++ byte ∷ [])
   takes_line_feed new byte e is lines more =
-      let ended = cut_ended is_line_feed bytes byte e in
+      let k = cut_ended is_line_feed bytes byte e in
       record {
-        faultless = grammar.line_feed_here is_line fault_at refl bytes t.faultless byte e;
-        ended = lines ∙ ap (λ n. n + 1) t.ended ∙ sym (length-append (cut_at is_line_feed bytes).ended (last ∷ [])) ∙ ap (λ (k : Cut). length k.ended) (sym ended);
-        entries = says_all new.entries.items more ∙ ap (λ (k : Cut). entries_from 1 k.ended) (sym ended);
-        line = is ∙ ap (λ (k : Cut). line_at k.last) (sym ended);
+        faultless = grammar.line_feed_here is_line (fault_at_from number) refl bytes t.faultless byte e;
+        ended = (let size = length-append ended (last ∷ []) in let before = t.ended in omega arith) ∙ ap (λ (k : Cut). length k.ended + number) (sym k);
+        listed = subst (HasEntries new.listed) (ap (λ (k : Cut). entries_from number k.ended) (sym k)) (says_all new.listed more);
+        state = is ∙ ap (λ (k : Cut). line_at k.last) (sym k);
       }
 
 -- ---- a text of few bytes has few lines
 
 -- a line feed for each line that has ended
-pub few_lines : (text : SetText) (bytes : List ℕ) → IsTextSoFar text bytes → text.ended ≤ length bytes
-few_lines text bytes t = let few = size_after is_line_feed (cut [] []) bytes in let lines = t.ended in omega arith
+pub few_lines : (text : SetText) (number : ℕ) (bytes : List ℕ) → IsTextSoFar text number bytes → text.ended + 1 ≤ length bytes + number
+few_lines text number bytes t = let few = size_after is_line_feed (cut [] []) bytes in let lines = t.ended in omega arith
 
 -- and more bytes where a line has begun
-pub fewer_lines : (text : SetText) (bytes : List ℕ) → IsTextSoFar text bytes → line_state text.line ≢ line_at [] → text.ended < length bytes
-fewer_lines text bytes t some = at (cut_at is_line_feed bytes).last refl
+pub fewer_lines : (text : SetText) (number : ℕ) (bytes : List ℕ) → IsTextSoFar text number bytes → line_state text.line ≢ line_at [] → text.ended + 1 < length bytes + number
+fewer_lines text number bytes t some = at (cut_at is_line_feed bytes).last refl
   where
-    at : (last : List ℕ) → (cut_at is_line_feed bytes).last ≡ last → text.ended < length bytes
-    at [] e = absurd (some (t.line ∙ ap line_at e))
+    at : (last : List ℕ) → (cut_at is_line_feed bytes).last ≡ last → text.ended + 1 < length bytes + number
+    at [] e = absurd (some (t.state ∙ ap line_at e))
     at (byte ∷ last) e = let few = size_after is_line_feed (cut [] []) bytes in let lines = t.ended in let long = ap length e in omega arith
 
 -- ---- bytes up to a place
 
 -- bytes that the line took behind a place
-pub run_taken : (text : SetText) (line : SetLine) (bytes piece : List ℕ) (i count : ℕ) → IsTextSoFar text (take i bytes) → piece ≡ drop i bytes
-    → ((front : List ℕ) → IsLineSoFar text.line front → IsLineSoFar line (front ++ take count piece)) → IsTextSoFar (record text { line = line }) (take (i + count) bytes)
-run_taken text line bytes piece i count t e took =
-    subst (IsTextSoFar (record text { line = line })) (ap (λ l. take i bytes ++ take count l) e ∙ sym (take-add i count bytes))
-    (goes_on text (take i bytes) t line (take count piece) (took (cut_at is_line_feed (take i bytes)).last (line_so_far text (take i bytes) t)))
+pub run_taken : (text : SetText) (line : SetLine) (number : ℕ) (bytes piece : List ℕ) (i count : ℕ) → IsTextSoFar text number (take i bytes) → piece ≡ drop i bytes
+    → ((front : List ℕ) → IsLineSoFar text.line front → IsLineSoFar line (front ++ take count piece)) → IsTextSoFar (record text { line = line }) number (take (i + count) bytes)
+run_taken text line number bytes piece i count t e took =
+    subst (IsTextSoFar (record text { line = line }) number) (ap (λ l. take i bytes ++ take count l) e ∙ sym (take-add i count bytes))
+    (goes_on text number (take i bytes) t line (take count piece) (took (cut_at is_line_feed (take i bytes)).last (line_so_far text number (take i bytes) t)))
 
 -- all bytes up to a place and the byte there
 pub up_to : (bytes : List ℕ) (i : ℕ) → i < length bytes → take i bytes ++ get_or bytes i 0 ∷ [] ≡ take (i + 1) bytes
 up_to bytes i below = sym (take_more bytes i 0 below)
 
 -- a fault at a byte is that of all bytes
-pub fault_of_all : (bytes : List ℕ) (i : ℕ) (fault : ReadFault) → i < length bytes → Tells fault (first_fault (take i bytes ++ get_or bytes i 0 ∷ [])) → Tells fault (first_fault bytes)
-fault_of_all bytes i fault below told no_memory =
-    ap first_fault (sym (take-append-drop (i + 1) bytes))
-    ∙ grammar.first_fault_stays is_line fault_at refl (take (i + 1) bytes) (drop (i + 1) bytes) fault (ap first_fault (sym (up_to bytes i below)) ∙ told no_memory)
+pub fault_of_all : (number : ℕ) (bytes : List ℕ) (i : ℕ) (fault : ReadFault) → i < length bytes → Tells fault (fault_from number (take i bytes ++ get_or bytes i 0 ∷ [])) → Tells fault (fault_from number bytes)
+fault_of_all number bytes i fault below told no_memory =
+    ap (fault_from number) (sym (take-append-drop (i + 1) bytes))
+    ∙ grammar.first_fault_stays is_line (fault_at_from number) refl (take (i + 1) bytes) (drop (i + 1) bytes) fault (ap (fault_from number) (sym (up_to bytes i below)) ∙ told no_memory)

@@ -9,8 +9,13 @@ use Rattle.basket_read.specs.declared.fault.ReadFault.TheVariants.{TooLong, Byte
 use Rattle.basket_read.specs.declared.counted_line.CountedLine.{CountedLine}
 use Rattle.basket_read.specs.Cut.{cut_at, parts_of}
 use Rattle.basket_read.specs.Fimi.{is_blank, is_line_feed, is_nil, are_numbers, numbers_of, line_after, text_of, or_else, MOST_BYTES}
-use Rattle.basket_counts.specs.declared.listed_set.ListedSet.{ListedSet}
 use Rattle.basket_read.specs.Grammar.{fault_behind}
+
+-- a set of a list, with its count if it has a whole one, and the number of its line
+pub record ListedSet : Type 0 where
+  pub set : List ℕ
+  pub count : Option ℕ
+  pub line : ℕ
 
 -- the parentheses around a count
 abbrev pub is_open : ℕ → Bool
@@ -64,6 +69,10 @@ fault_in_line line number byte = if is_digit byte then digit_fault (cut_at is_op
 abbrev pub fault_at : List ℕ → ℕ → ReadFault
 fault_at before byte = fault_in_line (cut_at is_line_feed before).last (line_after before) byte
 
+-- the same where the first line of the text has this number
+abbrev pub fault_at_from : ℕ → List ℕ → ℕ → ReadFault
+fault_at_from line before byte = fault_in_line (cut_at is_line_feed before).last (length (cut_at is_line_feed before).ended + line) byte
+
 -- the first fault in a text that goes on after a good front: at the first byte with which the text so far is not good
 abbrev pub fault_after : List ℕ → List ℕ → Option ReadFault
 fault_after before text = fault_behind is_good fault_at before text
@@ -71,6 +80,10 @@ fault_after before text = fault_behind is_good fault_at before text
 -- the first fault of a text
 abbrev pub first_fault : List ℕ → Option ReadFault
 first_fault text = fault_after [] text
+
+-- the same where its first line has this number
+abbrev pub fault_from : ℕ → List ℕ → Option ReadFault
+fault_from line text = fault_behind is_good (fault_at_from line) [] text
 
 -- the fault of the bytes: the first in as many of them as an input may have, else that there are more
 abbrev pub fault_in : List ℕ → Option ReadFault

@@ -6,11 +6,10 @@ use Rattle.basket_read.specs.Cut.{cut_at}
 use Rattle.basket_read.specs.Numbers.{NumbersState, numbers_state, numbers_at, number_ended}
 use Rattle.basket_read.specs.declared.fault.ReadFault.{ReadFault}
 use Rattle.basket_read.specs.declared.fault.ReadFault.TheVariants.{Byte, Number as TooGreat, Count as TooMany}
-use Rattle.basket_counts.specs.declared.listed_set.ListedSet.{ListedSet}
 use Rattle.basket_counts.specs.declared.line.SetLine.{SetLine}
 use Rattle.basket_counts.specs.declared.tail.Tail.{Tail}
 use Rattle.basket_counts.specs.declared.tail.Tail.TheVariants.{Absent, Opened, Count, Closed}
-use Rattle.basket_counts.specs.Counts.{is_open, is_close, is_tail, is_line, bare_entry, entry}
+use Rattle.basket_counts.specs.Counts.{ListedSet, is_open, is_close, is_tail, is_line, bare_entry, entry}
 
 -- the numbers of a line, and what follows them
 pub record LineState : Type 0 where

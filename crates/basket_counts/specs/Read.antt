@@ -1,11 +1,11 @@
 -- What a reader returns.
-use Rattle.std.specs.Prelude.{◌≡◌, ◌≢◌, ℕ, List, ◌++◌, Vec, Some, None, Result, Ok, Err}
+use Rattle.std.specs.Prelude.{◌≡◌, ◌≢◌, ℕ, List, Vec, Some, None, Result, Ok, Err}
 use Rattle.basket_read.specs.declared.fault.ReadFault.{ReadFault}
 use Rattle.basket_read.specs.declared.fault.ReadFault.TheVariants.{Memory}
 use Rattle.basket_read.specs.Fimi.{text_of}
-use Rattle.basket_read.specs.declared.counted_line.CountedLine.{CountedLine}
-use Rattle.basket_counts.specs.declared.listed_set.ListedSet.{ListedSet}
+use Rattle.basket_counts.specs.declared.listed.Listed.{Listed}
 use Rattle.basket_counts.specs.Counts.{fault_in, entries_of}
+use Rattle.basket_counts.specs.Listed.{HasEntries}
 
 -- except if memory is out, the result is the one that is defined
 abbrev pub Answers : {X A : Type 0} → Result (Vec X A) ReadFault → Result (List X) ReadFault → Type 0
@@ -13,11 +13,6 @@ Answers (Ok list) answer = answer ≡ Ok list.items
 Answers (Err fault) answer = fault ≢ Memory → answer ≡ Err fault
 
 -- except if memory is out, the bytes have no fault and these are their entries, or the fault is theirs
-abbrev pub Says : {A : Type 0} → Result (Vec ListedSet A) ReadFault → List ℕ → Type 0
-Says (Ok entries) bytes = (fault_in bytes ≡ None) × (entries.items ≡ entries_of (text_of bytes))
+abbrev pub Says : Result Listed ReadFault → List ℕ → Type 0
+Says (Ok listed) bytes = (fault_in bytes ≡ None) × HasEntries listed (entries_of (text_of bytes))
 Says (Err fault) bytes = fault ≢ Memory → fault_in bytes ≡ Some fault
-
--- an answer with some lines before those that it has
-abbrev pub counts_behind : List CountedLine → Result (List CountedLine) ReadFault → Result (List CountedLine) ReadFault
-counts_behind before (Ok later) = Ok (before ++ later)
-counts_behind before (Err fault) = Err fault

@@ -1,13 +1,14 @@
 //! A reader of counted sets that returns exactly the sets of a list, or its first fault.
 #![tactic(auto)]
 
+mod halves;
 mod input;
 pub mod laws;
 mod line;
-mod listed_set;
+mod listed;
 mod read;
 mod tail;
 mod text;
 pub mod worked;
 
-pub use read::{read_counts, read_sets};
+pub use read::{read_counts_shared, read_sets_shared};

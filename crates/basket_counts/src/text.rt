@@ -3,33 +3,36 @@ ghost use Rattle.std.specs.Prelude.{◌≡◌, ◌≢◌, ◌<◌, ◌≤◌, �
 ghost use Rattle.basket_sets.specs.Number.{is_digit};
 ghost use Rattle.basket_read.specs.Fimi.{MOST_BYTES};
 ghost use Rattle.basket_read.specs.Text.{Tells};
-ghost use Rattle.basket_counts.specs.Counts.{first_fault, entries_of};
+ghost use Rattle.basket_counts.specs.Counts.{ListedSet, fault_from};
 ghost use Rattle.basket_counts.specs.Line.{line_state, line_at, said_at, digit_fault_in};
-ghost use Rattle.basket_counts.specs.Text.{IsTextSoFar};
+ghost use Rattle.basket_counts.specs.Listed.{HasEntries};
+ghost use Rattle.basket_counts.specs.Text.{IsTextSoFar, SaysFrom};
 
 use crate::line::SetLine;
-use crate::listed_set::ListedSet;
+use crate::listed::Listed;
 use basket_read::ReadFault;
 use basket_sets::Itemset;
 use std::alloc::{AllocError, Global};
 
-/// What has been read of a text: how many lines have ended, what they say, and the line after them.
+/// What has been read of a text: how many lines have ended, those before the text among them, what
+/// its lines say, and the line after them.
 #[derive(Debug, Drop)]
 pub struct SetText {
     alloc: Global,
     ended: u32,
-    entries: Vec<ListedSet>,
+    listed: Listed,
     line: SetLine,
 }
 
 impl SetText {
-    fn new(alloc: Global) -> Self
-        ensures { IsTextSoFar result [] }
+    /// A text that follows so many lines.
+    fn new(alloc: Global, before: u32) -> Self
+        ensures { IsTextSoFar result (before + 1) [] }
     {
         SetText {
             alloc,
-            ended: 0,
-            entries: Vec::new(alloc),
+            ended: before,
+            listed: Listed::new(alloc),
             line: SetLine::new(alloc),
         }
     }
@@ -38,8 +41,8 @@ impl SetText {
     #[inline(always)]
     fn take(&mut self, byte: u8) -> Result<(), ReadFault>
         requires { self.old.ended < MOST_BYTES }
-        ensures { (bytes : List ℕ) → IsTextSoFar self.old bytes →
-            MatchResult result (λ _. IsTextSoFar self.new (bytes ++ byte ∷ [])) (λ fault. Tells fault (first_fault (bytes ++ byte ∷ []))) }
+        ensures { (line : ℕ) (bytes : List ℕ) → IsTextSoFar self.old line bytes →
+            MatchResult result (λ _. IsTextSoFar self.new line (bytes ++ byte ∷ [])) (λ fault. Tells fault (fault_from line (bytes ++ byte ∷ []))) }
     {
         if byte == b'\n' {
             self.end_line()?;
@@ -70,30 +73,27 @@ impl SetText {
         requires { line_state self.old.line ≢ line_at [] → self.old.ended < MOST_BYTES }
         ensures line { OnOk result (line_state self.new.line ≡ line_at []) }
         ensures ended { self.new.ended ≡ self.old.ended }
-        ensures entries { OnOk result (self.new.entries.items ≡ self.old.entries.items ++ said_at (line_state self.old.line) (self.old.ended + 1)) }
+        ensures listed { (entries : List ListedSet) → HasEntries self.old.listed entries →
+            OnOk result (HasEntries self.new.listed (entries ++ said_at (line_state self.old.line) (self.old.ended + 1))) }
     {
         self.line.end()?;
         let numbers = self.line.numbers();
         let tail = self.line.tail();
         if tail.is_there() || !numbers.is_empty() {
             let set = Itemset::from_items(self.alloc, numbers)?;
-            self.entries.push(ListedSet {
-                set,
-                count: tail.count(),
-                line: self.ended + 1,
-            })?;
+            self.listed.add(set, tail.count(), self.ended + 1)?;
         }
         self.line.clear();
         Ok(())
     }
 }
 
-/// What a text says, or its first fault.
-pub fn entries_of(alloc: Global, bytes: &[u8]) -> Result<Vec<ListedSet>, ReadFault>
-    requires { length bytes.now ≤ MOST_BYTES }
-    ensures { MatchResult result (λ entries. (first_fault bytes.now ≡ None) × (entries.items ≡ entries_of bytes.now)) (λ fault. Tells fault (first_fault bytes.now)) }
+/// What a text says that follows so many lines, or its first fault.
+pub fn listed_in(alloc: Global, before: u32, bytes: &[u8]) -> Result<Listed, ReadFault>
+    requires { before + length bytes.now ≤ MOST_BYTES }
+    ensures { SaysFrom (before + 1) bytes.now result }
 {
-    let mut text = SetText::new(alloc);
+    let mut text = SetText::new(alloc, before);
     let mut taken = 0;
     loop {
         taken += text.line.take_run(&bytes[taken..])?;
@@ -101,7 +101,7 @@ pub fn entries_of(alloc: Global, bytes: &[u8]) -> Result<Vec<ListedSet>, ReadFau
             Some(byte) => text.take(*byte)?,
             None => {
                 text.end_line()?;
-                return Ok(text.entries);
+                return Ok(text.listed);
             }
         }
         taken += 1;

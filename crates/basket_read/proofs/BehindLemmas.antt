@@ -1,12 +1,10 @@
 -- A text behind whole lines.
-use Rattle.std.proofs.Common.{◌≡◌, ℕ, ◌+◌, Bool, true, ◌&&◌, List, [], ◌∷◌, ◌++◌, length, cond, fold, Option, Some, None, refl, sym, ap, ◌∙◌, subst, append_assoc, arith, ◌≤◌, false, ◌⊎◌, inl, inr}
-use Rattle.std.specs.List.{list_all, flat_map}
+use Rattle.std.proofs.Common.{◌≡◌, ℕ, ◌+◌, Bool, true, List, [], ◌∷◌, ◌++◌, length, cond, refl, sym, ap, ◌∙◌, subst, append_assoc, arith, ◌≤◌, false, ◌⊎◌, inl, inr}
+use Rattle.std.specs.List.{flat_map}
 use Rattle.std.specs.Option.{option_map}
-use Rattle.std.proofs.lemmas.Bool.{and_parts}
 use Rattle.std.proofs.lemmas.Grind.{flat_map-append}
 use Rattle.std.proofs.lemmas.List.{append-nil, length-append}
-use Rattle.std.proofs.lemmas.List.Folds.{list_all-append}
-use Rattle.std.proofs.lemmas.List.Sums.{fold-append, sum_by-append}
+use Rattle.std.proofs.lemmas.List.Sums.{sum_by-append}
 use Rattle.basket_sets.specs.declared.weighted.Weighted.{Weighted}
 use Rattle.basket_sets.specs.Database.{MOST_BASKETS, MOST_WEIGHT}
 use Rattle.basket_sets.specs.ItemTable.{HasCounted, Tabled}
@@ -15,45 +13,19 @@ use Rattle.basket_sets.specs.Number.{is_digit}
 use Rattle.basket_read.specs.declared.fault.ReadFault.{ReadFault}
 use Rattle.basket_read.specs.declared.fault.ReadFault.TheVariants.{Byte, Number}
 use Rattle.basket_read.specs.declared.text.Text.{Text}
-use Rattle.basket_read.specs.Cut.{Cut, cut_at, cut_more}
+use Rattle.basket_read.specs.Cut.{Cut, cut_at}
 use Rattle.basket_read.specs.Fimi.{is_line_feed, is_line, is_good, basket_of, baskets_of, line_after, fault_at, fault_after, first_fault, or_else, MOST_BYTES}
 use Rattle.basket_read.specs.Line.{line_state, line_at}
 use Rattle.basket_read.specs.Text.{HasBaskets, HasJoined, IsTextSoFar, HasRoomFor}
+use Rattle.basket_read.specs.Grammar.{fault_behind}
 use Rattle.basket_read.specs.Laws.{counted_on, LinesSayTheirs}
-use Rattle.basket_read.proofs.theory.Cuts.{cut, size_after}
+use Rattle.basket_read.proofs.theory.Cuts.{cut, size_after, cut_behind}
 use Rattle.basket_read.proofs.RoomLemmas.{merely_at_most, baskets_after}
 use Rattle.basket_read.proofs.theory.Grammar as grammar
-
--- parts that have ended before
-abbrev behind : List (List ℕ) → Cut → Cut
-behind ended k = cut (ended ++ k.ended) k.last
-
-fold_behind : (p : ℕ → Bool) (before ended : List (List ℕ)) (last xs : List ℕ)
-    → fold (cut_more p) (cut (before ++ ended) last) xs ≡ behind before (fold (cut_more p) (cut ended last) xs)
-fold_behind p before ended last [] = refl
-fold_behind p before ended last (x ∷ xs) =
-    at (p x)
-    (ap (λ e. fold (cut_more p) (cut e []) xs) (append_assoc before ended (last ∷ [])) ∙ fold_behind p before (ended ++ last ∷ []) [] xs)
-    (fold_behind p before ended (last ++ x ∷ []) xs)
-  where
-    at : (b : Bool)
-        → fold (cut_more p) (cut ((before ++ ended) ++ last ∷ []) []) xs ≡ behind before (fold (cut_more p) (cut (ended ++ last ∷ []) []) xs)
-        → fold (cut_more p) (cut (before ++ ended) (last ++ x ∷ [])) xs ≡ behind before (fold (cut_more p) (cut ended (last ++ x ∷ [])) xs)
-        → fold (cut_more p) (cond b (cut ((before ++ ended) ++ last ∷ []) []) (cut (before ++ ended) (last ++ x ∷ []))) xs
-        ≡ behind before (fold (cut_more p) (cond b (cut (ended ++ last ∷ []) []) (cut ended (last ++ x ∷ []))) xs)
-    at true ends joins = ends
-    at false ends joins = joins
 
 module _ (front : List ℕ) (whole : (cut_at is_line_feed front).last ≡ []) where
   abbrev lines : List (List ℕ)
   lines = (cut_at is_line_feed front).ended
-
-  pub cut_behind : (rest : List ℕ) → cut_at is_line_feed (front ++ rest) ≡ behind lines (cut_at is_line_feed rest)
-  cut_behind rest =
-      fold-append (cut_more is_line_feed) (cut [] []) front rest
-      ∙ ap (λ last. fold (cut_more is_line_feed) (cut lines last) rest) whole
-      ∙ ap (λ e. fold (cut_more is_line_feed) (cut e []) rest) (sym (append-nil lines))
-      ∙ fold_behind is_line_feed lines [] [] rest
 
   baskets_front : baskets_of front ≡ flat_map basket_of lines
   baskets_front =
@@ -62,60 +34,46 @@ module _ (front : List ℕ) (whole : (cut_at is_line_feed front).last ≡ []) wh
   baskets_behind : (rest : List ℕ) → baskets_of (front ++ rest) ≡ baskets_of front ++ baskets_of rest
   baskets_behind rest =
       let k = cut_at is_line_feed rest in
-      ap (λ (j : Cut). flat_map basket_of (j.ended ++ j.last ∷ [])) (cut_behind rest)
+      ap (λ (j : Cut). flat_map basket_of (j.ended ++ j.last ∷ [])) (cut_behind is_line_feed front rest whole)
       ∙ ap (flat_map basket_of) (append_assoc lines k.ended (k.last ∷ []))
       ∙ flat_map-append basket_of lines (k.ended ++ k.last ∷ [])
       ∙ ap (λ l. l ++ baskets_of rest) (sym baskets_front)
 
-  module _ (good : is_good front ≡ true) where
-    good_behind : (rest : List ℕ) → is_good (front ++ rest) ≡ is_good rest
-    good_behind rest =
-        let k = cut_at is_line_feed rest in
-        let lines_good = (and_parts (list_all is_line lines) _ (sym (list_all-append is_line lines ((cut_at is_line_feed front).last ∷ [])) ∙ good)).0 in
-        ap (λ (j : Cut). list_all is_line (j.ended ++ j.last ∷ [])) (cut_behind rest)
-        ∙ ap (list_all is_line) (append_assoc lines k.ended (k.last ∷ []))
-        ∙ list_all-append is_line lines (k.ended ++ k.last ∷ [])
-        ∙ ap (λ b. b && is_good rest) lines_good
+  line_behind : (before : List ℕ) → line_after (front ++ before) ≡ length lines + line_after before
+  line_behind before =
+      let k = cut_at is_line_feed before in
+      let sum = length-append lines k.ended in
+      let same = ap (λ (j : Cut). length j.ended) (cut_behind is_line_feed front before whole) in
+      omega (arith, sum, same)
 
-    line_behind : (before : List ℕ) → line_after (front ++ before) ≡ length lines + line_after before
-    line_behind before =
-        let k = cut_at is_line_feed before in
-        let sum = length-append lines k.ended in
-        let same = ap (λ (j : Cut). length j.ended) (cut_behind before) in
-        omega (arith, sum, same)
+  fault_at_behind : (before : List ℕ) (byte : ℕ) → fault_at (front ++ before) byte ≡ counted_on (length lines) (fault_at before byte)
+  fault_at_behind before byte = ap (λ n. cond (is_digit byte) (Number n) (Byte n byte)) (line_behind before) ∙ at (is_digit byte)
+    where
+      at : (b : Bool)
+          → cond b (Number (length lines + line_after before)) (Byte (length lines + line_after before) byte)
+          ≡ counted_on (length lines) (cond b (Number (line_after before)) (Byte (line_after before) byte))
+      at true = refl
+      at false = refl
 
-    fault_at_behind : (before : List ℕ) (byte : ℕ) → fault_at (front ++ before) byte ≡ counted_on (length lines) (fault_at before byte)
-    fault_at_behind before byte = ap (λ n. cond (is_digit byte) (Number n) (Byte n byte)) (line_behind before) ∙ at (is_digit byte)
-      where
-        at : (b : Bool)
-            → cond b (Number (length lines + line_after before)) (Byte (length lines + line_after before) byte)
-            ≡ counted_on (length lines) (cond b (Number (line_after before)) (Byte (line_after before) byte))
-        at true = refl
-        at false = refl
-
-    fault_behind : (before rest : List ℕ) → fault_after (front ++ before) rest ≡ option_map (counted_on (length lines)) (fault_after before rest)
-    fault_behind before [] = refl
-    fault_behind before (byte ∷ rest) =
-        let longer = append_assoc front before (byte ∷ []) in
-        (λ i. grammar.found ((ap is_good longer ∙ good_behind (before ++ byte ∷ [])) i) ((ap (λ l. fault_after l rest) longer ∙ fault_behind (before ++ byte ∷ []) rest) i) (fault_at_behind before byte i))
-        ∙ at (is_good (before ++ byte ∷ [])) (fault_after (before ++ byte ∷ []) rest) (fault_at before byte)
-      where
-        at : (b : Bool) (later : Option ReadFault) (fault : ReadFault)
-            → grammar.found b (option_map (counted_on (length lines)) later) (counted_on (length lines) fault) ≡ option_map (counted_on (length lines)) (grammar.found b later fault)
-        at true later fault = refl
-        at false later fault = refl
+-- faults that are told otherwise
+told_by : (f : ReadFault → ReadFault) (before text : List ℕ) → fault_behind is_good (λ before byte. f (fault_at before byte)) before text ≡ option_map f (fault_after before text)
+told_by f before [] = refl
+told_by f before (byte ∷ text) = at (is_good (before ++ byte ∷ [])) (told_by f (before ++ byte ∷ []) text)
+  where
+    at : (well : Bool) → fault_behind is_good (λ before byte. f (fault_at before byte)) (before ++ byte ∷ []) text ≡ option_map f (fault_after (before ++ byte ∷ []) text)
+        → grammar.found well (fault_behind is_good (λ before byte. f (fault_at before byte)) (before ++ byte ∷ []) text) (f (fault_at before byte))
+        ≡ option_map f (grammar.found well (fault_after (before ++ byte ∷ []) text) (fault_at before byte))
+    at true e = e
+    at false e = refl
 
 pub lines_say_theirs : LinesSayTheirs
-lines_say_theirs front rest whole = record {
-  baskets = baskets_behind front whole rest;
-  fault = at (first_fault front) refl (option_map (counted_on (length (cut_at is_line_feed front).ended)) (first_fault rest))
-      (λ none. ap (λ l. fault_after l rest) (sym (append-nil front)) ∙ fault_behind front whole (grammar.good-from_faultless is_line fault_at refl front none) [] rest);
-}
-  where
-    at : (fault : Option ReadFault) → first_fault front ≡ fault → (later : Option ReadFault) → (first_fault front ≡ None → fault_after front rest ≡ later)
-        → first_fault (front ++ rest) ≡ or_else (first_fault front) later
-    at (Some fault) e later goes_on = grammar.first_fault_stays is_line fault_at refl front rest fault e ∙ ap (λ f. or_else f later) (sym e)
-    at None e later goes_on = grammar.first_fault_behind is_line fault_at refl front rest e ∙ goes_on e ∙ ap (λ f. or_else f later) (sym e)
+lines_say_theirs front rest whole =
+    let lines = length (cut_at is_line_feed front).ended in
+    record {
+      baskets = baskets_behind front whole rest;
+      fault = grammar.fault_of_both is_line fault_at refl front whole (λ before byte. counted_on lines (fault_at before byte)) (fault_at_behind front whole) rest
+          ∙ ap (or_else (first_fault front)) (told_by (counted_on lines) [] rest);
+    }
 
 -- ---- two texts that were read
 
@@ -126,7 +84,7 @@ pub texts_joined : (text other new : Text) (past behind : List Weighted) (bytes 
 texts_joined text other new past behind bytes more t whole o lines line (now, same, counted, baskets) =
     let a = (cut_at is_line_feed bytes).ended in
     let k = cut_at is_line_feed more in
-    let joined = cut_behind bytes whole more in (
+    let joined = cut_behind is_line_feed bytes more whole in (
       now,
       same,
       record {

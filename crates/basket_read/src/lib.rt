@@ -21,6 +21,7 @@ pub use byte_class::{ByteClass, class_of};
 pub use counted_line::CountedLine;
 pub use fault::ReadFault;
 pub use item_counts::ItemCounts;
+pub use lines::middle_of;
 pub use numbers::Numbers;
 pub use parts::FimiParts;
 pub use read::{MAX_BLOCK, count_fimi, read_fimi, read_fimi_by};

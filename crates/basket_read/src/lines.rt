@@ -99,7 +99,7 @@ pub fn feed_part(text: &mut Text, piece: &[u8], counting: bool) -> Result<(), Re
 }
 
 /// Where a piece is cut in two, after a line feed, if that is worth a thread.
-fn middle_of(piece: &[u8], workers: u32) -> Option<usize>
+pub fn middle_of(piece: &[u8], workers: u32) -> Option<usize>
     ensures several { IfSome result (λ _. 2 ≤ workers) }
     ensures within { IfSome result (λ end. end ≤ length piece.now) }
     ensures ends { IfSome result (λ end. EndsLine (take end piece.now)) }

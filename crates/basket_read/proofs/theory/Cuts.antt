@@ -1,9 +1,9 @@
 -- How a cut list goes on.
-use Rattle.std.proofs.Common.{◌≡◌, ℕ, Bool, true, false, List, [], ◌∷◌, ◌++◌, cond, sym, ap, ◌∙◌, append_assoc, ◌+◌, ◌≤◌, length, fold, suc, arith}
+use Rattle.std.proofs.Common.{◌≡◌, ℕ, Bool, true, false, List, [], ◌∷◌, ◌++◌, cond, refl, sym, ap, ◌∙◌, append_assoc, ◌+◌, ◌≤◌, length, fold, suc, arith}
 use Rattle.std.specs.List.{list_all}
 use Rattle.std.proofs.lemmas.Bool.{and_parts}
 use Rattle.std.proofs.lemmas.List.{append-nil, length-append}
-use Rattle.std.proofs.lemmas.List.Sums.{fold_push}
+use Rattle.std.proofs.lemmas.List.Sums.{fold_push, fold-append}
 use Rattle.basket_read.specs.Cut.{Cut, cut_more, cut_at}
 use Rattle.basket_read.specs.Grammar.{FrontsAreGood}
 
@@ -60,3 +60,34 @@ size_after p c (x ∷ xs) = at (p x) (size_after p (cut (c.ended ++ c.last ∷ [
         → size (fold (cut_more p) (cond b (cut (c.ended ++ c.last ∷ []) []) (cut c.ended (c.last ++ x ∷ []))) xs) ≤ size c + suc (length xs)
     at true ended joined = let one = length-append c.ended (c.last ∷ []) in omega arith
     at false ended joined = let one = length-append c.last (x ∷ []) in omega arith
+
+-- ---- behind a separator
+
+-- parts that have ended before
+abbrev pub behind : List (List ℕ) → Cut → Cut
+behind ended k = cut (ended ++ k.ended) k.last
+
+fold_behind : (p : ℕ → Bool) (before ended : List (List ℕ)) (last xs : List ℕ)
+    → fold (cut_more p) (cut (before ++ ended) last) xs ≡ behind before (fold (cut_more p) (cut ended last) xs)
+fold_behind p before ended last [] = refl
+fold_behind p before ended last (x ∷ xs) =
+    at (p x)
+    (ap (λ e. fold (cut_more p) (cut e []) xs) (append_assoc before ended (last ∷ [])) ∙ fold_behind p before (ended ++ last ∷ []) [] xs)
+    (fold_behind p before ended (last ++ x ∷ []) xs)
+  where
+    at : (b : Bool)
+        → fold (cut_more p) (cut ((before ++ ended) ++ last ∷ []) []) xs ≡ behind before (fold (cut_more p) (cut (ended ++ last ∷ []) []) xs)
+        → fold (cut_more p) (cut (before ++ ended) (last ++ x ∷ [])) xs ≡ behind before (fold (cut_more p) (cut ended (last ++ x ∷ [])) xs)
+        → fold (cut_more p) (cond b (cut ((before ++ ended) ++ last ∷ []) []) (cut (before ++ ended) (last ++ x ∷ []))) xs
+        ≡ behind before (fold (cut_more p) (cond b (cut (ended ++ last ∷ []) []) (cut ended (last ++ x ∷ []))) xs)
+    at true ends joins = ends
+    at false ends joins = joins
+
+-- a text behind one that ends with a separator
+pub cut_behind : (p : ℕ → Bool) (front rest : List ℕ) → (cut_at p front).last ≡ [] → cut_at p (front ++ rest) ≡ behind (cut_at p front).ended (cut_at p rest)
+cut_behind p front rest whole =
+    let ended = (cut_at p front).ended in
+    fold-append (cut_more p) (cut [] []) front rest
+    ∙ ap (λ last. fold (cut_more p) (cut ended last) rest) whole
+    ∙ ap (λ e. fold (cut_more p) (cut e []) rest) (sym (append-nil ended))
+    ∙ fold_behind p ended [] [] rest

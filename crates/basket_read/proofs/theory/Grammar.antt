@@ -3,12 +3,13 @@ use Rattle.std.proofs.Common.{◌≡◌, ℕ, Bool, true, false, ◌&&◌, List,
 use Rattle.std.specs.List.{list_all}
 use Rattle.std.proofs.lemmas.Bool.{cases_Bool, and_parts, and_from}
 use Rattle.std.proofs.lemmas.List.{append-nil}
+use Rattle.std.proofs.lemmas.List.Folds.{list_all-append}
 use Rattle.basket_sets.proofs.theory.Numerals.{all_push}
 use Rattle.basket_read.specs.declared.fault.ReadFault.{ReadFault}
 use Rattle.basket_read.specs.Cut.{Cut, cut_at, parts_of}
 use Rattle.basket_read.specs.Fimi.{is_line_feed, or_else}
 use Rattle.basket_read.specs.Grammar.{fault_behind, FrontsAreGood, GoodIsFaultless, HasFault, FirstFaultIsExact}
-use Rattle.basket_read.proofs.theory.Cuts.{cut_ended, cut_joined}
+use Rattle.basket_read.proofs.theory.Cuts.{cut_ended, cut_joined, cut_behind}
 
 -- what a choice gave
 pub chosen : {S : Type 0} (s x : S) (b : Bool) → ◌≡◌ {A = Option S} (Some s) (cond b (Some x) None) → (b ≡ true) × (s ≡ x)
@@ -93,6 +94,37 @@ module _ (is_line : List ℕ → Bool) (fault_at : List ℕ → ℕ → ReadFaul
         first_fault_push text byte true faultless
         (ap (λ (k : Cut). list_all is_line (k.ended ++ k.last ∷ [])) (cut_ended is_line_feed text byte e)
         ∙ all_push is_line (so_far.ended ++ so_far.last ∷ []) [] ∙ ap (λ b. b && is_line []) (good-from_faultless text faultless) ∙ empty)
+
+  -- ---- behind whole lines
+
+  module _ (front : List ℕ) (whole : (cut_at is_line_feed front).last ≡ []) where
+    good_behind : good front ≡ true → (rest : List ℕ) → good (front ++ rest) ≡ good rest
+    good_behind well rest =
+        let lines = (cut_at is_line_feed front).ended in
+        let k = cut_at is_line_feed rest in
+        let lines_good = (and_parts (list_all is_line lines) _ (sym (list_all-append is_line lines ((cut_at is_line_feed front).last ∷ [])) ∙ well)).0 in
+        ap (λ (j : Cut). list_all is_line (j.ended ++ j.last ∷ [])) (cut_behind is_line_feed front rest whole)
+        ∙ ap (list_all is_line) (append_assoc lines k.ended (k.last ∷ []))
+        ∙ list_all-append is_line lines (k.ended ++ k.last ∷ [])
+        ∙ ap (λ b. b && good rest) lines_good
+
+    -- the fault of a byte behind the lines, as it is told without them
+    module _ (told : List ℕ → ℕ → ReadFault) (same : (before : List ℕ) (byte : ℕ) → fault_at (front ++ before) byte ≡ told before byte) where
+      fault_behind_lines : good front ≡ true → (before rest : List ℕ) → after (front ++ before) rest ≡ fault_behind good told before rest
+      fault_behind_lines well before [] = refl
+      fault_behind_lines well before (byte ∷ rest) =
+          let longer = append_assoc front before (byte ∷ []) in
+          λ i. found ((ap good longer ∙ good_behind well (before ++ byte ∷ [])) i) ((ap (λ l. after l rest) longer ∙ fault_behind_lines well (before ++ byte ∷ []) rest) i) (same before byte i)
+
+      -- the fault of the lines, else that of the rest
+      pub fault_of_both : (rest : List ℕ) → after [] (front ++ rest) ≡ or_else (after [] front) (fault_behind good told [] rest)
+      fault_of_both rest = at (after [] front) refl
+        where
+          at : (fault : Option ReadFault) → after [] front ≡ fault → after [] (front ++ rest) ≡ or_else (after [] front) (fault_behind good told [] rest)
+          at (Some fault) e = first_fault_stays front rest fault e ∙ ap (λ f. or_else f (fault_behind good told [] rest)) (sym e)
+          at None e =
+              first_fault_behind front rest e ∙ ap (λ l. after l rest) (sym (append-nil front)) ∙ fault_behind_lines (good-from_faultless front e) [] rest
+              ∙ ap (λ f. or_else f (fault_behind good told [] rest)) (sym e)
 
   -- ---- fronts
 
