@@ -61,6 +61,27 @@ REFUSED = (
     ("closed --min 1", "1 2 3 (1)|4 5 (1)|", f"line or record 2: {NO_SUBSET}"),
 )
 
+# How many lines a list has that several threads read, each a set of one item.
+LONG = 90_000
+
+# A line of a long list, what stands in it, and what is told.
+LONG_REFUSED = (
+    (1, "1 x (1)", f"line 1: {NO_BYTE}"),
+    (LONG, f"{LONG} x (1)", f"line {LONG}: {NO_BYTE}"),
+    (60_000, "4294967296 (1)", "line 60000: number above 4294967295"),
+    (60_000, "7 (1099511627776)", "line 60000: count above 1099511627775"),
+    (60_000, "7 (1) 2", "line 60000: byte 0x32 is no digit or blank"),
+    (60_000, "7", "line 60000: no count in parentheses"),
+)
+
+
+def long_list(odd: int = 0, line: str = "") -> bytes:
+    """A line for each item from 1 on, with its count, and one line that is another."""
+    lines = [f"{item} (1)" for item in range(1, LONG + 1)]
+    if odd:
+        lines[odd - 1] = line
+    return "".join(f"{line}\n" for line in lines).encode()
+
 
 class Counted(unittest.TestCase):
     """Questions to sets with their counts."""
@@ -95,3 +116,26 @@ class Counted(unittest.TestCase):
                 ended = run([*words.split(), *more], given)
                 said = "basket: more than 1 frequent itemsets\n"
                 self.assertEqual((ended.out, ended.said, ended.status), (b"", said, 5))
+
+    def test_several_threads_read_what_one_reads(self) -> None:
+        words = ["sets", "--min", "1", "--form", "counts", "--workers"]
+        for workers in (1, 2, 4, 7):
+            with self.subTest(workers=workers):
+                # The list is in the order of its report.
+                ended = run([*words, str(workers)], long_list())
+                self.assertEqual((ended.out, ended.said), (long_list(), ""))
+            for odd, line, told in LONG_REFUSED:
+                with self.subTest(workers=workers, line=line):
+                    ended = run([*words, str(workers)], long_list(odd, line))
+                    said = f"basket: {told}\n"
+                    self.assertEqual((ended.out, ended.said, ended.status), (b"", said, 3))
+
+    def test_the_first_fault_of_several_parts_is_told(self) -> None:
+        words = ["sets", "--min", "1", "--form", "counts", "--workers"]
+        # A count that is missing is told only if the text has no other fault.
+        for line, told in (("x", 40_000), ("7 (", 80_000)):
+            given = long_list(40_000, line).replace(b"80000 (1)", b"x")
+            for workers in (1, 2, 4):
+                with self.subTest(line=line, workers=workers):
+                    ended = run([*words, str(workers)], given)
+                    self.assertEqual(ended.said, f"basket: line {told}: {NO_BYTE}\n")

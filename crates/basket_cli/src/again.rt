@@ -96,7 +96,7 @@ pub fn asked_at<R: RandomSource + Threads + Sync>(
 ) -> Option<String> {
     let alloc = rt.alloc();
     let mut input = StdSource::new(File::open(rt, place.path?).ok()?);
-    let (sets, names) = read_asked(threads, alloc, place.layout, &mut input).ok()?;
+    let (sets, names) = read_asked(threads, alloc, place.layout, 1, &mut input).ok()?;
     let asked = asked_for(threads, alloc, sets).ok()?;
     let names = if place.layout.form.has_names() {
         Some(names)
