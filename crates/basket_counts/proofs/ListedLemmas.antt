@@ -6,9 +6,9 @@ use Rattle.std.proofs.lemmas.List.{map-append}
 use Rattle.basket_read.specs.declared.counted_line.CountedLine.{CountedLine}
 use Rattle.basket_read.specs.declared.fault.ReadFault.{ReadFault}
 use Rattle.basket_read.specs.declared.fault.ReadFault.TheVariants.{NoCount}
-use Rattle.basket_counts.specs.declared.listed.Listed.{Listed}
+use Rattle.basket_counts.specs.declared.listed_sets.ListedSets.{ListedSets}
 use Rattle.basket_counts.specs.Counts.{ListedSet, sets_among, counted_before, counts_among}
-use Rattle.basket_counts.specs.Listed.{lines_of, uncounted_at, first_uncounted, HasEntries}
+use Rattle.basket_counts.specs.ListedSets.{lines_of, uncounted_at, first_uncounted, HasEntries}
 
 uncounted_append : (entries more : List ListedSet) → first_uncounted (entries ++ more) ≡ option_or (first_uncounted entries) (first_uncounted more)
 uncounted_append [] more = refl
@@ -19,14 +19,14 @@ uncounted_append (entry ∷ entries) more = at (uncounted_at entry.count entry.l
     at None e = e
     at (Some line) e = refl
 
-pub joined : (listed later new : Listed) (entries more : List ListedSet) → HasEntries listed entries → HasEntries later more → new.lines.items ≡ listed.lines.items ++ later.lines.items
+pub joined : (listed later new : ListedSets) (entries more : List ListedSet) → HasEntries listed entries → HasEntries later more → new.lines.items ≡ listed.lines.items ++ later.lines.items
     → new.uncounted ≡ option_or listed.uncounted later.uncounted → HasEntries new (entries ++ more)
 joined listed later new entries more h k lines uncounted = record {
   lines = lines ∙ (λ i. h.lines i ++ k.lines i) ∙ sym (map-append _ entries more);
   uncounted = uncounted ∙ (λ i. option_or (h.uncounted i) (k.uncounted i)) ∙ sym (uncounted_append entries more);
 }
 
-pub added : (listed new : Listed) (entries : List ListedSet) (set : List ℕ) (count : Option ℕ) (line : ℕ) → HasEntries listed entries
+pub added : (listed new : ListedSets) (entries : List ListedSet) (set : List ℕ) (count : Option ℕ) (line : ℕ) → HasEntries listed entries
     → new.lines.items ≡ listed.lines.items ++ record { set = set; count = unwrap_or count 0; line = line } ∷ [] → new.uncounted ≡ option_or listed.uncounted (uncounted_at count line)
     → HasEntries new (entries ++ record { set = set; count = count; line = line } ∷ [])
 added listed new entries set count line h lines uncounted = record {
@@ -59,7 +59,7 @@ counts_are (entry ∷ entries) = ap (counted_before entry.set entry.count entry.
     at (Some count) None = refl
     at (Some count) (Some line) = refl
 
-module _ (listed : Listed) (entries : List ListedSet) (h : HasEntries listed entries) where
+module _ (listed : ListedSets) (entries : List ListedSet) (h : HasEntries listed entries) where
   pub sets_told : map (λ (line : CountedLine). line.set) listed.lines.items ≡ sets_among entries
   sets_told = ap (map (λ (line : CountedLine). line.set)) h.lines ∙ sets_are entries
 

@@ -10,12 +10,12 @@ use Rattle.basket_read.specs.declared.fault.ReadFault.TheVariants.{Byte}
 use Rattle.basket_read.specs.Cut.{Cut, cut_at}
 use Rattle.basket_read.specs.Fimi.{is_line_feed}
 use Rattle.basket_read.specs.Text.{Tells}
-use Rattle.basket_counts.specs.declared.listed.Listed.{Listed}
+use Rattle.basket_counts.specs.declared.listed_sets.ListedSets.{ListedSets}
 use Rattle.basket_counts.specs.declared.line.SetLine.{SetLine}
 use Rattle.basket_counts.specs.declared.text.SetText.{SetText}
 use Rattle.basket_counts.specs.Counts.{ListedSet, is_line, fault_at_from, fault_from, entry_of, entries_from}
 use Rattle.basket_counts.specs.Line.{line_state, line_at, said_at, digit_fault_in, IsLineSoFar}
-use Rattle.basket_counts.specs.Listed.{HasEntries}
+use Rattle.basket_counts.specs.ListedSets.{HasEntries}
 use Rattle.basket_counts.specs.Text.{IsTextSoFar}
 use Rattle.basket_read.proofs.theory.Cuts.{cut, cut_ended, cut_on, size_after}
 use Rattle.basket_counts.proofs.LineLemmas.{no_line_feed, line_says, digit_says}
@@ -68,7 +68,7 @@ module _ (text : SetText) (number : ℕ) (bytes : List ℕ) (t : IsTextSoFar tex
       ∙ (λ i. Some (cond (is_digit byte) (digit_fault_in (sym t.state i).tail (sym t.ended i) byte) (Byte (sym t.ended i) byte)))
 
   -- what the text says once its last line has ended
-  pub says_all : (listed : Listed) → ((entries : List ListedSet) → HasEntries text.listed entries → HasEntries listed (entries ++ said_at (line_state text.line) (text.ended + 1)))
+  pub says_all : (listed : ListedSets) → ((entries : List ListedSet) → HasEntries text.listed entries → HasEntries listed (entries ++ said_at (line_state text.line) (text.ended + 1)))
       → HasEntries listed (entries_from number (ended ++ last ∷ []))
   says_all listed more =
       subst (HasEntries listed)

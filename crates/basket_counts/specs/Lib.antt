@@ -1,6 +1,6 @@
 pub mod Counts
 pub mod Line
-pub mod Listed
+pub mod ListedSets
 pub mod Text
 pub mod Input
 pub mod Read

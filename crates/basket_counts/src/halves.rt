@@ -5,7 +5,7 @@ ghost use Rattle.basket_read.specs.Cut.{cut_at};
 ghost use Rattle.basket_read.specs.Fimi.{is_line_feed, MOST_BYTES};
 ghost use Rattle.basket_counts.specs.Text.{SaysFrom};
 
-use crate::listed::Listed;
+use crate::listed_sets::ListedSets;
 use crate::text::listed_in;
 use basket_read::{ReadFault, middle_of};
 use std::alloc::Global;
@@ -19,7 +19,7 @@ pub fn listed_shared<R: Threads + Sync>(
     before: u32,
     bytes: &[u8],
     workers: u32,
-) -> Result<Listed, ReadFault>
+) -> Result<ListedSets, ReadFault>
     requires { before + length bytes.now ≤ MOST_BYTES }
     ensures { SaysFrom (before + 1) bytes.now result }
 {
@@ -43,7 +43,7 @@ fn listed_halves<R: Threads + Sync>(
     front: &[u8],
     rest: &[u8],
     workers: u32,
-) -> (Result<Listed, ReadFault>, Result<Listed, ReadFault>)
+) -> (Result<ListedSets, ReadFault>, Result<ListedSets, ReadFault>)
     requires few { before + length front.now + length rest.now ≤ MOST_BYTES }
     requires several { 2 ≤ workers }
     ensures front { SaysFrom (before + 1) front.now result.0 }
@@ -53,11 +53,11 @@ fn listed_halves<R: Threads + Sync>(
     let others = workers - few;
     let (later, listed) = join(
         rt,
-        || -> Result<Listed, ReadFault>
+        || -> Result<ListedSets, ReadFault>
             requires { IsSync R.row × (before + length front.now + length rest.now ≤ MOST_BYTES) }
             ensures { SaysFrom (before + length (cut_at is_line_feed front.entry.now).ended + 1) rest.entry.now result }
         { listed_shared(rt, alloc, before + line_feeds(front), rest, others) },
-        || -> Result<Listed, ReadFault>
+        || -> Result<ListedSets, ReadFault>
             requires { IsSync R.row × (before + length front.now ≤ MOST_BYTES) }
             ensures { SaysFrom (before + 1) front.entry.now result }
         { listed_shared(rt, alloc, before, front, few) },

@@ -5,7 +5,7 @@ mod halves;
 mod input;
 pub mod laws;
 mod line;
-mod listed;
+mod listed_sets;
 mod read;
 mod tail;
 mod text;

@@ -7,7 +7,7 @@ ghost use Rattle.basket_counts.specs.Read.{Says, Answers};
 
 use crate::halves::listed_shared;
 use crate::input::SetInput;
-use crate::listed::Listed;
+use crate::listed_sets::ListedSets;
 use basket_read::{CountedLine, ReadFault};
 use basket_sets::Itemset;
 use basket_stream::Source;
@@ -58,7 +58,7 @@ fn read_listed<R: Threads + Sync, S: Source>(
     alloc: Global,
     reader: &mut S,
     workers: u32,
-) -> Result<Listed, ReadFault>
+) -> Result<ListedSets, ReadFault>
     requires { S.has_failed reader.old ≡ false }
     ensures exact { S.has_failed reader.new ≡ false → IfSome (S.left reader.old) (λ bytes. Says result bytes) }
     ensures failed { S.has_failed reader.new ≡ true → result ≡ Err Read }
@@ -74,7 +74,7 @@ fn listed_of<R: Threads + Sync>(
     alloc: Global,
     input: &SetInput,
     workers: u32,
-) -> Result<Listed, ReadFault>
+) -> Result<ListedSets, ReadFault>
     requires { length input.now.bytes.items ≤ MOST_BYTES }
     ensures says { (all : List ℕ) → input.now.bytes.items ≡ take MOST_BYTES all → input.now.is_longer ≡ nat_lt MOST_BYTES (length all) → Says result all }
     ensures not_read { result ≢ Err Read }

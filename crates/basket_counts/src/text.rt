@@ -5,11 +5,11 @@ ghost use Rattle.basket_read.specs.Fimi.{MOST_BYTES};
 ghost use Rattle.basket_read.specs.Text.{Tells};
 ghost use Rattle.basket_counts.specs.Counts.{ListedSet, fault_from};
 ghost use Rattle.basket_counts.specs.Line.{line_state, line_at, said_at, digit_fault_in};
-ghost use Rattle.basket_counts.specs.Listed.{HasEntries};
+ghost use Rattle.basket_counts.specs.ListedSets.{HasEntries};
 ghost use Rattle.basket_counts.specs.Text.{IsTextSoFar, SaysFrom};
 
 use crate::line::SetLine;
-use crate::listed::Listed;
+use crate::listed_sets::ListedSets;
 use basket_read::ReadFault;
 use basket_sets::Itemset;
 use std::alloc::{AllocError, Global};
@@ -20,7 +20,7 @@ use std::alloc::{AllocError, Global};
 pub struct SetText {
     alloc: Global,
     ended: u32,
-    listed: Listed,
+    listed: ListedSets,
     line: SetLine,
 }
 
@@ -32,7 +32,7 @@ impl SetText {
         SetText {
             alloc,
             ended: before,
-            listed: Listed::new(alloc),
+            listed: ListedSets::new(alloc),
             line: SetLine::new(alloc),
         }
     }
@@ -89,7 +89,7 @@ impl SetText {
 }
 
 /// What a text says that follows so many lines, or its first fault.
-pub fn listed_in(alloc: Global, before: u32, bytes: &[u8]) -> Result<Listed, ReadFault>
+pub fn listed_in(alloc: Global, before: u32, bytes: &[u8]) -> Result<ListedSets, ReadFault>
     requires { before + length bytes.now ≤ MOST_BYTES }
     ensures { SaysFrom (before + 1) bytes.now result }
 {

@@ -3,7 +3,7 @@ use Rattle.std.proofs.lemmas.Result.{err_from_is_err_and}
 use Rattle.basket_read.specs.Cut.{cut_at, parts_of}
 use Rattle.basket_read.specs.Fimi.{is_line_feed}
 use Rattle.basket_counts.specs.Counts.{entries_from}
-use Rattle.basket_counts.specs.Listed.{HasEntries}
+use Rattle.basket_counts.specs.ListedSets.{HasEntries}
 use Rattle.basket_counts.specs.Text.{SaysFrom}
 use Rattle.basket_counts.proofs.HalvesLemmas.{front_fault, rest_fault, faultless, entries_of_both}
 use Rattle.basket_counts.proofs.halves.+halves.Goals as goal

@@ -3,7 +3,7 @@ use Rattle.std.proofs.lemmas.Result.{err_from_is_err_and}
 use Rattle.basket_read.specs.declared.fault.ReadFault.TheVariants.{Read}
 use Rattle.basket_read.specs.Text.{Tells}
 use Rattle.basket_counts.specs.Counts.{fault_from}
-use Rattle.basket_counts.specs.Listed.{HasEntries}
+use Rattle.basket_counts.specs.ListedSets.{HasEntries}
 use Rattle.basket_counts.proofs.ReadLemmas.{not_found, faulty, faultless, too_long}
 use Rattle.basket_counts.proofs.read.listed_of.Goals as goal
 

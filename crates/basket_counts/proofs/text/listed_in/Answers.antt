@@ -5,7 +5,7 @@ use Rattle.basket_read.specs.Cut.{parts_of}
 use Rattle.basket_read.specs.Fimi.{is_line_feed}
 use Rattle.basket_read.specs.Text.{Tells}
 use Rattle.basket_counts.specs.Counts.{fault_from, entries_from}
-use Rattle.basket_counts.specs.Listed.{HasEntries}
+use Rattle.basket_counts.specs.ListedSets.{HasEntries}
 use Rattle.basket_counts.specs.Text.{IsTextSoFar}
 use Rattle.basket_counts.proofs.TextLemmas.{run_taken, few_lines, fewer_lines, says_all, up_to, fault_of_all}
 use Rattle.basket_counts.proofs.text.listed_in.Goals as goal

@@ -2,7 +2,7 @@
 use Rattle.std.specs.Prelude.{◌≡◌, ℕ, List, [], ◌∷◌, map, Option, Some, None, unwrap_or}
 use Rattle.std.specs.Option.{option_or}
 use Rattle.basket_read.specs.declared.counted_line.CountedLine.{CountedLine}
-use Rattle.basket_counts.specs.declared.listed.Listed.{Listed}
+use Rattle.basket_counts.specs.declared.listed_sets.ListedSets.{ListedSets}
 use Rattle.basket_counts.specs.Counts.{ListedSet}
 
 -- the entries as lines, with the count 0 for one that is missing
@@ -20,6 +20,6 @@ first_uncounted [] = None
 first_uncounted (entry ∷ entries) = option_or (uncounted_at entry.count entry.line) (first_uncounted entries)
 
 -- what was read is these entries
-pub record HasEntries (listed : Listed) (entries : List ListedSet) : Type 0 where
+pub record HasEntries (listed : ListedSets) (entries : List ListedSet) : Type 0 where
   pub lines : listed.lines.items ≡ lines_of entries
   pub uncounted : listed.uncounted ≡ first_uncounted entries

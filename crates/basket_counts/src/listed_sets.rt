@@ -2,7 +2,7 @@
 ghost use Rattle.std.specs.Prelude.{◌≡◌, ◌≢◌, List, [], ◌∷◌, ◌++◌, map, Ok, Err, IfOk, OnOk};
 ghost use Rattle.basket_read.specs.declared.fault.ReadFault.TheVariants.{Read};
 ghost use Rattle.basket_counts.specs.Counts.{ListedSet, sets_among, counts_among};
-ghost use Rattle.basket_counts.specs.Listed.{HasEntries, uncounted_at};
+ghost use Rattle.basket_counts.specs.ListedSets.{HasEntries, uncounted_at};
 ghost use Rattle.basket_counts.specs.Read.{Answers};
 
 use basket_read::{CountedLine, ReadFault};
@@ -12,7 +12,7 @@ use std::alloc::{AllocError, Global};
 /// What lines say: their sets with the counts, 0 for one that is missing, and the first line
 /// without one.
 #[derive(Debug, Drop)]
-pub struct Listed {
+pub struct ListedSets {
     lines: Vec<CountedLine>,
     uncounted: Option<u32>,
 }
@@ -35,11 +35,11 @@ fn sets_of(alloc: Global, lines: Vec<CountedLine>) -> Result<Vec<Itemset>, Alloc
     lines.into_iter().map(|line| line.set).collect(alloc)
 }
 
-impl Listed {
+impl ListedSets {
     pub fn new(alloc: Global) -> Self
         ensures { HasEntries result [] }
     {
-        Listed {
+        ListedSets {
             lines: Vec::new(alloc),
             uncounted: None,
         }
@@ -61,7 +61,7 @@ impl Listed {
     }
 
     /// Adds what the lines after these say.
-    pub fn append(&mut self, mut later: Listed) -> Result<(), AllocError>
+    pub fn append(&mut self, mut later: ListedSets) -> Result<(), AllocError>
         ensures { (entries more : List ListedSet) → HasEntries self.old entries → HasEntries later more →
             OnOk result (HasEntries self.new (entries ++ more)) }
     {
@@ -75,7 +75,7 @@ impl Listed {
         ensures answers { (entries : List ListedSet) → HasEntries self entries → Answers result (Ok (sets_among entries)) }
         ensures not_read { result ≢ Err Read }
     {
-        let Listed { lines, .. } = self;
+        let ListedSets { lines, .. } = self;
         Ok(sets_of(alloc, lines)?)
     }
 
@@ -84,7 +84,7 @@ impl Listed {
         ensures answers { (entries : List ListedSet) → HasEntries self entries → Answers result (counts_among entries) }
         ensures not_read { result ≢ Err Read }
     {
-        let Listed { lines, uncounted } = self;
+        let ListedSets { lines, uncounted } = self;
         match uncounted {
             Some(line) => Err(ReadFault::NoCount { line }),
             None => Ok(lines),

@@ -1,7 +1,7 @@
 use Rattle.std.proofs.Common.{[], ◌∷◌, ◌++◌, ap, ◌∙◌}
 use Rattle.std.specs.Option.{option_or}
 use Rattle.basket_counts.proofs.ListedLemmas.{added}
-use Rattle.basket_counts.proofs.listed.Listed.add.Goals as goal
+use Rattle.basket_counts.proofs.listed_sets.ListedSets.add.Goals as goal
 
 pub returns : goal.returns
 returns c = λ entries h.

@@ -1,5 +1,5 @@
 use Rattle.basket_counts.proofs.ListedLemmas.{joined}
-use Rattle.basket_counts.proofs.listed.Listed.append.Goals as goal
+use Rattle.basket_counts.proofs.listed_sets.ListedSets.append.Goals as goal
 
 pub returns : goal.returns
 returns c = λ entries more h k.
