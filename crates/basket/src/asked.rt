@@ -3,7 +3,7 @@ ghost use Rattle.std.specs.Prelude.{◌≡◌, true, false, Err, IfOk, IfSome, m
 ghost use Rattle.basket.specs.Contents.{AskedAnswers, asked_in, named_sets_of};
 
 use basket_core::{Itemset, Source};
-use basket_counts::read_sets_shared;
+use basket_counts::read_sets;
 use basket_csv::{Dialect, Names, read_named_counts};
 use basket_plan::Layout;
 use basket_read::{CountedLine, ReadFault};
@@ -28,7 +28,7 @@ pub fn read_asked<R: RandomSource + Threads + Sync, S: Source>(
     if layout.form.has_names() {
         return read_named_sets(rt, alloc, layout.separator, reader);
     }
-    match read_sets_shared(rt, alloc, reader, workers) {
+    match read_sets(rt, alloc, reader, workers) {
         Ok(sets) => Ok((sets, Names::none(alloc))),
         Err(fault) => Err(fault),
     }

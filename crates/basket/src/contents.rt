@@ -8,7 +8,7 @@ ghost use Rattle.basket.specs.Contents.{Answers, FailsIn, by_names, by_numbers, 
 ghost use Rattle.basket_report.specs.Style.{wording_of};
 
 use basket_core::{Database, Source};
-use basket_counts::read_counts_shared;
+use basket_counts::read_counts;
 use basket_csv::{Dialect, Names, read_baskets, read_named_counts, read_single};
 use basket_parts::CombinedCounts;
 use basket_plan::{Form, Layout};
@@ -86,7 +86,7 @@ fn read_combined<R: Threads + Sync, S: Source>(
     ensures failed { S.has_failed reader.new ≡ true → result ≡ Err ReadFault.Read }
     ensures read_is_failed { result ≡ Err ReadFault.Read → S.has_failed reader.new ≡ true }
 {
-    match read_counts_shared(rt, alloc, reader, workers) {
+    match read_counts(rt, alloc, reader, workers) {
         Ok(lines) => CombinedCounts::of(alloc, lines),
         Err(fault) => Err(fault),
     }

@@ -11,4 +11,4 @@ mod tail;
 mod text;
 pub mod worked;
 
-pub use read::{read_counts_shared, read_sets_shared};
+pub use read::{read_counts, read_sets};

@@ -16,7 +16,7 @@ use std::thread::Threads;
 
 /// Reads a list of sets to its end, one set a line, by this many workers, and returns the sets in
 /// its order. Their counts may be there or not, and are ignored.
-pub fn read_sets_shared<R: Threads + Sync, S: Source>(
+pub fn read_sets<R: Threads + Sync, S: Source>(
     rt: &R,
     alloc: Global,
     reader: &mut S,
@@ -35,7 +35,7 @@ pub fn read_sets_shared<R: Threads + Sync, S: Source>(
 
 /// Reads a list of counted sets to its end, one set a line, by this many workers, and returns the
 /// sets with their counts, in its order.
-pub fn read_counts_shared<R: Threads + Sync, S: Source>(
+pub fn read_counts<R: Threads + Sync, S: Source>(
     rt: &R,
     alloc: Global,
     reader: &mut S,

@@ -4,7 +4,7 @@ use Rattle.basket_counts.specs.Counts.{entries_of, sets_said}
 use Rattle.basket_counts.specs.Read.{Answers}
 use Rattle.std.proofs.lemmas.Result.{err_from_is_err_and}
 use Rattle.basket_counts.proofs.ReadLemmas.{of_known, fault_told}
-use Rattle.basket_counts.proofs.read.read_sets_shared.Goals as goal
+use Rattle.basket_counts.proofs.read.read_sets.Goals as goal
 
 pub returns-in_err-listed-clause-exact : goal.returns-in_err-listed-clause-exact
 returns-in_err-listed-clause-exact g c = λ working.
