@@ -3,6 +3,8 @@ mod KeyLemmas
 mod RecentLemmas
 mod FieldLemmas
 mod RecordLemmas
+mod PlainLemmas
+mod LaneLemmas
 mod GatheredLemmas
 mod RowLemmas
 mod BasketLemmas
