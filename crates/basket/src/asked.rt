@@ -3,19 +3,21 @@ ghost use Rattle.std.specs.Prelude.{◌≡◌, true, false, Err, IfOk, IfSome, m
 ghost use Rattle.basket.specs.Contents.{AskedAnswers, asked_in, named_sets_of};
 
 use basket_core::{Itemset, Source};
-use basket_counts::read_sets;
+use basket_counts::read_sets_shared;
 use basket_csv::{Dialect, Names, read_named_counts};
 use basket_plan::Layout;
 use basket_read::{CountedLine, ReadFault};
 use std::alloc::{AllocError, Global};
 use std::random::RandomSource;
+use std::thread::Threads;
 
-/// Reads sets to their end, as numbers or as CSV names like the layout's items, with the names of
-/// their items; numbers have none. Their counts, if they have any, are ignored.
-pub fn read_asked<R: RandomSource, S: Source>(
+/// Reads sets to their end, as numbers by this many workers or as CSV names like the layout's items,
+/// with the names of their items; numbers have none. Their counts, if they have any, are ignored.
+pub fn read_asked<R: RandomSource + Threads + Sync, S: Source>(
     rt: &R,
     alloc: Global,
     layout: Layout,
+    workers: u32,
     reader: &mut S,
 ) -> Result<(Vec<Itemset>, Names), ReadFault>
     requires { S.has_failed reader.old ≡ false }
@@ -26,7 +28,7 @@ pub fn read_asked<R: RandomSource, S: Source>(
     if layout.form.has_names() {
         return read_named_sets(rt, alloc, layout.separator, reader);
     }
-    match read_sets(alloc, reader) {
+    match read_sets_shared(rt, alloc, reader, workers) {
         Ok(sets) => Ok((sets, Names::none(alloc))),
         Err(fault) => Err(fault),
     }

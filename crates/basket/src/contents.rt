@@ -8,7 +8,7 @@ ghost use Rattle.basket.specs.Contents.{Answers, FailsIn, by_names, by_numbers, 
 ghost use Rattle.basket_report.specs.Style.{wording_of};
 
 use basket_core::{Database, Source};
-use basket_counts::read_counts;
+use basket_counts::read_counts_shared;
 use basket_csv::{Dialect, Names, read_baskets, read_named_counts, read_single};
 use basket_parts::CombinedCounts;
 use basket_plan::{Form, Layout};
@@ -27,8 +27,8 @@ pub enum Contents {
 }
 
 impl Contents {
-    /// Reads an input to its end, FIMI by this many workers. In CSV the known names have the first
-    /// numbers.
+    /// Reads an input to its end, FIMI and counted sets by this many workers. In CSV the known names
+    /// have the first numbers.
     pub fn read<R: RandomSource + Threads + Sync, S: Source>(
         rt: &R,
         alloc: Global,
@@ -58,7 +58,7 @@ impl Contents {
                 known,
             )),
             Form::Single => named(read_single(rt, alloc, reader, dialect, known)),
-            Form::Counts => counted(read_combined(alloc, reader)),
+            Form::Counts => counted(read_combined(rt, alloc, reader, workers)),
             Form::CsvCounts => named_counts(read_named_combined(rt, alloc, reader, dialect, known)),
         }
     }
@@ -74,14 +74,19 @@ pub fn style_of(names: &Option<Names>, separator: u8) -> Style<'_>
     }
 }
 
-/// Reads counted sets to their end, and merges equal ones.
-fn read_combined<S: Source>(alloc: Global, reader: &mut S) -> Result<CombinedCounts, ReadFault>
+/// Reads counted sets to their end, by this many workers, and merges equal ones.
+fn read_combined<R: Threads + Sync, S: Source>(
+    rt: &R,
+    alloc: Global,
+    reader: &mut S,
+    workers: u32,
+) -> Result<CombinedCounts, ReadFault>
     requires { S.has_failed reader.old ≡ false }
     ensures exact { S.has_failed reader.new ≡ false → IfSome (S.left reader.old) (λ bytes. Answers result (where_read combined_of (counts_of bytes))) }
     ensures failed { S.has_failed reader.new ≡ true → result ≡ Err ReadFault.Read }
     ensures read_is_failed { result ≡ Err ReadFault.Read → S.has_failed reader.new ≡ true }
 {
-    match read_counts(alloc, reader) {
+    match read_counts_shared(rt, alloc, reader, workers) {
         Ok(lines) => CombinedCounts::of(alloc, lines),
         Err(fault) => Err(fault),
     }

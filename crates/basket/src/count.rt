@@ -74,7 +74,7 @@ fn counts<R: RandomSource + Threads + Sync, S: Source, T: Source>(
     requires reader { T.has_failed reader.old ≡ false }
     ensures { MakesCounts plan.now.layout (S.left sets.old) (S.has_failed sets.new) (T.left reader.old) (T.left reader.new) (T.has_failed reader.new) result }
 {
-    let (sets, names) = match read_asked(rt, alloc, plan.layout(), sets) {
+    let (sets, names) = match read_asked(rt, alloc, plan.layout(), plan.workers(), sets) {
         Ok(asked) => asked,
         Err(fault) => return Err(RunFault::Sets(fault)),
     };
