@@ -3,8 +3,6 @@ mod KeyLemmas
 mod RecentLemmas
 mod FieldLemmas
 mod RecordLemmas
-mod PlainLemmas
-mod LaneLemmas
 mod GatheredLemmas
 mod RowLemmas
 mod BasketLemmas

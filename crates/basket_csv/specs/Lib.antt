@@ -2,9 +2,7 @@ pub mod Field
 pub mod Names
 pub mod Key
 pub mod Recent
-pub mod Record
 pub mod Records
-pub mod Plain
 pub mod Csv
 pub mod Row
 pub mod Input

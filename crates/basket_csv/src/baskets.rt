@@ -1,6 +1,6 @@
 //! Records that have a basket each.
 ghost use Rattle.std.specs.Prelude.{◌≡◌, ◌≤◌, List, ℕ, [], ◌++◌, length, drop, MatchResult, IfOk, IfErr, IfSome, false};
-ghost use Rattle.basket_csv.specs.Record.{fields_of};
+ghost use Rattle.csv.specs.Records.{fields_of};
 ghost use Rattle.basket_read.specs.Fimi.{if_light, MOST_BYTES};
 ghost use Rattle.basket_csv.specs.RecordCollector.{Start};
 ghost use Rattle.basket_csv.specs.Csv.{is_text, weight_of, fields_before, basket_fault, baskets_in, all_names, with_names, say_baskets, behind_header, first_number};
@@ -14,16 +14,16 @@ use crate::dialect::Dialect;
 use crate::field::trim;
 use crate::gathered::GatheredBaskets;
 use crate::names::{Names, Numbering};
-use crate::record::Record;
 use crate::row::{number_names, text_at};
 use crate::weight::weight_in;
 use basket_read::ReadFault;
 use basket_sets::Database;
+use csv::ByteRecord;
 use std::alloc::Global;
 use std::hash::BuildHasher;
 
 /// The weight of a record, if it has one: that in its first field, if one is asked for, else 1.
-fn weight_of(weighted: bool, nth: u32, row: &Record<'_>) -> Result<Option<u32>, ReadFault>
+fn weight_of(weighted: bool, nth: u32, row: &ByteRecord) -> Result<Option<u32>, ReadFault>
     ensures weight { MatchResult result
         (λ weight. (weight ≡ weight_of weighted (fields_of row.now)) × (is_text (fields_of row.now) ≡ is_text (drop (fields_before weighted) (fields_of row.now))))
         (λ fault. (fault ≡ ReadFault.NotText nth) × (is_text (fields_of row.now) ≡ false)) }
@@ -53,7 +53,7 @@ impl<S: BuildHasher> RecordCollector for Baskets<S> {
 
     ghost has_read = { λ baskets start rows. HasRead baskets start rows };
 
-    fn add(&mut self, nth: u32, row: &Record<'_>) -> Result<(), ReadFault> {
+    fn add(&mut self, nth: u32, row: &ByteRecord) -> Result<(), ReadFault> {
         let weight = weight_of(self.weighted, nth, row)?;
         let first = usize::from(self.weighted);
         if !number_names(row, first, &mut self.names, &mut self.numbers)? {

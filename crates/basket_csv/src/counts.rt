@@ -12,10 +12,10 @@ use crate::collector::{RecordCollector, add_all};
 use crate::dialect::Dialect;
 use crate::field::trim;
 use crate::names::{Names, Numbering};
-use crate::record::Record;
 use crate::row::{number_names, text_at};
 use basket_read::{CountedLine, ReadFault};
 use basket_sets::{Itemset, parse_number};
+use csv::ByteRecord;
 use std::alloc::Global;
 use std::hash::BuildHasher;
 
@@ -37,7 +37,7 @@ impl<S: BuildHasher> RecordCollector for Counts<S> {
 
     ghost has_read = { λ counts start rows. HasCounts counts start rows };
 
-    fn add(&mut self, nth: u32, row: &Record<'_>) -> Result<(), ReadFault> {
+    fn add(&mut self, nth: u32, row: &ByteRecord) -> Result<(), ReadFault> {
         let Some(text) = text_at(row, 0) else {
             return Err(ReadFault::NotText { nth });
         };

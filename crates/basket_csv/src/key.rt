@@ -17,7 +17,6 @@ const FRONT_FACTOR: u64 = 0x9e37_79b9_7f4a_7c15;
 const BACK_FACTOR: u64 = 0xd1b5_4a32_d192_ed03;
 
 /// The hash of a name of any length.
-#[inline(always)]
 fn hash_of(name: &[u8]) -> u64 {
     let mut hasher = FoldHasher::default();
     hasher.write(name);

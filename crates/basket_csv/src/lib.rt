@@ -11,16 +11,13 @@ mod gathered;
 mod ids;
 mod input;
 mod key;
-mod lanes;
 pub mod laws;
 mod names;
 mod pairs;
 mod read;
 mod recent;
-mod record;
 mod records;
 mod row;
-mod text;
 mod weight;
 pub mod worked;
 

@@ -1,7 +1,7 @@
 //! The texts and the names in a record.
 ghost use Rattle.std.specs.Prelude.{◌≡◌, ◌≤◌, drop, map, fold, MatchOption, IfOk, IfErr, IfSome, true, false, ℕ};
 ghost use Rattle.std.specs.Str.{is_utf8};
-ghost use Rattle.basket_csv.specs.Record.{fields_of};
+ghost use Rattle.csv.specs.Records.{fields_of};
 ghost use Rattle.basket_csv.specs.Csv.{field_in, is_text, names_of};
 ghost use Rattle.basket_csv.specs.Names.{number_in, with_name};
 ghost use Rattle.basket_csv.specs.Row.{IsKnownField};
@@ -9,13 +9,13 @@ ghost use Rattle.basket_csv.specs.Row.{IsKnownField};
 use crate::field::{is_name, text_of, trim};
 use crate::key::Key;
 use crate::names::Numbering;
-use crate::record::Record;
 use basket_read::ReadFault;
+use csv::ByteRecord;
 use std::hash::BuildHasher;
 
 /// The text of a field, if it is UTF-8. It is empty if there is no such field.
 #[inline]
-pub fn text_at<'r>(row: &'r Record<'_>, place: usize) -> Option<&'r str>
+pub fn text_at(row: &ByteRecord, place: usize) -> Option<&str>
     ensures { let field = field_in (fields_of row.now) place in
         MatchOption result (is_utf8 field ≡ false) (λ text. (text.now ≡ field) × (is_utf8 field ≡ true)) }
 {
@@ -29,7 +29,7 @@ pub fn text_at<'r>(row: &'r Record<'_>, place: usize) -> Option<&'r str>
 /// recently.
 #[inline]
 pub fn known_number<S: BuildHasher>(
-    row: &Record<'_>,
+    row: &ByteRecord,
     place: usize,
     names: &Numbering<S>,
 ) -> Option<u32>
@@ -44,7 +44,7 @@ pub fn known_number<S: BuildHasher>(
 }
 
 /// Whether all fields from a place on are UTF-8.
-pub fn is_text_from(row: &Record<'_>, first: usize) -> bool
+pub fn is_text_from(row: &ByteRecord, first: usize) -> bool
     ensures { result ≡ is_text (drop first (fields_of row.now)) }
 {
     for place in first..row.len() {
@@ -58,7 +58,7 @@ pub fn is_text_from(row: &Record<'_>, first: usize) -> bool
 /// Numbers the names in the fields from a place on. If one of these is not UTF-8, or after an
 /// `Err`, `names` and `numbers` are lost.
 pub fn number_names<S: BuildHasher>(
-    row: &Record<'_>,
+    row: &ByteRecord,
     first: usize,
     names: &mut Numbering<S>,
     numbers: &mut Vec<u32>,

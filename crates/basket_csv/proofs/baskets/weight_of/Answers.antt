@@ -1,5 +1,5 @@
 use Rattle.std.proofs.Common.{refl}
-use Rattle.basket_csv.specs.Record.{fields_of}
+use Rattle.csv.specs.Records.{fields_of}
 use Rattle.basket_csv.proofs.BasketLemmas.{no_text_first}
 use Rattle.basket_csv.proofs.RowLemmas.{nothing_is_text}
 use Rattle.basket_csv.proofs.baskets.weight_of.Goals as goal

@@ -1,4 +1,4 @@
-use Rattle.std.proofs.Common.{arith, take}
+use Rattle.std.proofs.Common.{arith, length, take}
 use Rattle.std.proofs.lemmas.List.{length-take}
 use Rattle.basket_read.specs.Fimi.{basket_of_numbers}
 use Rattle.basket_csv.proofs.GatheredLemmas.{kept_are, one_basket, one_each}

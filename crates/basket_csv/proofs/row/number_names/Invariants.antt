@@ -1,5 +1,5 @@
 use Rattle.std.proofs.Common.{◌≡◌, ◌++◌, drop, map, fold}
-use Rattle.basket_csv.specs.Record.{fields_of}
+use Rattle.csv.specs.Records.{fields_of}
 use Rattle.basket_csv.specs.Csv.{is_text, names_of}
 use Rattle.basket_csv.specs.Names.{number_in, with_name}
 use Rattle.basket_csv.proofs.row.number_names.Given as goal

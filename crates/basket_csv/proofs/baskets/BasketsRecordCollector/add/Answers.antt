@@ -1,5 +1,5 @@
 use Rattle.std.proofs.Common.{◌++◌, arith, refl, sym, subst, ◌∙◌}
-use Rattle.basket_csv.specs.Record.{fields_of}
+use Rattle.csv.specs.Records.{fields_of}
 use Rattle.basket_csv.specs.Csv.{all_names, basket_of}
 use Rattle.basket_csv.specs.Names.{in_order}
 use Rattle.basket_csv.proofs.GatheredLemmas.{kept_are, one_basket, one_each}

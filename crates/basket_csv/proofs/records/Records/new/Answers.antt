@@ -1,9 +1,22 @@
-use Rattle.std.proofs.Common.{false, arith}
-use Rattle.basket_csv.proofs.RecordLemmas.{few_of_text}
+use Rattle.std.proofs.Common.{inr, ap, ◌∙◌, arith}
+use Rattle.csv.specs.Machine.{ends_at_end}
+use Rattle.csv.specs.Reading.{strip_bom, builder_is_flexible, builder_trim, builder_names_headers}
+use Rattle.basket_csv.proofs.RecordLemmas.{stripped, few_left, known_bytes}
 use Rattle.basket_csv.proofs.records.Records.new.Goals as goal
 
 pub returns-clause-reading : goal.returns-clause-reading
-returns-clause-reading c = record {
-  reader = λ e. absurd cc;
-  few = let few = few_of_text c.args.separator false c.args.bytes.now c.requires in omega (arith, few);
-}
+returns-clause-reading c =
+    let fr = c.from_reader-reader.ensures in
+    let begins = ap ends_at_end fr.state in
+    record {
+      flexible = fr.flexible ∙ ap builder_is_flexible c.flexible.ensures;
+      trim = fr.trim ∙ ap builder_trim c.flexible.ensures ∙ ap builder_trim c.has_headers.ensures ∙ ap builder_trim c.delimiter.ensures ∙ c.new.ensures.trim;
+      ready = inr (inr (fr.has_headers ∙ ap builder_names_headers c.flexible.ensures ∙ ap builder_names_headers c.has_headers.ensures, fr.headers));
+      begins = begins;
+      known = known_bytes _ (strip_bom c.args.bytes.now) fr.source;
+      few =
+          let some = few_left c.from_reader-reader.result (strip_bom c.args.bytes.now) begins fr.source in
+          let less = stripped c.args.bytes.now in
+          let few = c.requires in
+          omega (arith, some, less, few);
+    }

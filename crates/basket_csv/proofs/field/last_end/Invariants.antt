@@ -1,6 +1,0 @@
-use Rattle.std.proofs.Common.{◌≡◌, ℕ, ◌<◌, get_or, false}
-use Rattle.basket_csv.specs.Plain.{ends_field}
-use Rattle.basket_csv.proofs.field.last_end.Given as goal
-
-abbrev pub invariant-loop-place : goal.invariant-loop-place
-invariant-loop-place l = (k : ℕ) → k < l.place → ends_field l.separator (get_or l.text k 0) ≡ false
