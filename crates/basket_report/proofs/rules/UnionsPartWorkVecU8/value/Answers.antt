@@ -4,7 +4,7 @@ use Rattle.basket_rules.specs.Confident.{rules_in}
 use Rattle.basket_report.specs.Report.{HasSoFar, rules_report_of}
 use Rattle.basket_report.specs.Style.{wording_of}
 use Rattle.basket_report.proofs.RuleLemmas.{more_rules}
-use Rattle.basket_report.proofs.rules.Unions.report.Goals as goal
+use Rattle.basket_report.proofs.rules.UnionsPartWorkVecU8.value.Goals as goal
 
 pub loop-number-preserved : goal.loop-number-preserved
 loop-number-preserved c =
