@@ -128,7 +128,9 @@ class Counted(unittest.TestCase):
                 with self.subTest(workers=workers, line=line):
                     ended = run([*words, str(workers)], long_list(odd, line))
                     said = f"basket: {told}\n"
-                    self.assertEqual((ended.out, ended.said, ended.status), (b"", said, 3))
+                    self.assertEqual(
+                        (ended.out, ended.said, ended.status), (b"", said, 3)
+                    )
 
     def test_the_first_fault_of_several_parts_is_told(self) -> None:
         words = ["sets", "--min", "1", "--form", "counts", "--workers"]
