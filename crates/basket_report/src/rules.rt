@@ -46,8 +46,8 @@ impl<'a> PartWork<Vec<u8>> for Unions<'a> {
 
     ghost are_tools = { λ work lookups. Unit {0} };
 
-    ghost is_value = { λ work part text. let start = λ at. shard_start at work.parts (length work.frequent.now.sets) in
-        ReportsUnions (wording_of work.style) work.frequent.now work.confidence (start part) (start (part + 1)) text.items };
+    ghost is_value = { λ work part text. ReportsUnions (wording_of work.style) work.frequent.now work.confidence
+        (shard_start part work.parts (length work.frequent.now.sets)) (shard_start (part + 1) work.parts (length work.frequent.now.sets)) text.items };
 
     fn parts(&self) -> u32 {
         self.parts
