@@ -1,4 +1,4 @@
-"""The names of code that documents cite are defined in the code."""
+"""The names of code and of its files that documents cite are there."""
 
 import re
 import unittest
@@ -40,9 +40,12 @@ def defined() -> set[str]:
     return found.union(path.stem for path in crates.glob("*/proofs/*.antt"))
 
 
+def text_of(page: str) -> str:
+    return (ROOT / "docs" / f"{page}.md").read_text(encoding="utf-8")
+
+
 def cited_in(page: str) -> list[str]:
-    text = (ROOT / "docs" / f"{page}.md").read_text(encoding="utf-8")
-    return re.findall(r"`([A-Za-z_]\w*(?:::\w+)*)`", text)
+    return re.findall(r"`([A-Za-z_]\w*(?:::\w+)*)`", text_of(page))
 
 
 class CitedNames(unittest.TestCase):
@@ -56,3 +59,9 @@ class CitedNames(unittest.TestCase):
             lost = {name for name in cited if set(name.split("::")) - known}
             with self.subTest(page=page):
                 self.assertEqual(lost, set())
+
+    def test_each_file_of_code_that_a_page_cites_is_there(self) -> None:
+        there = {path.name for path in (ROOT / "crates").glob("*/src/**/*.rt")}
+        cited = set(re.findall(r"`(\w+\.rt)`", text_of("DECISIONS")))
+        self.assertGreater(len(cited), 50)
+        self.assertEqual(cited - there, set())
