@@ -64,7 +64,7 @@ REFUSED = (
 # How many lines a list has that several threads read, each a set of one item.
 LONG = 90_000
 
-# A line of a long list, what stands in it, and what is told.
+# A line of a long list, what stands in it, and what is reported.
 LONG_REFUSED = (
     (1, "1 x (1)", f"line 1: {NO_BYTE}"),
     (LONG, f"{LONG} x (1)", f"line {LONG}: {NO_BYTE}"),
@@ -134,7 +134,7 @@ class Counted(unittest.TestCase):
 
     def test_the_first_fault_of_several_parts_is_told(self) -> None:
         words = ["sets", "--min", "1", "--form", "counts", "--workers"]
-        # A count that is missing is told only if the text has no other fault.
+        # A count that is missing is reported only if the text has no other fault.
         for line, told in (("x", 40_000), ("7 (", 80_000)):
             given = long_list(40_000, line).replace(b"80000 (1)", b"x")
             for workers in (1, 2, 4):
