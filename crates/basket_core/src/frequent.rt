@@ -36,7 +36,7 @@ impl Frequent {
         ensures { IfOk result (λ frequent. frequent ≡ listing_of coded.now) }
     {
         let mut sets = gathered(alloc, classes)?;
-        sets.sort(alloc, greatest_item(coded))?;
+        sets.sort(alloc)?;
         Ok(Frequent {
             sets,
             total: coded.total(),
@@ -55,7 +55,7 @@ impl Frequent {
         ensures { IfOk result (λ frequent. frequent ≡ listing_of coded.now) }
     {
         let mut sets = gathered(alloc, classes)?;
-        sets.sort_shared(rt, alloc, greatest_item(coded), threads)?;
+        sets.sort_shared(rt, alloc, threads)?;
         Ok(Frequent {
             sets,
             total: coded.total(),
@@ -117,9 +117,4 @@ fn count_sets(classes: &[CountedSets]) -> usize {
         count = count.saturating_add(class.len());
     }
     count
-}
-
-/// The greatest frequent item, or 0 if there is none.
-fn greatest_item(coded: &Coded) -> u32 {
-    coded.items().iter().copied().max().unwrap_or(0)
 }

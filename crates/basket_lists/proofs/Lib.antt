@@ -1,7 +1,10 @@
 pub mod theory
-mod PackedLemmas
+mod NumberOrder
+mod DigitLemmas
+mod BetweenLemmas
 mod WordLemmas
-mod OrderLemmas
+mod PlaceLemmas
 mod ListLemmas
+mod OrderLemmas
 mod PlainLemmas
 mod WithoutLemmas

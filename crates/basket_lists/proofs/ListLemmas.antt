@@ -1,23 +1,112 @@
--- Lists of sets, some of which are words.
-use Rattle.std.proofs.Common.{◌≡◌, ℕ, ◌+◌, ◌<◌, List, [], ◌∷◌, ◌++◌, length, map, get_or, take, sym, ap, ◌∙◌, subst, arith}
-use Rattle.std.proofs.lemmas.List.{get_or_append_left, get_or-map, length-map, take_more, map-append}
+-- Lists of words, some of which stand for sets that are kept elsewhere.
+use Rattle.std.proofs.Common.{◌≡◌, ℕ, ◌+◌, ◌-◌, ◌^◌, ◌<◌, false, List, [], ◌∷◌, ◌++◌, length, map, get_or, take, drop, cond, ltb, refl, sym, ap, ◌∙◌, subst, inl, inr, arith}
+use Rattle.std.specs.Prelude.{All}
+use Rattle.std.proofs.lemmas.Bool.{cases_lt, false_from_ne_true, lt-ltb, ltb-true}
+use Rattle.std.proofs.lemmas.List.{get_or-map, get_or_append_left, length-append, map-append, take-append-le, take_all}
+use Rattle.std.specs.List.{AllByRecursion}
+use Rattle.std.proofs.lemmas.List.Elements.{All-push, recursion_from_All}
+use Rattle.std.specs.List.Sorted.{IsPermutation}
+use Rattle.std.proofs.lemmas.List.Sorted.{All-permutation, IsPermutation-map, length_permutation}
+use Rattle.std.proofs.Math.Seq.{get_or-append_seam}
 use Rattle.basket_lists.specs.declared.packed.Packed.{Packed}
-use Rattle.basket_lists.specs.Packed.{bits_of, unpacked}
-use Rattle.basket_lists.specs.CountedSets.{set_at}
-use Rattle.basket_lists.proofs.PackedLemmas.{items_in-rises}
+use Rattle.basket_lists.specs.Packed.{Coding, IsCoding, IsKept, IsPacked, kept, unpacked}
+use Rattle.basket_lists.proofs.BetweenLemmas.{items_rise}
 use Rattle.basket_sets.specs.declared.counted.Counted.{Counted}
 use Rattle.basket_sets.specs.Itemset.{IsRising}
+use Rattle.basket_sets.proofs.theory.Rising.{has-from_Member}
 
--- a set that is kept as a word rises
-pub word_rises : (known : List ℕ) (words : List Packed) (plain : List Counted) (place : ℕ) → IsRising known → place < length words → IsRising (set_at (map (unpacked known) words ++ plain) place)
-word_rises known words plain place up inside =
-    let none : Counted = record { set = []; count = 0 } in
-    let word = get_or words place (record { word = 0 }) in
-    let here : get_or (map (unpacked known) words ++ plain) place none ≡ unpacked known word =
-    get_or_append_left (map (unpacked known) words) plain none place (omega (arith, inside, length-map words (unpacked known)))
-    ∙ get_or-map (unpacked known) words place (record { word = 0 }) none inside in
-    subst (λ (c : Counted). IsRising c.set) (sym here) (items_in-rises known (bits_of known word) up)
+-- ---- the set of a word
 
--- one word more is one set more
-pub word_more : (known : List ℕ) (words : List Packed) (i : ℕ) (d : Packed) → i < length words → map (unpacked known) (take (i + 1) words) ≡ map (unpacked known) (take i words) ++ unpacked known (get_or words i d) ∷ []
-word_more known words i d inside = ap (map (unpacked known)) (take_more words i d inside) ∙ map-append (unpacked known) (take i words) (get_or words i d ∷ [])
+pub kept_here : (coding : Coding) (plain : List Counted) (packed : Packed) → packed.word < 2 ^ 127 → kept coding plain packed ≡ unpacked coding packed
+kept_here coding plain packed less = ap (λ b. cond b (unpacked coding packed) (get_or plain (packed.word - 2 ^ 127) (record { set = []; count = 0 }))) (lt-ltb packed.word (2 ^ 127) less)
+
+pub kept_elsewhere : (coding : Coding) (plain : List Counted) (packed : Packed) (place : ℕ) → packed.word ≡ 2 ^ 127 + place → kept coding plain packed ≡ get_or plain place (record { set = []; count = 0 })
+kept_elsewhere coding plain packed place is =
+    let more : ltb packed.word (2 ^ 127) ≡ false = false_from_ne_true _ (λ h. let less = ltb-true packed.word (2 ^ 127) h in omega (arith, is, less)) in
+    ap (λ b. cond b (unpacked coding packed) (get_or plain (packed.word - 2 ^ 127) (record { set = []; count = 0 }))) more
+    ∙ ap (λ n. get_or plain n (record { set = []; count = 0 })) (let e : packed.word - 2 ^ 127 ≡ place = omega (arith, is) in e)
+
+pub IsKept-here : (coding : Coding) (plain : List Counted) (packed : Packed) → IsPacked coding packed → IsKept coding plain packed
+IsKept-here coding plain packed is = record { small = omega (arith, is.here); here = λ less. is; elsewhere = λ more. absurd (omega (arith, is.here, more)) }
+
+-- a set of a word rises
+pub packed_rises : (coding : Coding) (packed : Packed) → IsCoding coding → IsPacked coding packed → IsRising (unpacked coding packed).set
+packed_rises coding packed is set = items_rise coding.items _ is.rises set.code.rises (λ place m. set.code.below place (has-from_Member _ place m))
+
+-- ---- more sets elsewhere
+
+module _ (coding : Coding) (plain more : List Counted) where
+  pub IsKept-more : (packed : Packed) → IsKept coding plain packed → IsKept coding (plain ++ more) packed
+  IsKept-more packed is = record { small = is.small; here = is.here; elsewhere = λ above. omega (arith, is.elsewhere above, length-append plain more) }
+
+  pub kept_more : (packed : Packed) → IsKept coding plain packed → kept coding (plain ++ more) packed ≡ kept coding plain packed
+  kept_more packed is = elim (cases_lt packed.word (2 ^ 127)) [
+    | inl less ↦ kept_here coding (plain ++ more) packed less ∙ sym (kept_here coding plain packed less)
+    | inr above ↦
+        (let place = packed.word - 2 ^ 127 in
+        let same : packed.word ≡ 2 ^ 127 + place = omega (arith, above) in
+        kept_elsewhere coding (plain ++ more) packed place same ∙ get_or_append_left plain more (record { set = []; count = 0 }) place (is.elsewhere above)
+        ∙ sym (kept_elsewhere coding plain packed place same))
+  ]
+
+  pub words_kept : (words : List Packed) → All (IsKept coding plain) words → All (IsKept coding (plain ++ more)) words
+  words_kept words all k d inside = IsKept-more (get_or words k d) (all k d inside)
+
+  pub sets_kept : (words : List Packed) → All (IsKept coding plain) words → map (kept coding (plain ++ more)) words ≡ map (kept coding plain) words
+  sets_kept words all = same_words words (recursion_from_All (IsKept coding plain) words all)
+    where
+      same_words : (words : List Packed) → AllByRecursion (IsKept coding plain) words → map (kept coding (plain ++ more)) words ≡ map (kept coding plain) words
+      same_words [] all = refl
+      same_words (word ∷ words) all = ap (λ c. c ∷ map (kept coding (plain ++ more)) words) (kept_more word all.0) ∙ ap (λ l. kept coding plain word ∷ l) (same_words words all.1)
+
+-- a set that is added elsewhere
+module _ (coding : Coding) (plain : List Counted) (words : List Packed) (one : Counted) (word : Packed) (all : All (IsKept coding plain) words)
+    (at : word.word ≡ 2 ^ 127 + length plain) (few : length plain < 2 ^ 63) where
+  pub words_pushed : All (IsKept coding (plain ++ one ∷ [])) (words ++ word ∷ [])
+  words_pushed = All-push (IsKept coding (plain ++ one ∷ [])) words word (words_kept coding plain (one ∷ []) words all) (record {
+    small = omega (arith, at, few);
+    here = λ less. absurd (omega (arith, at, less));
+    elsewhere = λ above. omega (arith, at, length-append plain (one ∷ []));
+  })
+
+  pub sets_pushed : map (kept coding (plain ++ one ∷ [])) (words ++ word ∷ []) ≡ map (kept coding plain) words ++ one ∷ []
+  sets_pushed =
+      map-append (kept coding (plain ++ one ∷ [])) words (word ∷ [])
+      ∙ ap (λ l. l ++ kept coding (plain ++ one ∷ []) word ∷ []) (sets_kept coding plain (one ∷ []) words all)
+      ∙ ap (λ c. map (kept coding plain) words ++ c ∷ []) (kept_elsewhere coding (plain ++ one ∷ []) word (length plain) at ∙ get_or-append_seam plain one [] (record { set = []; count = 0 }))
+
+-- ---- the set at a place
+
+module _ (coding : Coding) (plain : List Counted) (words : List Packed) (place : ℕ) (word : Packed) (inside : place < length words) (is : word ≡ get_or words place word) where
+  pub set_here : word.word < 2 ^ 127 → get_or (map (kept coding plain) words) place (record { set = []; count = 0 }) ≡ unpacked coding word
+  set_here less = get_or-map (kept coding plain) words place word (record { set = []; count = 0 }) inside ∙ ap (kept coding plain) (sym is) ∙ kept_here coding plain word less
+
+  pub set_elsewhere : (at : ℕ) → word.word ≡ 2 ^ 127 + at → get_or (map (kept coding plain) words) place (record { set = []; count = 0 }) ≡ get_or plain at (record { set = []; count = 0 })
+  set_elsewhere at same = get_or-map (kept coding plain) words place word (record { set = []; count = 0 }) inside ∙ ap (kept coding plain) (sym is) ∙ kept_elsewhere coding plain word at same
+
+  pub word_kept : All (IsKept coding plain) words → IsKept coding plain word
+  word_kept all = subst (IsKept coding plain) (sym is) (all place word inside)
+
+-- ---- words that are written back after a sort
+
+module _ (coding : Coding) (plain : List Counted) (words moved : List Packed) (size : ℕ) (whole : size ≡ length words) (is : IsPermutation words moved) where
+  written : take size (moved ++ drop (length moved) words) ≡ moved
+  written =
+      let same : size ≡ length moved = whole ∙ sym (length_permutation words moved is) in
+      take-append-le size moved (drop (length moved) words) (omega (arith, same)) ∙ take_all size moved (omega (arith, same))
+
+  pub words_moved : All (IsKept coding plain) words → All (IsKept coding plain) (take size (moved ++ drop (length moved) words))
+  words_moved all = subst (All (IsKept coding plain)) (sym written) (All-permutation (IsKept coding plain) words moved is all)
+
+  pub sets_moved : IsPermutation (map (kept coding plain) words) (map (kept coding plain) (take size (moved ++ drop (length moved) words)))
+  sets_moved = subst (λ l. IsPermutation (map (kept coding plain) words) (map (kept coding plain) l)) (sym written) (IsPermutation-map (kept coding plain) words moved is)
+
+-- ---- the sets of another list that is kept alike
+
+module _ (coding other : Coding) (plain : List Counted) (same : coding ≡ other) where
+  -- words of sets that are not kept elsewhere
+  pub words_alike : (words : List Packed) → All (IsKept other []) words → All (IsKept coding plain) words
+  words_alike words all = words_kept coding [] plain words (subst (λ k. All (IsKept k []) words) (sym same) all)
+
+  pub sets_alike : (words : List Packed) → All (IsKept other []) words → map (kept coding plain) words ≡ map (kept other []) words
+  sets_alike words all = sets_kept coding [] plain words (subst (λ k. All (IsKept k []) words) (sym same) all) ∙ ap (λ k. map (kept k []) words) same

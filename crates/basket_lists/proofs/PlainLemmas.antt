@@ -1,13 +1,13 @@
--- Sets whose items stand one behind another.
-use Rattle.std.proofs.Common.{◌≡◌, ℕ, zero, suc, ◌+◌, ◌<◌, ◌≤◌, List, [], ◌∷◌, ◌++◌, length, map, drop, get_or, refl, sym, ap, ◌∙◌, subst, zero-add, arith}
+-- Sets whose items are concatenated.
+use Rattle.std.proofs.Common.{◌≡◌, ℕ, ◌+◌, ◌<◌, ◌≤◌, List, [], ◌∷◌, ◌++◌, length, drop, get_or, refl, sym, ap, ◌∙◌, subst, arith, Result, Ok, Err, OnErr}
 use Rattle.std.specs.Prelude.{All}
 use Rattle.std.specs.List.{AllByRecursion, slice_range}
-use Rattle.std.proofs.lemmas.List.{take-append-le, drop_at, length-append, length-map, map-append, get_or-map}
+use Rattle.std.proofs.lemmas.List.{take-append-le, drop_at, length-append, map-append, get_or-map}
 use Rattle.std.proofs.lemmas.List.Elements.{All-push, recursion_from_All}
 use Rattle.std.proofs.lemmas.Slice.{between_is, between_to_end}
 use Rattle.basket_lists.specs.declared.set_span.SetSpan.{SetSpan}
 use Rattle.basket_lists.specs.CountedSets.{set_at}
-use Rattle.basket_lists.specs.Plain.{IsPlaceOfSet, behind, placed, placed_sets}
+use Rattle.basket_lists.specs.Plain.{IsPlaceOfSet, placed, placed_sets}
 use Rattle.basket_sets.specs.declared.counted.Counted.{Counted}
 use Rattle.basket_sets.specs.Itemset.{IsRising}
 
@@ -69,34 +69,8 @@ placed_sets_pushed items set places place all at =
 pub placed_at : (items : List ℕ) (places : List SetSpan) (place : ℕ) (d : SetSpan) → place < length places → set_at (placed_sets items places) place ≡ slice_range items (get_or places place d).start (get_or places place d).end
 placed_at items places place d inside = ap (λ (c : Counted). c.set) (get_or-map (placed items) places place d (record { set = []; count = 0 }) inside)
 
--- ---- the sets of another list
+-- ---- an error that changes nothing
 
-range_behind : (items more : List ℕ) (start end from to : ℕ) → from ≡ length items + start → to ≡ length items + end → slice_range (items ++ more) from to ≡ slice_range more start end
-range_behind [] more start end from to at until = ap (λ n. slice_range more n to) (at ∙ zero-add start) ∙ ap (slice_range more start) (until ∙ zero-add end)
-range_behind (item ∷ items) more start end zero to at until = absurd (omega arith)
-range_behind (item ∷ items) more start end (suc from) zero at until = absurd (omega arith)
-range_behind (item ∷ items) more start end (suc from) (suc to) at until =
-    between_is (item ∷ (items ++ more)) (suc from) (suc to) ∙ sym (between_is (items ++ more) from to) ∙ range_behind items more start end from to (omega arith) (omega arith)
-
-module _ (items more : List ℕ) (start : ℕ) (at : start ≡ length items) where
-  behind_is : (place : SetSpan) → slice_range (items ++ more) (start + place.start) (start + place.end) ≡ slice_range more place.start place.end
-  behind_is place = range_behind items more place.start place.end (start + place.start) (start + place.end) (ap (λ n. n + place.start) at) (ap (λ n. n + place.end) at)
-
-  pub places_behind_are : (places : List SetSpan) → All (IsPlaceOfSet more) places → All (IsPlaceOfSet (items ++ more)) (map (behind start) places)
-  places_behind_are places all k d here =
-      let inside : k < length places = omega (arith, here, length-map places (behind start)) in
-      let place = get_or places k none in
-      let is = all k none inside in
-      subst (IsPlaceOfSet (items ++ more)) (sym (get_or-map (behind start) places k none d inside)) (record {
-        within = record { ordered = omega (arith, is.within.ordered); within = omega (arith, is.within.within, length-append items more, at) };
-        rises = subst IsRising (sym (behind_is place)) is.rises;
-      })
-    where
-      none : SetSpan
-      none = record { start = 0; end = 0; count = 0 }
-
-  pub placed_sets_behind : (places : List SetSpan) → placed_sets (items ++ more) (map (behind start) places) ≡ placed_sets more places
-  placed_sets_behind [] = refl
-  placed_sets_behind (place ∷ places) =
-      ap (λ (set : List ℕ). let c : Counted = record { set = set; count = place.count } in c ∷ placed_sets (items ++ more) (map (behind start) places)) (behind_is place)
-      ∙ ap (λ sets. placed more place ∷ sets) (placed_sets_behind places)
+pub on_any_error : {T E : Type 0} {P : Type 0} (result : Result T E) → P → OnErr result P
+on_any_error (Ok value) holds = tt
+on_any_error (Err error) holds = holds

@@ -1,29 +1,31 @@
--- The known items, and the bits that they have.
-use Rattle.std.specs.Prelude.{◌≡◌, ◌≤◌, ◌<◌, ◌-◌, ◌^◌, ℕ, List, drop, length, slice_index}
-use Rattle.std.specs.Int.{bit_at}
+-- Words of sets with one item more or less.
+use Rattle.std.specs.Prelude.{◌≡◌, ◌≤◌, ◌<◌, ◌+◌, ◌-◌, ◌*◌, ◌/◌, ◌%◌, ◌^◌, ℕ}
 use Rattle.basket_lists.specs.declared.packed.Packed.{Packed}
-use Rattle.basket_lists.specs.Packed.{IsPacked, count_of, items_in, unpacked}
-use Rattle.basket_lists.specs.declared.known.TheConstants.{MOST_ITEMS}
-use Rattle.basket_sets.specs.Itemset.{IsRising, with_item}
+use Rattle.basket_lists.specs.Packed.{Coding, code_of, count_of, digits, number_of, size_of}
+use Rattle.basket_sets.proofs.theory.Members.{Member}
 
--- the bit of an item in a word: the first item has the highest
-pub record IsBitOf (known : List ℕ) (item bit : ℕ) : Type 0 where
-  pub place : ℕ
-  pub is : slice_index known place ≡ item
-  pub within : place < length known
-  pub power : bit ≡ 2 ^ (127 - place)
-  pub few : length known ≤ MOST_ITEMS
-  pub rises : IsRising known
+-- so many of the last digits are greater than another, and those before them less
+pub record IsBetween (bits size number place above : ℕ) : Type 0 where
+  pub few : above ≤ size
+  pub less : (other : ℕ) → Member other (digits bits (size - above) (number / 2 ^ (above * bits))) → other < place
+  pub greater : (other : ℕ) → Member other (digits bits above number) → place < other
 
--- a packed set that is another with one more item, and has a count of its own
-pub record IsLonger (known : List ℕ) (packed : Packed) (item count : ℕ) (longer : Packed) : Type 0 where
-  pub is : IsPacked known longer
-  pub set : (unpacked known longer).set ≡ with_item item (unpacked known packed).set
-  pub counted : count_of known longer ≡ count
+-- the number with one more digit, before so many last bits
+abbrev pub longer_number : ℕ → ℕ → ℕ → ℕ → ℕ
+longer_number bits number place last = (number / 2 ^ last * 2 ^ bits + place) * 2 ^ last + number % 2 ^ last
 
--- the lower bits of a word, without those of so many items
-pub record IsRestOf (known : List ℕ) (word count rest : ℕ) : Type 0 where
-  pub end : ℕ
-  pub below : rest < 2 ^ end
-  pub alike : (i : ℕ) → i < end → bit_at word i ≡ bit_at rest i
-  pub items : drop count (items_in known word) ≡ items_in known rest
+-- the number without the digit before so many last bits
+abbrev pub shorter_number : ℕ → ℕ → ℕ → ℕ
+shorter_number bits number last = number / 2 ^ last / 2 ^ bits * 2 ^ last + number % 2 ^ last
+
+-- a word has room for a set of this size, the number of its places, and a count
+pub record FitsWord (coding : Coding) (size number count : ℕ) : Type 0 where
+  pub sized : size ≤ coding.most
+  pub numbered : number < 2 ^ (size * coding.item_bits)
+  pub counted : count < 2 ^ coding.count_bits
+
+pub record IsWordOf (coding : Coding) (size number count : ℕ) (packed : Packed) : Type 0 where
+  pub sized : size_of coding (code_of coding packed) ≡ size
+  pub numbered : number_of coding (code_of coding packed) ≡ number
+  pub counted : count_of coding packed ≡ count
+  pub here : packed.word < 2 ^ 127

@@ -1,5 +1,4 @@
 pub mod Packed
-pub mod HalfWords
 pub mod Known
 pub mod Plain
 pub mod CountedSets

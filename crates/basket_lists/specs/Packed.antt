@@ -1,53 +1,87 @@
--- Sets with their counts as words.
-use Rattle.std.specs.Prelude.{◌≡◌, ◌≤◌, ◌<◌, ◌+◌, ◌-◌, ◌/◌, ◌%◌, ◌^◌, ◌==◌, ℕ, Bool, true, List, [], ◌∷◌, bit_and, count_ones, length, slice_index_or, if◌then◌else◌, nat_lt, nat_le}
-use Rattle.std.specs.Int.{bit_at}
+-- Sets of known items with their counts as words.
+use Rattle.std.specs.Prelude.{◌≡◌, ◌≤◌, ◌<◌, ◌+◌, ◌-◌, ◌*◌, ◌/◌, ◌%◌, ◌^◌, ℕ, zero, suc, List, [], ◌∷◌, ◌++◌, length, map, slice_index_or, if◌then◌else◌, nat_lt}
 use Rattle.basket_lists.specs.declared.packed.Packed.{Packed}
-use Rattle.basket_lists.specs.declared.known.TheConstants.{MOST_ITEMS}
 use Rattle.basket_sets.specs.declared.counted.Counted.{Counted}
+use Rattle.basket_sets.specs.Itemset.{AllBelow, IsRising, with_item}
 
--- those of the known items whose bits are ones; the last item has the lowest bit
-abbrev pub items_in : List ℕ → ℕ → List ℕ
-items_in [] bits = []
-items_in (item ∷ items) bits = if bit_at bits (length items) == 1 then item ∷ items_in items bits else items_in items bits
+-- how sets are put into words: the items that are known, the bits of a place among them, how many
+-- items a word takes at most, and the bits of its count
+pub record Coding : Type 0 where
+  pub items : List ℕ
+  pub item_bits : ℕ
+  pub most : ℕ
+  pub count_bits : ℕ
 
--- how many of the 128 bits of a word are those of the count: the lowest, below one for each known item
-abbrev pub count_bits : List ℕ → ℕ
-count_bits known = 128 - length known
+-- the items rise, each place has its bits, and a word has room: the count is the lowest of its bits, from
+-- bit 121 on is the size, and between them are the places
+pub record IsCoding (coding : Coding) : Type 0 where
+  pub rises : IsRising coding.items
+  pub places : length coding.items ≤ 2 ^ coding.item_bits
+  pub bits : coding.item_bits ≤ 64
+  pub counts : coding.count_bits ≤ 64
+  pub room : coding.most * coding.item_bits + coding.count_bits ≤ 121
+  pub sizes : coding.most < 64
 
--- the word in which the bits of all known items are ones
-abbrev pub items_mask : List ℕ → ℕ
-items_mask known = 2 ^ 128 - 2 ^ count_bits known
+-- the digits of a number, of so many bits each, the highest first
+abbrev pub digits : ℕ → ℕ → ℕ → List ℕ
+digits bits zero number = []
+digits bits (suc size) number = digits bits size (number / 2 ^ bits) ++ number % 2 ^ bits ∷ []
 
--- the bits of the items, and the count
-abbrev pub bits_of : List ℕ → Packed → ℕ
-bits_of known packed = packed.word / 2 ^ count_bits known
+-- the bits above the count: the size of the set, and the number whose digits are the places of its items
+abbrev pub code_of : Coding → Packed → ℕ
+code_of coding packed = packed.word / 2 ^ coding.count_bits
 
-abbrev pub count_of : List ℕ → Packed → ℕ
-count_of known packed = packed.word % 2 ^ count_bits known
+abbrev pub size_of : Coding → ℕ → ℕ
+size_of coding code = code / 2 ^ (121 - coding.count_bits)
+
+abbrev pub number_of : Coding → ℕ → ℕ
+number_of coding code = code % 2 ^ (121 - coding.count_bits)
+
+-- the places of the items of a code
+abbrev pub places_of : Coding → ℕ → List ℕ
+places_of coding code = digits coding.item_bits (size_of coding code) (number_of coding code)
+
+-- the items at places of a list
+abbrev pub items_at : List ℕ → List ℕ → List ℕ
+items_at items places = map (λ place. slice_index_or items place 0) places
+
+abbrev pub set_of : Coding → ℕ → List ℕ
+set_of coding code = items_at coding.items (places_of coding code)
+
+abbrev pub count_of : Coding → Packed → ℕ
+count_of coding packed = packed.word % 2 ^ coding.count_bits
 
 -- the set with its count
-abbrev pub unpacked : List ℕ → Packed → Counted
-unpacked known packed = record { set = items_in known (bits_of known packed); count = count_of known packed }
+abbrev pub unpacked : Coding → Packed → Counted
+unpacked coding packed = record { set = set_of coding (code_of coding packed); count = count_of coding packed }
 
--- a word of known items, of which there are some, whose count has up to 64 bits
-pub record IsPacked (known : List ℕ) (packed : Packed) : Type 0 where
-  pub some : 0 < length known
-  pub few : length known ≤ MOST_ITEMS
-  pub word : packed.word < 2 ^ 128
-  pub counted : count_of known packed < 2 ^ 64
+-- the code is that of a set: its places rise among the items
+pub record IsCode (coding : Coding) (code : ℕ) : Type 0 where
+  pub size : size_of coding code ≤ coding.most
+  pub number : number_of coding code < 2 ^ (size_of coding code * coding.item_bits)
+  pub rises : IsRising (places_of coding code)
+  pub below : AllBelow (length coding.items) (places_of coding code)
 
--- whether a set comes before another in report order, or is the same: it is smaller, or of the same
--- size with higher bits, where the mask has the bits of the items
-abbrev pub comes_before : ℕ → Packed → Packed → Bool
-comes_before mask packed other =
-    if count_ones (bit_and packed.word mask) == count_ones (bit_and other.word mask)
-    then nat_le (bit_and other.word mask) (bit_and packed.word mask)
-    else nat_lt (count_ones (bit_and packed.word mask)) (count_ones (bit_and other.word mask))
+-- a word of a set of known items
+pub record IsPacked (coding : Coding) (packed : Packed) : Type 0 where
+  pub code : IsCode coding (code_of coding packed)
+  pub here : packed.word < 2 ^ 127
 
--- each set comes before the next
-abbrev pub AreInOrder : ℕ → List Packed → Type 0
-AreInOrder mask sets = (k : ℕ) (none : Packed) → k + 1 < length sets → comes_before mask (slice_index_or sets k none) (slice_index_or sets (k + 1) none) ≡ true
+-- a packed set that is another with one more item, and has a count of its own
+pub record IsLonger (coding : Coding) (packed : Packed) (item count : ℕ) (longer : Packed) : Type 0 where
+  pub is : IsPacked coding longer
+  pub set : set_of coding (code_of coding longer) ≡ with_item item (set_of coding (code_of coding packed))
+  pub counted : count_of coding longer ≡ count
 
--- the set at a place has these bits, below which so many are those of the count
-abbrev pub HasBits : ℕ → List Packed → ℕ → ℕ → Type 0
-HasBits count sets place bits = (none : Packed) → (place < length sets) × ((slice_index_or sets place none).word / 2 ^ count ≡ bits)
+-- the set at a place has this code
+abbrev pub HasCode : ℕ → List Packed → ℕ → ℕ → Type 0
+HasCode bits sets place code = (none : Packed) → (place < length sets) × ((slice_index_or sets place none).word / 2 ^ bits ≡ code)
+
+-- the set of a word: from 2 ^ 127 on it is kept in another list
+abbrev pub kept : Coding → List Counted → Packed → Counted
+kept coding plain packed = if nat_lt packed.word (2 ^ 127) then unpacked coding packed else slice_index_or plain (packed.word - 2 ^ 127) (record { set = []; count = 0 })
+
+pub record IsKept (coding : Coding) (plain : List Counted) (packed : Packed) : Type 0 where
+  pub small : packed.word < 2 ^ 127 + 2 ^ 64
+  pub here : packed.word < 2 ^ 127 → IsPacked coding packed
+  pub elsewhere : 2 ^ 127 ≤ packed.word → packed.word - 2 ^ 127 < length plain

@@ -1,5 +1,5 @@
 -- Sets whose items are concatenated in one list.
-use Rattle.std.specs.Prelude.{◌≤◌, ◌+◌, ℕ, List, length, map}
+use Rattle.std.specs.Prelude.{◌≤◌, ℕ, List, length, map}
 use Rattle.std.specs.List.{slice_range}
 use Rattle.basket_lists.specs.declared.set_span.SetSpan.{SetSpan}
 use Rattle.basket_sets.specs.declared.counted.Counted.{Counted}
@@ -21,7 +21,3 @@ placed items place = record { set = slice_range items place.start place.end; cou
 
 abbrev pub placed_sets : List ℕ → List SetSpan → List Counted
 placed_sets items places = map (placed items) places
-
--- the same place where so many items stand before those of its list
-abbrev pub behind : ℕ → SetSpan → SetSpan
-behind start place = record { start = start + place.start; end = start + place.end; count = place.count }

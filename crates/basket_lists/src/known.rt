@@ -1,80 +1,110 @@
 //! The items that sets are known to have.
-ghost use Rattle.std.specs.Prelude.{◌≡◌, ◌<◌, ◌≤◌, ◌+◌, ◌-◌, ◌*◌, ◌++◌, ◌^◌, ◌/◌, ◌%◌, [], IfSome, IsTrue, drop, length, map, slice_index_or, take};
-ghost use Rattle.basket_lists.specs.Known.{IsBitOf, IsLonger};
-ghost use Rattle.basket_lists.specs.Packed.{IsPacked, bits_of, count_bits, items_in, items_mask, unpacked};
-ghost use Rattle.basket_sets.specs.Itemset.{AllBelow, rising};
+ghost use Rattle.std.specs.Prelude.{◌≡◌, ◌<◌, ◌≤◌, ◌-◌, ◌^◌, ◌%◌, [], IfOk, IfSome, IsTrue, length, map, slice_index_or, take};
+ghost use Rattle.basket_lists.specs.Packed.{IsCoding, IsLonger, IsPacked, code_of, digits, number_of, size_of, unpacked};
+ghost use Rattle.basket_lists.specs.Known.{FitsWord, IsBetween, IsWordOf, longer_number};
+ghost use Rattle.basket_sets.specs.Itemset.{AllBelow, IsRising, rising};
 
 mod without;
 
-use crate::packed::{Packed, WORD};
+use crate::packed::{Packed, SIZE_AT};
 use basket_sets::{Itemset, is_rising};
 use std::alloc::{AllocError, Global};
 use std::marker::Model;
 
-/// How many items are known at most, each with a bit of its own.
+/// A set that is kept as a word has no more items.
 pub const MOST_ITEMS: usize = 120;
 
-/// Up to 120 items in rising order. None are known if there are more, or if a word has too few bits
-/// beside theirs for the counts.
+/// How many items a word takes at most, whatever they are.
+const MOST_SIZE: u32 = 63;
+
+/// Items in rising order, and how sets of them are put into words.
 #[derive(Debug, Drop)]
 pub struct KnownItems {
     items: Vec<u32>,
-    /// The highest bits of a word, one for each item. Those below are the count.
-    mask: u128,
+    /// The places of items in that list, each by its lowest bits. Another item may have the same.
+    slots: Vec<usize>,
+    /// How many bits of a word a place has.
+    item_bits: u32,
+    /// How many items a word takes.
+    most: u32,
+    /// How many bits of a word are those of the count.
+    count_bits: u32,
 }
 
 impl Model for KnownItems {
-    ghost use Rattle.std.specs.Prelude.{ℕ, List, ◌≡◌, ◌≤◌, length};
-    ghost use Rattle.basket_lists.specs.declared.known.TheConstants.{MOST_ITEMS};
-    ghost use Rattle.basket_lists.specs.Packed.{items_mask};
-    ghost use Rattle.basket_sets.specs.Itemset.{IsRising};
+    ghost use Rattle.basket_lists.specs.Packed.{Coding, IsCoding};
 
-    ghost Value = { List ℕ };
+    ghost Value = { Coding };
 
-    ghost view = { λ known. known.items.items };
+    ghost view = { λ known. record { items = known.items.items; item_bits = known.item_bits; most = known.most; count_bits = known.count_bits } };
 
-    ghost invariant = { λ known. IsRising known.items.items × (length known.items.items ≤ MOST_ITEMS) × (known.mask ≡ items_mask known.items.items) };
+    ghost invariant = { λ known. IsCoding (record { items = known.items.items; item_bits = known.item_bits; most = known.most; count_bits = known.count_bits }) };
 }
 
-/// The highest bits of a word, as many as there are items.
-fn mask_of(items: &[u32]) -> u128
-    requires { length items.now ≤ MOST_ITEMS }
-    ensures { result ≡ items_mask items.now }
-{
-    !(u128::MAX >> items.len() as u32)
+/// The places of items, each in the slot of its lowest bits. There are at least twice as many slots as
+/// items.
+fn slots_of(alloc: Global, items: &[u32]) -> Result<Vec<usize>, AllocError> {
+    let count = items.len().saturating_mul(2).checked_next_power_of_two();
+    let mut slots = vec![in alloc; 0usize; count.unwrap_or(1)]?;
+    for place in 0..items.len() {
+        let slot = items[place] as usize & slots.len().saturating_sub(1);
+        if slot < slots.len() {
+            slots[slot] = place;
+        }
+    }
+    Ok(slots)
 }
 
-/// Whether a count fits below the bits of the items.
-fn has_room(mask: u128, count: u64) -> bool
-    ensures { IsTrue result → count + mask < 2 ^ 128 }
+/// How many bits a number takes, at least one.
+fn bits_of(number: u64) -> u32
+    ensures least { 1 ≤ result }
+    ensures most { result ≤ 64 }
+    ensures fits { number < 2 ^ result }
 {
-    u128::from(count) <= !mask
+    number.max(1).ilog2() + 1
+}
+
+/// The lowest bits of a number.
+fn low_bits(number: u128, bits: u32) -> u128
+    requires { bits < 128 }
+    ensures { result ≡ number % 2 ^ bits }
+{
+    number & ((1 << bits) - 1)
 }
 
 impl KnownItems {
     /// No items.
     pub fn none(alloc: Global) -> Self
-        ensures { result ≡ [] }
+        ensures { IsCoding result }
     {
         KnownItems {
             items: Vec::new(alloc),
-            mask: 0,
+            slots: Vec::new(alloc),
+            item_bits: 0,
+            most: 0,
+            count_bits: 0,
         }
     }
 
-    /// The items, which come in any order, or none if they are too many, one comes twice, or the
-    /// greatest count doesn't fit beside them.
-    pub fn of(alloc: Global, items: &[u32], most: u64) -> Result<Self, AllocError> {
-        if items.len() > MOST_ITEMS {
-            return Ok(KnownItems::none(alloc));
-        }
+    /// The items, which come in any order, or none if one comes twice. Counts up to the greatest fit into
+    /// a word.
+    pub fn of(alloc: Global, items: &[u32], most: u64) -> Result<Self, AllocError>
+        ensures { IfOk result IsCoding }
+    {
         let mut items = items.to_vec(alloc)?;
         items.sort_unstable();
-        let mask = mask_of(&items);
-        if !is_rising(&items) || !has_room(mask, most) {
+        if !is_rising(&items) {
             return Ok(KnownItems::none(alloc));
         }
-        Ok(KnownItems { items, mask })
+        let count_bits = bits_of(most);
+        let item_bits = bits_of(items.len().saturating_sub(1) as u64);
+        Ok(KnownItems {
+            slots: slots_of(alloc, &items)?,
+            items,
+            item_bits,
+            most: ((SIZE_AT - count_bits) / item_bits).min(MOST_SIZE),
+            count_bits,
+        })
     }
 
     /// The greatest item, or 0.
@@ -82,42 +112,45 @@ impl KnownItems {
         self.items.last().copied().unwrap_or(0)
     }
 
-    /// Whether the items are the same as others.
+    /// Whether sets are put into words as with others.
     pub fn is_same(&self, other: &KnownItems) -> bool
         ensures { IsTrue result → self.now ≡ other.now }
     {
-        self.items == other.items
+        self.count_bits == other.count_bits
+            && self.item_bits == other.item_bits
+            && self.most == other.most
+            && self.items == other.items
     }
 
-    /// The highest bits of a word, one for each item.
-    pub fn mask(&self) -> u128
-        ensures { result ≡ items_mask self.now }
+    /// The bits of a word above those of the count.
+    fn code(&self, packed: &Packed) -> u128
+        ensures { result ≡ code_of self.now packed.now }
     {
-        self.mask
+        packed.code(self.count_bits)
     }
 
-    /// How many bits of a word are those of the count.
-    fn count_bits(&self) -> u32
-        ensures { result ≡ count_bits self.now }
+    /// How many bits of a code are those of the number whose digits are the places of the items.
+    fn number_bits(&self) -> u32
+        ensures value { result ≡ 121 - self.now.count_bits }
+        ensures coding { IsCoding self.now }
     {
-        u128::BITS - self.items.len() as u32
+        SIZE_AT - self.count_bits
     }
 
-    /// The bits of the items of a packed set.
-    fn bits(&self, packed: &Packed) -> u128
-        requires { IsPacked self.now packed.now }
-        ensures value { result ≡ bits_of self.now packed.now }
-        ensures below { result < 2 ^ length self.now }
+    /// The number whose digits are the places of the items of a code.
+    fn number(&self, code: u128) -> u128
+        ensures { result ≡ number_of self.now code }
     {
-        packed.bits(self.count_bits())
+        low_bits(code, self.number_bits())
     }
 
-    /// The count of a packed set.
-    pub fn count(&self, packed: &Packed) -> u64
-        requires { IsPacked self.now packed.now }
-        ensures { result ≡ (unpacked self.now packed.now).count }
+    /// How many items the code of a packed set has.
+    fn code_size(&self, packed: &Packed) -> u32
+        ensures { result ≡ size_of self.now (code_of self.now packed.now) }
     {
-        (packed.word & !self.mask()) as u64
+        // Nothing is read here: it brings what holds of the bits.
+        let _ = &self.items;
+        (packed.word >> SIZE_AT) as u32
     }
 
     /// How many items a packed set has.
@@ -125,57 +158,115 @@ impl KnownItems {
         requires { IsPacked self.now packed.now }
         ensures { result ≡ length (unpacked self.now packed.now).set }
     {
-        (packed.word & self.mask()).count_ones() as usize
+        self.code_size(packed) as usize
     }
 
-    /// The bit of an item in a word, if it is known.
-    fn bit_of(&self, item: u32) -> Option<u128>
-        ensures { IfSome result (IsBitOf self.now item) }
+    /// The count of a packed set.
+    pub fn count(&self, packed: &Packed) -> u64
+        requires { IsPacked self.now packed.now }
+        ensures { result ≡ (unpacked self.now packed.now).count }
     {
-        // Nothing is read here: it brings what holds of the items.
-        let _ = &self.items;
-        let place = self.place_of(item)?;
-        Some(1 << (127 - place as u32))
+        low_bits(packed.word, self.count_bits) as u64
     }
 
     /// The place of an item, if it is known.
     fn place_of(&self, item: u32) -> Option<usize>
-        ensures within { IfSome result (λ place. place < length self.now) }
-        ensures is { IfSome result (λ place. slice_index_or self.now place 0 ≡ item) }
+        ensures within { IfSome result (λ place. place < length self.now.items) }
+        ensures is { IfSome result (λ place. slice_index_or self.now.items place 0 ≡ item) }
     {
+        let slot = item as usize & self.slots.len().saturating_sub(1);
+        if let Some(place) = self.slots.get(slot) {
+            let place = *place;
+            if place < self.items.len() && self.items[place] == item {
+                return Some(place);
+            }
+        }
         self.items.binary_search(&item).ok()
     }
 
+    /// How many of the places that are digits of a number are greater than another, or none if that is
+    /// among them.
+    fn places_above(&self, number: u128, size: u32, place: u128) -> Option<u32>
+        requires { IsRising (digits self.now.item_bits size number) }
+        ensures { IfSome result (IsBetween self.now.item_bits size number place) }
+    {
+        let mut rest = number;
+        let mut above = 0;
+        while above < size {
+            let last = low_bits(rest, self.item_bits);
+            if last == place {
+                return None;
+            }
+            if last < place {
+                return Some(above);
+            }
+            rest >>= self.item_bits;
+            above += 1;
+        }
+        Some(above)
+    }
+
+    /// The word of a set of this size, whose places are the digits of the number.
+    fn word(&self, size: u32, number: u128, count: u64) -> Packed
+        requires fits { FitsWord self.now size number count }
+        ensures { IsWordOf self.now size number count result }
+    {
+        let code = (u128::from(size) << self.number_bits()) + number;
+        Packed {
+            word: (code << self.count_bits) + u128::from(count),
+        }
+    }
+
     /// A packed set with one more item and a count of its own, or none if the item isn't known, or
-    /// is in the set, or the count doesn't fit.
+    /// is in the set, or the word has no room.
     pub fn longer(&self, packed: &Packed, item: u32, count: u64) -> Option<Packed>
         requires { IsPacked self.now packed.now }
         ensures { IfSome result (IsLonger self.now packed.now item count) }
     {
-        let bit = self.bit_of(item)?;
-        let mask = self.mask();
-        if packed.word & bit != 0 || !has_room(mask, count) {
+        let code = self.code(packed);
+        let size = self.code_size(packed);
+        if size >= self.most || !self.has_room(count) {
             return None;
         }
-        Some(Packed {
-            word: (packed.word & mask) + bit + u128::from(count),
-        })
+        let place = self.place_of(item)? as u128;
+        let number = self.number(code);
+        let above = self.places_above(number, size, place)?;
+        let longer = self.with_place(number, place, above * self.item_bits);
+        Some(self.word(size + 1, longer, count))
     }
 
-    /// The empty set, or none if no item is known, or the count doesn't fit.
+    /// A number with one more digit before the last bits.
+    fn with_place(&self, number: u128, place: u128, last_bits: u32) -> u128
+        requires last { last_bits < 128 }
+        requires place { place < 2 ^ self.now.item_bits }
+        requires room { longer_number self.now.item_bits number place last_bits < 2 ^ 121 }
+        ensures { result ≡ longer_number self.now.item_bits number place last_bits }
+    {
+        let first = ((number >> last_bits) << self.item_bits) + place;
+        (first << last_bits) + low_bits(number, last_bits)
+    }
+
+    /// Whether a word has room for a count.
+    fn has_room(&self, count: u64) -> bool
+        ensures { IsTrue result → count < 2 ^ self.now.count_bits }
+    {
+        u128::from(count) < 1 << self.count_bits
+    }
+}
+
+impl KnownItems {
+    /// The empty set, or none if a word has no room for the count.
     fn no_items(&self, count: u64) -> Option<Packed>
         ensures packed { IfSome result (IsPacked self.now) }
         ensures same { IfSome result (λ packed. unpacked self.now packed ≡ record { set = []; count = count }) }
     {
-        if self.items.is_empty() || !has_room(self.mask(), count) {
+        if !self.has_room(count) {
             return None;
         }
-        Some(Packed {
-            word: u128::from(count),
-        })
+        Some(self.word(0, 0, count))
     }
 
-    /// A set as a word, or none if an item isn't known, or the count doesn't fit.
+    /// A set as a word, or none if an item isn't known, or a word has no room.
     pub fn pack(&self, set: &Itemset, count: u64) -> Option<Packed>
         ensures packed { IfSome result (IsPacked self.now) }
         ensures same { IfSome result (λ packed. unpacked self.now packed ≡ record { set = set.now; count = count }) }
@@ -188,7 +279,7 @@ impl KnownItems {
     }
 
     /// The set of the names of some numbers as a word, or none if one isn't known, two are one, or
-    /// the count doesn't fit. The list has the name of a number at the place of that number.
+    /// a word has no room. The list has the name of a number at the place of that number.
     pub fn pack_renamed(&self, numbers: &Itemset, names: &[u32], count: u64) -> Option<Packed>
         requires { AllBelow (length names.now) numbers.now }
         ensures packed { IfSome result (IsPacked self.now) }
@@ -212,34 +303,15 @@ impl KnownItems {
         ensures items { take result room.new ≡ (unpacked self.now packed.now).set }
         ensures within { result ≤ MOST_ITEMS }
     {
-        let bits = self.bits(packed);
-        let count = put_bits(&self.items, (bits / WORD) as u64, 64, room, 0);
-        put_bits(&self.items, (bits % WORD) as u64, 0, room, count)
+        let code = self.code(packed);
+        let size = self.code_size(packed) as usize;
+        let mut rest = self.number(code);
+        let mut left = size;
+        while left > 0 {
+            left -= 1;
+            room[left] = self.items[low_bits(rest, self.item_bits) as usize];
+            rest >>= self.item_bits;
+        }
+        size
     }
-}
-
-/// Writes those of the items that have a one among 64 bits, of which the lowest is at a place,
-/// after the first ones of the room, and returns how many there are then.
-fn put_bits(
-    items: &[u32],
-    bits: u64,
-    place: u32,
-    room: &mut [u32; MOST_ITEMS],
-    first: usize,
-) -> usize
-    requires below { bits * 2 ^ place < 2 ^ length items.now }
-    requires place { place < 128 }
-    requires room { first + length (items_in items.now (bits * 2 ^ place)) ≤ MOST_ITEMS }
-    ensures items { take result room.new ≡ take first room.old ++ items_in items.now (bits * 2 ^ place) }
-    ensures count { result ≡ first + length (items_in items.now (bits * 2 ^ place)) }
-{
-    let mut rest = bits;
-    let mut count = first;
-    while rest != 0 {
-        let bit = rest.ilog2();
-        room[count] = items[items.len() - 1 - (bit + place) as usize];
-        count += 1;
-        rest -= 1 << bit;
-    }
-    count
 }

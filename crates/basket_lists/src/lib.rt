@@ -3,13 +3,12 @@
 #![tactic(auto)]
 
 mod counted_sets;
-mod half_words;
-mod keys;
 mod known;
 mod packed;
 mod plain;
 mod set_span;
 mod sets;
+mod word_order;
 
 pub use counted_sets::CountedSets;
 pub use known::MOST_ITEMS;

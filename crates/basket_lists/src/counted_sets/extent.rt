@@ -6,8 +6,10 @@ impl CountedSets {
     /// How many items the sets have together, or `usize::MAX` if they have more.
     pub fn item_count(&self) -> usize {
         let mut items = self.plain.item_count();
-        for packed in &self.packed {
-            items = items.saturating_add(self.known.size(packed));
+        for word in &self.words {
+            if word.is_here() {
+                items = items.saturating_add(self.known.size(word));
+            }
         }
         items
     }

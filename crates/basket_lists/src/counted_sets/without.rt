@@ -3,9 +3,11 @@ ghost use Rattle.std.specs.Prelude.{◌≤◌, ◌<◌, length};
 ghost use Rattle.basket_lists.specs.CountedSets.{set_at};
 ghost use Rattle.basket_lists.specs.Without.{ArePlacesWithout};
 
+mod plain;
+
 use crate::counted_sets::CountedSets;
 use crate::known::MOST_ITEMS;
-use basket_order::{NOWHERE, PlaceTable};
+use basket_order::{PlaceTable, items_hash};
 use std::alloc::{AllocError, Global};
 
 impl CountedSets {
@@ -15,13 +17,10 @@ impl CountedSets {
         requires { number < length self.now }
         ensures { ArePlacesWithout self.now (set_at self.now number) MOST_ITEMS found.new }
     {
-        if number < self.packed.len() {
-            self.known
-                .places_without(&self.packed, places, &self.packed[number], found);
-        } else if self.packed.is_empty() {
-            self.plain.places_without(places, number, found);
-        } else {
-            *found = [NOWHERE; MOST_ITEMS];
+        let word = self.words[number];
+        match word.place() {
+            Some(number) => self.plain_without(places, self.plain.items(number), found),
+            None => self.known.places_without(&self.words, places, &word, found),
         }
     }
 
@@ -40,11 +39,10 @@ impl CountedSets {
     fn hash(&self, place: usize) -> u64
         requires { place < length self.now }
     {
-        let packed = self.packed.len();
-        if place < packed {
-            self.known.hash(&self.packed[place])
-        } else {
-            self.plain.hash(place - packed)
+        let word = self.words[place];
+        match word.place() {
+            Some(place) => items_hash(self.plain.items(place)),
+            None => self.known.hash(&word),
         }
     }
 }

@@ -1,45 +1,61 @@
-use Rattle.std.proofs.Common.{◌≡◌, ◌<◌, ◌+◌, ◌^◌, ℕ, List, refl, ap, arith}
-use Rattle.std.specs.Prelude.{bit_and}
+use Rattle.std.proofs.Common.{◌≡◌, ℕ, ◌+◌, ◌*◌, ◌^◌, ◌<◌, length, get_or, refl, sym, ap, ◌∙◌, subst, arith}
 use Rattle.basket_lists.specs.declared.packed.Packed.{Packed}
-use Rattle.basket_lists.specs.Known.{IsBitOf}
-use Rattle.basket_lists.specs.Packed.{IsPacked, items_mask}
-use Rattle.basket_lists.proofs.WordLemmas.{longer_word, sum_fits}
+use Rattle.basket_lists.specs.Known.{FitsWord, IsBetween, IsWordOf, longer_number}
+use Rattle.basket_lists.specs.Packed.{Coding, IsCoding, IsLonger, IsPacked, code_of, number_of, size_of}
+use Rattle.basket_lists.proofs.PlaceLemmas.{longer_fits, longer_is, longer_small}
 use Rattle.basket_lists.proofs.known.KnownItems.longer.Goals as goal
 
--- the new word is one
-module _ (known : List ℕ) (packed : Packed) (item count bit mask : ℕ) (is : IsPacked known packed) (of : IsBitOf known item bit) (apart : bit_and packed.word bit ≡ 0)
-    (mask_is : mask ≡ items_mask known) (room : count + mask < 2 ^ 128) where
-  within : count + items_mask known < 2 ^ 128
-  within = omega (arith, mask_is, room)
+-- the values that the function has, and what they are
+module _ (coding : Coding) (is : IsCoding coding) (packed : Packed) (set : IsPacked coding packed) (item count place size number code above bits most : ℕ) (known : place < length coding.items)
+    (named : get_or coding.items place 0 ≡ item) (code_is : code ≡ code_of coding packed) (size_is : size ≡ size_of coding (code_of coding packed)) (number_is : number ≡ number_of coding code)
+    (between : IsBetween coding.item_bits size number place above) (bits_are : bits ≡ coding.item_bits) (most_is : most ≡ coding.most) (room : size < most) where
+  of_packed : number ≡ number_of coding (code_of coding packed)
+  of_packed = number_is ∙ ap (number_of coding) code_is
 
-  masks : bit_and packed.word mask ≡ bit_and packed.word (items_mask known)
-  masks = ap (bit_and packed.word) mask_is
+  is_between : IsBetween coding.item_bits (size_of coding (code_of coding packed)) (number_of coding (code_of coding packed)) place above
+  is_between = subst (λ n. IsBetween coding.item_bits (size_of coding (code_of coding packed)) n place above) of_packed (subst (λ s. IsBetween coding.item_bits s number place above) size_is between)
 
-  fits : bit_and packed.word mask + bit + count < 2 ^ 128
-  fits = omega (arith, masks, sum_fits known packed item count bit is of apart within)
+  has_room : size_of coding (code_of coding packed) < coding.most
+  has_room = omega (arith, size_is, most_is, room)
 
-pub overflow_add-result : goal.overflow_add-result
-overflow_add-result c =
-    omega (
-      arith,
-      fits c.args.self.now c.args.packed.now c.args.item c.args.count c.in_ok-bit.bit c.mask-mask.result c.requires c.in_ok-bit.ensures c.if-packed-bit-ne0.false c.mask-mask.ensures
-          (c.if-not-has_room.ensures refl),
-    )
+  same : longer_number coding.item_bits number place (above * bits) ≡ longer_number coding.item_bits (number_of coding (code_of coding packed)) place (above * coding.item_bits)
+  same = ap (λ n. longer_number coding.item_bits n place (above * bits)) of_packed ∙ ap (λ b. longer_number coding.item_bits (number_of coding (code_of coding packed)) place (above * b)) bits_are
 
-pub overflow_add-result-2 : goal.overflow_add-result-2
-overflow_add-result-2 c =
-    omega (
-      arith,
-      c.from.ensures,
-      fits c.args.self.now c.args.packed.now c.args.item c.args.count c.in_ok-bit.bit c.mask-mask.result c.requires c.in_ok-bit.ensures c.if-packed-bit-ne0.false c.mask-mask.ensures
-          (c.if-not-has_room.ensures refl),
-    )
+  pub is_small : longer_number coding.item_bits number place (above * bits) < 2 ^ 121
+  is_small = subst (λ n. n < 2 ^ 121) (sym same) (longer_small coding is packed set place item count above known named is_between has_room)
+
+  module _ (longer : ℕ) (longer_number_is : longer ≡ longer_number coding.item_bits number place (above * bits)) (fits : count < 2 ^ coding.count_bits) where
+    pub fits_word : FitsWord coding (size + 1) longer count
+    fits_word = record {
+      sized = omega (arith, size_is, has_room);
+      numbered = subst (λ s. longer < 2 ^ ((s + 1) * coding.item_bits)) (sym size_is)
+          (subst (λ n. n < 2 ^ ((size_of coding (code_of coding packed) + 1) * coding.item_bits)) (sym (longer_number_is ∙ same))
+          (longer_fits coding is packed set place item count above known named is_between has_room));
+      counted = fits;
+    }
+
+    pub is_longer : (word : Packed) → IsWordOf coding (size + 1) longer count word → IsLonger coding packed item count word
+    is_longer word made = longer_is coding is packed set place item count above known named is_between has_room word
+        (subst (λ s. IsWordOf coding (s + 1) (longer_number coding.item_bits (number_of coding (code_of coding packed)) place (above * coding.item_bits)) count word) size_is
+        (subst (λ n. IsWordOf coding (size + 1) n count word) (longer_number_is ∙ same) made))
+
+pub with_place-longer-requires-clause-room : goal.with_place-longer-requires-clause-room
+with_place-longer-requires-clause-room c =
+    is_small c.args.self.now (subst IsCoding c.self.view_is c.self.invariant) c.args.packed.now c.requires c.args.item c.args.count c.in_ok-place.field-0 c.code_size-size.result c.number-number.result
+    c.code-code.result c.in_ok-above.above c.self.inside.item_bits c.self.inside.most c.in_ok-place.ensures.within c.in_ok-place.ensures.is c.code-code.ensures c.code_size-size.ensures
+    c.number-number.ensures c.in_ok-above.ensures (ap (λ (k : Coding). k.item_bits) c.self.view_is) (ap (λ (k : Coding). k.most) c.self.view_is) c.if-size-self.false
+
+pub word-requires : goal.word-requires
+word-requires c = record {
+  fits = fits_word c.args.self.now (subst IsCoding c.self.view_is c.self.invariant) c.args.packed.now c.requires c.args.item c.args.count c.in_ok-place.field-0 c.code_size-size.result
+      c.number-number.result c.code-code.result c.in_ok-above.above c.self.inside.item_bits c.self.inside.most c.in_ok-place.ensures.within c.in_ok-place.ensures.is c.code-code.ensures
+      c.code_size-size.ensures c.number-number.ensures c.in_ok-above.ensures (ap (λ (k : Coding). k.item_bits) c.self.view_is) (ap (λ (k : Coding). k.most) c.self.view_is) c.if-size-self.false
+      c.with_place-longer.result c.with_place-longer.ensures (c.if-not-has_room.ensures refl);
+}
 
 pub returns : goal.returns
 returns c =
-    let known = c.args.self.now in
-    let packed = c.args.packed.now in
-    let room : c.args.count + items_mask known < 2 ^ 128 = omega (arith, c.if-not-has_room.ensures refl, c.mask-mask.ensures) in
-    let masked = ap (bit_and packed.word) c.mask-mask.ensures in
-    longer_word known packed c.args.item c.args.count c.in_ok-bit.bit c.requires c.in_ok-bit.ensures c.if-packed-bit-ne0.false room (record { word = bit_and packed.word c.mask-mask.result + c.in_ok-bit.bit + c.from.result })
-    c.ranges.count.fits (omega (arith, masked, c.from.ensures))
+    is_longer c.args.self.now (subst IsCoding c.self.view_is c.self.invariant) c.args.packed.now c.requires c.args.item c.args.count c.in_ok-place.field-0 c.code_size-size.result c.number-number.result
+    c.code-code.result c.in_ok-above.above c.self.inside.item_bits c.self.inside.most c.in_ok-place.ensures.within c.in_ok-place.ensures.is c.code-code.ensures c.code_size-size.ensures
+    c.number-number.ensures c.in_ok-above.ensures (ap (λ (k : Coding). k.item_bits) c.self.view_is) (ap (λ (k : Coding). k.most) c.self.view_is) c.if-size-self.false c.with_place-longer.result
+    c.with_place-longer.ensures (c.if-not-has_room.ensures refl) c.word.result c.word.ensures

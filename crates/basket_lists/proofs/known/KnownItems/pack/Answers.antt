@@ -1,9 +1,9 @@
 use Rattle.std.proofs.Common.{◌<◌, length, get_or, ap, ◌∙◌, subst, arith}
 use Rattle.std.proofs.lemmas.List.{take_all}
-use Rattle.basket_lists.specs.Packed.{bits_of, items_in}
+use Rattle.basket_lists.specs.Packed.{code_of, set_of}
 use Rattle.basket_sets.specs.declared.counted.Counted.{Counted}
 use Rattle.basket_sets.specs.Itemset.{with_item}
-use Rattle.basket_lists.proofs.PackedLemmas.{with_next}
+use Rattle.basket_lists.proofs.BetweenLemmas.{with_next}
 use Rattle.basket_lists.proofs.known.KnownItems.pack.Goals as goal
 
 pub loop-item-init : goal.loop-item-init
@@ -20,7 +20,7 @@ loop-item-preserved c =
     let same = c.items-item-items.ensures.items in
     let inside = subst (λ items. i < length items) same c.loop-item-test.true in (
       longer.is,
-      longer.set ∙ ap (λ items. with_item (get_or items i 0) (items_in c.args.self.now (bits_of c.args.self.now c.loop-item.packed))) same ∙ ap (with_item (get_or set i 0)) c.loop-item.invariant.1
+      longer.set ∙ ap (λ items. with_item (get_or items i 0) (set_of c.args.self.now (code_of c.args.self.now c.loop-item.packed))) same ∙ ap (with_item (get_or set i 0)) c.loop-item.invariant.1
           ∙ with_next set i c.items-item-items.ensures.rising inside,
       longer.counted,
     )

@@ -1,7 +1,7 @@
 use Rattle.std.proofs.Common.{◌≡◌, ◌<◌, ◌+◌, ◌-◌, [], ℕ, List, drop, length, map, slice_index_or, get_or, sym, ap, ◌∙◌, subst, arith}
 use Rattle.std.proofs.lemmas.List.{drop_more}
 use Rattle.std.proofs.Math.Seq.{drop-length}
-use Rattle.basket_lists.specs.Packed.{bits_of, items_in}
+use Rattle.basket_lists.specs.Packed.{code_of, set_of}
 use Rattle.basket_sets.specs.declared.counted.Counted.{Counted}
 use Rattle.basket_sets.specs.Itemset.{rising, with_item}
 use Rattle.basket_sets.proofs.theory.Rising.{has_place}
@@ -44,7 +44,7 @@ loop-left-preserved c =
     let more : named names (drop (left - 1) numbers) ≡ with_item (get_or names (get_or numbers (left - 1) 0) 0) (named names (drop left numbers)) =
     ap (named names) (drop_more numbers (left - 1) 0 inside) ∙ ap (λ n. with_item (get_or names (get_or numbers (left - 1) 0) 0) (named names (drop n numbers))) next in (
       longer.is,
-      longer.set ∙ ap (λ items. with_item (get_or names (get_or items (left - 1) 0) 0) (items_in known (bits_of known c.loop-left.packed))) same
+      longer.set ∙ ap (λ items. with_item (get_or names (get_or items (left - 1) 0) 0) (set_of known (code_of known c.loop-left.packed))) same
           ∙ ap (with_item (get_or names (get_or numbers (left - 1) 0) 0)) c.loop-left.invariant.1 ∙ sym more,
       longer.counted,
       omega (arith, c.loop-left.invariant.3),

@@ -1,15 +1,78 @@
-use Rattle.std.proofs.Common.{◌≤◌, length, map, subst, arith}
-use Rattle.basket_lists.specs.Packed.{items_in, unpacked}
-use Rattle.basket_lists.specs.Without.{ArePlacesWithout}
-use Rattle.basket_lists.proofs.WithoutLemmas.{all_found}
+use Rattle.std.proofs.Common.{rules, ◌≡◌, ◌≢◌, ℕ, ◌+◌, ◌-◌, ◌*◌, ◌<◌, length, map, get_or, set, sym, ap, ◌∙◌, subst, inl, inr, arith, get_or-set_other, get_or-set_same}
+use Rattle.std.proofs.lemmas.Bool.{cases_eq}
+use Rattle.basket_lists.specs.Known.{FitsWord, IsWordOf, shorter_number}
+use Rattle.basket_lists.specs.Packed.{Coding, HasCode, IsCoding, code_of, kept, number_of, set_of, size_of}
+use Rattle.basket_lists.specs.Without.{IsPlaceWithout}
+use Rattle.basket_lists.proofs.PlaceLemmas.{set_length, shorter_fits}
+use Rattle.basket_lists.proofs.WithoutLemmas.{found_without}
+use Rattle.basket_order.specs.declared.place_table.TheConstants.{NOWHERE}
 use Rattle.basket_lists.proofs.known.KnownItems.places_without.Goals as goal
 
+-- what the code says
+number_at : (coding : Coding) (code number of : ℕ) → number ≡ number_of coding code → code ≡ of → number ≡ number_of coding of
+number_at coding code number of is same = is ∙ ap (number_of coding) same
+
+-- the number without a place
+less_at : (bits other number of above less : ℕ) → less ≡ shorter_number bits number (above * other) → other ≡ bits → number ≡ of → less ≡ shorter_number bits of (above * bits)
+less_at bits other number of above less is same numbers = is ∙ ap (λ b. shorter_number bits number (above * b)) same ∙ ap (λ n. shorter_number bits n (above * bits)) numbers
+
+pub word-shorter-requires : goal.word-shorter-requires
+word-shorter-requires c =
+    let coding = c.args.self.now in
+    let packed = c.args.packed.now in
+    let code = code_of coding packed in
+    let is = subst IsCoding c.self.view_is c.self.invariant in
+    let above = c.loop-behind.behind in
+    let number = number_at coding c.code-code.result c.number-number.result code c.number-number.ensures c.code-code.ensures in
+    let shorter = less_at coding.item_bits c.self.inside.item_bits c.number-number.result (number_of coding code) above c.without_place-shorter.result
+    c.without_place-shorter.ensures (ap (λ (k : Coding). k.item_bits) c.self.view_is) number in
+    let less : above < size_of coding code = omega (arith, c.loop-behind-test.true, c.code_size-size.ensures) in
+    record {
+      fits = subst (λ s. FitsWord coding (s - 1) c.without_place-shorter.result 0) (sym c.code_size-size.ensures)
+          (subst (λ n. FitsWord coding (size_of coding code - 1) n 0) (sym shorter) (shorter_fits coding is packed c.requires above less));
+    }
+
+pub loop-behind-preserved : goal.loop-behind-preserved
+loop-behind-preserved c =
+    let coding = c.args.self.now in
+    let packed = c.args.packed.now in
+    let code = code_of coding packed in
+    let is = subst IsCoding c.self.view_is c.self.invariant in
+    let above = c.loop-behind.behind in
+    let size = c.code_size-size.result in
+    let number = number_at coding c.code-code.result c.number-number.result code c.number-number.ensures c.code-code.ensures in
+    let shorter = less_at coding.item_bits c.self.inside.item_bits c.number-number.result (number_of coding code) above c.without_place-shorter.result
+    c.without_place-shorter.ensures (ap (λ (k : Coding). k.item_bits) c.self.view_is) number in
+    let less : above < size_of coding code = omega (arith, c.loop-behind-test.true, c.code_size-size.ensures) in
+    let word = subst (λ s. IsWordOf coding (s - 1) (shorter_number coding.item_bits (number_of coding code) (above * coding.item_bits)) 0 c.word-shorter.result) c.code_size-size.ensures
+    (subst (λ n. IsWordOf coding (size - 1) n 0 c.word-shorter.result) shorter c.word-shorter.ensures) in
+    let place = c.find_code-place.result in
+    let has : place ≢ NOWHERE → HasCode coding.count_bits c.args.words.now place (code_of coding c.word-shorter.result) =
+    subst (λ n. place ≢ NOWHERE → HasCode coding.count_bits c.args.words.now place n) c.code.ensures
+    (subst (λ b. place ≢ NOWHERE → HasCode b c.args.words.now place c.code.result) (ap (λ (k : Coding). k.count_bits) c.self.view_is) c.find_code-place.ensures) in
+    let full : length c.loop-behind.found ≡ 120 = search rules in
+    let at = size - (above + 1) in
+    let short : at < 120 = omega (arith, c.code_size-size.ensures, c.requires.code.size, is.sizes) in
+    let here : at ≡ size_of coding code - 1 - above = omega (arith, c.code_size-size.ensures) in
+    record {
+      few = omega (arith, c.loop-behind-test.true);
+      found = λ plain all k from to. elim (cases_eq k at) [
+        | inl same ↦
+            (let one = found_without coding is packed c.requires above less c.word-shorter.result word plain c.args.words.now place has in
+            subst (λ n. IsPlaceWithout (map (kept coding plain) c.args.words.now) (set_of coding code) (get_or (set_of coding code) n 0) (get_or (set c.loop-behind.found at place) n NOWHERE)) (sym same)
+            (subst (IsPlaceWithout (map (kept coding plain) c.args.words.now) (set_of coding code) (get_or (set_of coding code) at 0))
+            (sym (get_or-set_same c.loop-behind.found at place NOWHERE (omega (arith, full, short))))
+            (subst (λ n. IsPlaceWithout (map (kept coding plain) c.args.words.now) (set_of coding code) (get_or (set_of coding code) n 0) place) (sym here) one)))
+        | inr other ↦
+            subst (IsPlaceWithout (map (kept coding plain) c.args.words.now) (set_of coding code) (get_or (set_of coding code) k 0)) (sym (get_or-set_other c.loop-behind.found at k place NOWHERE other))
+            (c.loop-behind.invariant.found plain all k (omega (arith, from, other)) to)
+      ];
+    }
+
 pub returns : goal.returns
-returns c =
-    let known = c.args.self.now in
-    let bits = c.bits-bits.result in
-    let sets = map (unpacked known) c.args.sets.now in
-    let found = c.add_places-count-2.new.found in
-    let all : length (items_in known bits) ≤ c.add_places-count-2.result = all_found known bits c.add_places-count-2.result c.add_places-count-2.ensures.rest in
-    subst (λ b. ArePlacesWithout sets (items_in known b) (length (items_in known b)) found) c.bits-bits.ensures.value
-    (λ k less inside. c.add_places-count-2.ensures.found k (omega (arith, inside, all)) inside)
+returns c plain all k less inside =
+    let coding = c.args.self.now in
+    let packed = c.args.packed.now in
+    let is = subst IsCoding c.self.view_is c.self.invariant in
+    let size = set_length coding is packed c.requires in
+    c.loop-behind.invariant.found plain all k (omega (arith, c.loop-behind-test.false, c.loop-behind.invariant.few)) (omega (arith, inside, size, c.code_size-size.ensures))

@@ -1,50 +1,70 @@
-use Rattle.std.proofs.Common.{◌≡◌, ℕ, ◌+◌, ◌/◌, ◌%◌, ◌*◌, ◌^◌, ◌++◌, ◌<◌, ◌≤◌, List, length, sym, ap, ◌∙◌, subst, arith}
-use Rattle.std.proofs.lemmas.List.{length-append}
-use Rattle.basket_lists.specs.Packed.{items_in}
-use Rattle.basket_lists.proofs.PackedLemmas.{items_in-few, items_in-halves}
+use Rattle.std.proofs.Common.{◌≡◌, ℕ, ◌-◌, ◌*◌, ◌/◌, ◌%◌, ◌^◌, ◌<◌, ◌≤◌, length, get_or, set, take, sym, ap, ◌∙◌, subst, inl, inr, arith, get_or-set_other, get_or-set_same, get_or-take, length-set}
+use Rattle.std.proofs.lemmas.Bool.{cases_eq}
+use Rattle.std.proofs.lemmas.List.{get_or_default, length-take-le, same_lists}
+use Rattle.basket_lists.specs.Packed.{Coding, IsCoding, code_of, number_of, set_of, size_of}
+use Rattle.basket_lists.proofs.PlaceLemmas.{digit_item, digit_known, rest_next, set_length}
 use Rattle.basket_lists.proofs.known.KnownItems.put.Goals as goal
 
--- the items of the two halves of the bits
-module _ (known : List ℕ) (bits : ℕ) where
-  both : items_in known (bits / 2 ^ 64 * 2 ^ 64) ++ items_in known (bits % 2 ^ 64 * 2 ^ 0) ≡ items_in known bits
-  both =
-      let high = bits / 2 ^ 64 in
-      let low = bits % 2 ^ 64 in
-      let lower : low * 2 ^ 0 ≡ low = omega arith in
-      let whole : high * 2 ^ 64 + low ≡ bits = omega arith in
-      ap (λ l. items_in known (high * 2 ^ 64) ++ items_in known l) lower ∙ sym (items_in-halves known high 64 low (omega arith)) ∙ ap (items_in known) whole
+-- the number of the places of the items that are left
+rest_at : (coding : Coding) (code size left rest : ℕ) → rest ≡ number_of coding code / 2 ^ ((size - left) * coding.item_bits) → size ≡ size_of coding code
+    → rest ≡ number_of coding code / 2 ^ ((size_of coding code - left) * coding.item_bits)
+rest_at coding code size left rest is same = is ∙ ap (λ s. number_of coding code / 2 ^ ((s - left) * coding.item_bits)) same
 
-  together : length (items_in known (bits / 2 ^ 64 * 2 ^ 64)) + length (items_in known (bits % 2 ^ 64 * 2 ^ 0)) ≤ length known
-  together = omega (arith, length-append (items_in known (bits / 2 ^ 64 * 2 ^ 64)) (items_in known (bits % 2 ^ 64 * 2 ^ 0)), ap length both, items_in-few known bits)
+pub index-requires : goal.index-requires
+index-requires c =
+    let coding = c.args.self.now in
+    let packed = c.args.packed.now in
+    let code = code_of coding packed in
+    let is = subst IsCoding c.self.view_is c.self.invariant in
+    let left = c.loop-left.left in
+    let rest = rest_at coding code c.code_size-size.result left c.loop-left.rest c.loop-left.invariant.rest c.code_size-size.ensures in
+    let known = digit_known coding is packed c.requires left c.loop-left.rest c.loop-left-test.true (omega (arith, c.loop-left.invariant.few, c.code_size-size.ensures)) rest in
+    let digit : c.low_bits.result ≡ c.loop-left.rest % 2 ^ coding.item_bits = c.low_bits.ensures ∙ ap (λ b. c.loop-left.rest % 2 ^ b) (ap (λ (k : Coding). k.item_bits) c.self.view_is) in
+    omega (arith, digit, known, ap (λ (k : Coding). length k.items) c.self.view_is, c.self.inside.items.ok.0)
 
-pub put_bits-count-requires-clause-below : goal.put_bits-count-requires-clause-below
-put_bits-count-requires-clause-below c =
-    subst (λ (items : List ℕ). c.bits-bits.result / 2 ^ 64 * 2 ^ 64 < 2 ^ length items) (sym (c.deref.ensures.value ∙ c.self.view_is)) (omega (arith, c.bits-bits.ensures.below))
-
-pub put_bits-count-requires-clause-room : goal.put_bits-count-requires-clause-room
-put_bits-count-requires-clause-room c =
-    let known = c.deref.result.now in
-    let few = items_in-few known (c.bits-bits.result / 2 ^ 64 * 2 ^ 64) in
-    omega (arith, few, ap length c.deref.ensures.value, c.self.invariant.1)
-
-pub put_bits-requires-clause-below : goal.put_bits-requires-clause-below
-put_bits-requires-clause-below c =
-    subst (λ (items : List ℕ). c.bits-bits.result % 2 ^ 64 * 2 ^ 0 < 2 ^ length items) (sym (c.deref-2.ensures.value ∙ c.self.view_is)) (omega (arith, c.bits-bits.ensures.below))
-
-pub put_bits-requires-clause-room : goal.put_bits-requires-clause-room
-put_bits-requires-clause-room c =
-    let known = c.deref.result.now in
-    let bits = c.bits-bits.result in
-    let same = ap (λ items. length (items_in items (bits % 2 ^ 64 * 2 ^ 0))) (c.deref-2.ensures.value ∙ sym c.deref.ensures.value) in
-    omega (arith, together known bits, same, ap length c.deref.ensures.value, c.put_bits-count.ensures.count, c.self.invariant.1)
+pub loop-left-preserved : goal.loop-left-preserved
+loop-left-preserved c =
+    let coding = c.args.self.now in
+    let packed = c.args.packed.now in
+    let code = code_of coding packed in
+    let is = subst IsCoding c.self.view_is c.self.invariant in
+    let left = c.loop-left.left in
+    let size = c.code_size-size.result in
+    let few : left ≤ size_of coding code = omega (arith, c.loop-left.invariant.few, c.code_size-size.ensures) in
+    let rest = rest_at coding code size left c.loop-left.rest c.loop-left.invariant.rest c.code_size-size.ensures in
+    let bits = ap (λ (k : Coding). k.item_bits) c.self.view_is in
+    let digit : c.low_bits.result ≡ c.loop-left.rest % 2 ^ coding.item_bits = c.low_bits.ensures ∙ ap (λ b. c.loop-left.rest % 2 ^ b) bits in
+    let known = digit_known coding is packed c.requires left c.loop-left.rest c.loop-left-test.true few rest in
+    let item : c.index.result.now ≡ get_or (set_of coding code) (left - 1) 0 =
+    c.index.ensures ∙ ap (λ (k : Coding). get_or k.items c.low_bits.result c.index.result.now) c.self.view_is ∙ ap (λ p. get_or coding.items p c.index.result.now) digit
+    ∙ get_or_default coding.items (c.loop-left.rest % 2 ^ coding.item_bits) c.index.result.now 0 known
+    ∙ digit_item coding is packed c.requires left c.loop-left.rest c.loop-left-test.true few rest in
+    let full = c.loop-left.invariant.full in
+    record {
+      full = length-set c.loop-left.room (left - 1) c.index.result.now ∙ full;
+      few = omega (arith, c.loop-left.invariant.few);
+      rest = ap (λ b. c.loop-left.rest / 2 ^ b) bits ∙ rest_next coding is packed c.requires left c.loop-left.rest c.loop-left-test.true few rest
+          ∙ ap (λ s. number_of coding code / 2 ^ ((s - (left - 1)) * coding.item_bits)) (sym c.code_size-size.ensures);
+      room = λ k from to. elim (cases_eq k (left - 1)) [
+        | inl same ↦
+            subst (λ n. get_or (set c.loop-left.room (left - 1) c.index.result.now) n 0 ≡ get_or (set_of coding code) n 0) (sym same)
+            (get_or-set_same c.loop-left.room (left - 1) c.index.result.now 0 (omega (arith, full, few, c.requires.code.size, is.sizes)) ∙ item)
+        | inr other ↦ get_or-set_other c.loop-left.room (left - 1) k c.index.result.now 0 other ∙ c.loop-left.invariant.room k (omega (arith, from, other)) to
+      ];
+    }
 
 pub returns-clause-items : goal.returns-clause-items
 returns-clause-items c =
-    let known = c.args.self.now in
-    let high = c.bits-bits.result / 2 ^ 64 * 2 ^ 64 in
-    let low = c.bits-bits.result % 2 ^ 64 * 2 ^ 0 in
-    let first = c.deref.ensures.value ∙ c.self.view_is in
-    let second = c.deref-2.ensures.value ∙ c.self.view_is in
-    c.put_bits.ensures.items ∙ ap (λ l. l ++ items_in c.deref-2.result.now low) c.put_bits-count.ensures.items
-    ∙ ap (λ items. items_in items high ++ items_in c.deref-2.result.now low) first ∙ ap (λ items. items_in known high ++ items_in items low) second
-    ∙ both known c.bits-bits.result ∙ ap (items_in known) c.bits-bits.ensures.value
+    let coding = c.args.self.now in
+    let packed = c.args.packed.now in
+    let is = subst IsCoding c.self.view_is c.self.invariant in
+    let size = c.code_size-size.result in
+    let all = set_length coding is packed c.requires in
+    let full = c.loop-left.invariant.full in
+    let long : length (take size c.loop-left.room) ≡ size = length-take-le size c.loop-left.room (omega (arith, full, c.code_size-size.ensures, c.requires.code.size, is.sizes)) in
+    same_lists (take size c.loop-left.room) (set_of coding (code_of coding packed)) (omega (arith, long, all, c.code_size-size.ensures))
+    (λ k d inside.
+    let less : k < size = omega (arith, inside, long) in
+    get_or-take size c.loop-left.room k d less ∙ get_or_default c.loop-left.room k d 0 (omega (arith, less, full, c.code_size-size.ensures, c.requires.code.size, is.sizes))
+    ∙ c.loop-left.invariant.room k (omega (arith, c.loop-left-test.false)) less
+    ∙ get_or_default (set_of coding (code_of coding packed)) k 0 d (omega (arith, less, all, c.code_size-size.ensures)))

@@ -1,7 +1,11 @@
-use Rattle.std.proofs.Common.{ap, ◌∙◌}
-use Rattle.std.specs.Prelude.{bit_and, count_ones}
-use Rattle.basket_lists.proofs.WordLemmas.{masked_ones}
+use Rattle.std.proofs.Common.{get_or, sym, ◌∙◌}
+use Rattle.std.proofs.lemmas.List.{length-map}
+use Rattle.basket_lists.specs.Packed.{code_of, number_of, places_of, size_of}
+use Rattle.basket_lists.proofs.DigitLemmas.{length-digits}
 use Rattle.basket_lists.proofs.known.KnownItems.size.Goals as goal
 
 pub returns : goal.returns
-returns c = ap (λ m. count_ones (bit_and c.args.packed.now.word m)) c.mask.ensures ∙ masked_ones c.args.self.now c.args.packed.now c.requires
+returns c =
+    let coding = c.args.self.now in
+    let code = code_of coding c.args.packed.now in
+    c.code_size.ensures ∙ sym (length-digits coding.item_bits (size_of coding code) (number_of coding code)) ∙ sym (length-map (places_of coding code) (λ place. get_or coding.items place 0))

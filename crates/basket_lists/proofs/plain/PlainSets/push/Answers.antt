@@ -3,7 +3,7 @@ use Rattle.std.specs.Prelude.{All}
 use Rattle.std.proofs.lemmas.List.{length-append}
 use Rattle.basket_lists.specs.declared.set_span.SetSpan.{SetSpan}
 use Rattle.basket_lists.specs.Plain.{IsPlaceOfSet, placed_sets}
-use Rattle.basket_lists.proofs.PlainLemmas.{IsAtEnd, places_pushed, placed_sets_pushed}
+use Rattle.basket_lists.proofs.PlainLemmas.{IsAtEnd, on_any_error, places_pushed, placed_sets-append, placed_sets_pushed}
 use Rattle.basket_lists.proofs.plain.PlainSets.push.Goals as goal
 
 -- the set stands at the end
@@ -24,11 +24,26 @@ invariant_of-self-2 c =
     subst (λ l. All (IsPlaceOfSet l) c.push.new.self.items) (sym c.in_ok-extend_from_slice.ensures.items)
     (subst (All (IsPlaceOfSet (items ++ c.args.set.now))) (sym c.in_ok-push.ensures.items) all)
 
-pub returns : goal.returns
-returns c =
+pub returns-clause-pushed : goal.returns-clause-pushed
+returns-clause-pushed c =
     let items = c.self.inside.items.items in
     let places = c.self.inside.places.items in
     let place : SetSpan = record { start = c.in_ok-start.start; end = c.in_ok-end.end; count = c.args.count } in
     ap (λ l. placed_sets l c.push.new.self.items) c.in_ok-extend_from_slice.ensures.items ∙ ap (placed_sets (items ++ c.args.set.now)) c.in_ok-push.ensures.items
     ∙ placed_sets_pushed items c.args.set.now places place c.self.invariant (at_end c)
     ∙ ap (λ sets. sets ++ record { set = c.args.set.now; count = c.args.count } ∷ []) c.self.view_is
+
+pub returns-in_err-end-clause-kept : goal.returns-in_err-end-clause-kept
+returns-in_err-end-clause-kept c =
+    let items = c.self.inside.items.items in
+    let places = c.self.inside.places.items in
+    on_any_error c.from_residual-in_err-end.result
+    (ap (λ l. placed_sets l places) c.in_ok-extend_from_slice.ensures.items ∙ placed_sets-append items c.args.set.now places c.self.invariant ∙ c.self.view_is)
+
+pub returns-in_err-push-clause-kept : goal.returns-in_err-push-clause-kept
+returns-in_err-push-clause-kept c =
+    let items = c.self.inside.items.items in
+    let places = c.self.inside.places.items in
+    on_any_error c.from_residual-in_err-push.result
+    (ap (λ l. placed_sets l c.push.new.self.items) c.in_ok-extend_from_slice.ensures.items ∙ ap (placed_sets (items ++ c.args.set.now)) c.in_err-push.ensures.items
+    ∙ placed_sets-append items c.args.set.now places c.self.invariant ∙ c.self.view_is)

@@ -1,0 +1,88 @@
+-- Rising lists with an item between others.
+use Rattle.std.proofs.Common.{◌≡◌, ℕ, ◌+◌, ◌<◌, List, [], ◌∷◌, ◌++◌, length, get_or, take, drop, false, cond, eqb, ltb, refl, sym, ap, ◌∙◌, subst, inl, inr, arith}
+use Rattle.std.proofs.lemmas.Bool.{eqb-true, ltb-true, lt-ltb, false_from_ne_true}
+use Rattle.std.proofs.lemmas.List.{append-nil, map-append, take-append-drop, take_more}
+use Rattle.basket_lists.specs.Packed.{items_at}
+use Rattle.basket_sets.specs.Itemset.{IsRising, with_item}
+use Rattle.basket_sets.proofs.theory.Members.{Member, Member-append_left, Member-append_right, Member-from_map}
+use Rattle.basket_sets.proofs.theory.Rising.{cons_rises, first_below, nil_rises, rest_rises}
+use Rattle.basket_sets.proofs.theory.Tests.{rising_at}
+
+pub with_first : (first : ℕ) (items : List ℕ) → ((item : ℕ) → Member item items → first < item) → with_item first items ≡ first ∷ items
+with_first first [] below = refl
+with_first first (item ∷ items) below = ap (λ b. cond b (first ∷ item ∷ items) (cond (eqb first item) (item ∷ items) (item ∷ with_item first items))) (lt-ltb first item (below item (inl refl)))
+
+pub with_later : (item first : ℕ) (items : List ℕ) → first < item → with_item item (first ∷ items) ≡ first ∷ with_item item items
+with_later item first items more =
+    let not_less : ltb item first ≡ false = false_from_ne_true _ (λ h. let less = ltb-true item first h in omega arith) in
+    let not_equal : eqb item first ≡ false = false_from_ne_true _ (λ h. let same = eqb-true item first h in omega arith) in
+    ap (λ b. cond b (item ∷ first ∷ items) (cond (eqb item first) (first ∷ items) (first ∷ with_item item items))) not_less
+    ∙ ap (λ b. cond b (first ∷ items) (first ∷ with_item item items)) not_equal
+
+-- an item between those below it and those above
+pub with_between : (item : ℕ) (before behind : List ℕ) → ((other : ℕ) → Member other before → other < item) → ((other : ℕ) → Member other behind → item < other)
+    → with_item item (before ++ behind) ≡ before ++ item ∷ behind
+with_between item [] behind less more = with_first item behind more
+with_between item (first ∷ before) behind less more =
+    with_later item first (before ++ behind) (less first (inl refl)) ∙ ap (λ l. first ∷ l) (with_between item before behind (λ other m. less other (inr m)) more)
+
+-- the items of a rising list before one are below it, and those after it above
+pub before_below : (before : List ℕ) (item : ℕ) (behind : List ℕ) → IsRising (before ++ item ∷ behind) → (other : ℕ) → Member other before → other < item
+before_below [] item behind up other m = absurd m
+before_below (first ∷ before) item behind up other (inl same) =
+    subst (λ x. x < item) same (first_below first (before ++ item ∷ behind) up item (Member-append_right item before (item ∷ behind) (inl refl)))
+before_below (first ∷ before) item behind up other (inr m) = before_below before item behind (rest_rises first (before ++ item ∷ behind) up) other m
+
+pub behind_above : (before : List ℕ) (item : ℕ) (behind : List ℕ) → IsRising (before ++ item ∷ behind) → (other : ℕ) → Member other behind → item < other
+behind_above [] item behind up other m = first_below item behind up other m
+behind_above (first ∷ before) item behind up other m = behind_above before item behind (rest_rises first (before ++ item ∷ behind) up) other m
+
+-- parts of a rising list rise
+pub first_part_rises : (before behind : List ℕ) → IsRising (before ++ behind) → IsRising before
+first_part_rises [] behind up = nil_rises
+first_part_rises (first ∷ before) behind up =
+    cons_rises first before (λ other m. first_below first (before ++ behind) up other (Member-append_left other before behind m))
+    (first_part_rises before behind (rest_rises first (before ++ behind) up))
+
+-- a part of a rising list with the next item is the longer part
+pub with_next : (items : List ℕ) (i : ℕ) → IsRising items → i < length items → with_item (get_or items i 0) (take i items) ≡ take (i + 1) items
+with_next items i up less =
+    let more = take_more items i 0 less in
+    let all : IsRising (take i items ++ get_or items i 0 ∷ []) = subst IsRising more (first_part_rises (take (i + 1) items) (drop (i + 1) items) (subst IsRising (sym (take-append-drop (i + 1) items)) up)) in
+    ap (with_item (get_or items i 0)) (sym (append-nil (take i items)))
+    ∙ with_between (get_or items i 0) (take i items) [] (before_below (take i items) (get_or items i 0) [] all) (λ other m. absurd m) ∙ sym more
+
+-- ---- the items at places of a rising list
+
+-- they rise as the places do
+item_less : (items : List ℕ) (place other : ℕ) → IsRising items → place < other → other < length items → get_or items place 0 < get_or items other 0
+item_less items place other up less below = rising_at items place other up less below
+
+pub items_below : (items places : List ℕ) (place : ℕ) → IsRising items → place < length items → ((other : ℕ) → Member other places → other < place)
+    → (item : ℕ) → Member item (items_at items places) → item < get_or items place 0
+items_below items places place up below less item m =
+    let at = Member-from_map (λ p. get_or items p 0) item places m in
+    subst (λ x. x < get_or items place 0) at.2 (item_less items at.0 place up (less at.0 at.1) below)
+
+pub items_above : (items places : List ℕ) (place : ℕ) → IsRising items → ((other : ℕ) → Member other places → other < length items) → ((other : ℕ) → Member other places → place < other)
+    → (item : ℕ) → Member item (items_at items places) → get_or items place 0 < item
+items_above items places place up below more item m =
+    let at = Member-from_map (λ p. get_or items p 0) item places m in
+    subst (λ x. get_or items place 0 < x) at.2 (item_less items place at.0 up (more at.0 at.1) (below at.0 at.1))
+
+-- with an item at a place between others
+pub items_between : (items before behind : List ℕ) (place : ℕ) → IsRising items → place < length items → ((other : ℕ) → Member other behind → other < length items)
+    → ((other : ℕ) → Member other before → other < place) → ((other : ℕ) → Member other behind → place < other)
+    → items_at items (before ++ place ∷ behind) ≡ with_item (get_or items place 0) (items_at items (before ++ behind))
+items_between items before behind place up below within less more =
+    map-append (λ p. get_or items p 0) before (place ∷ behind)
+    ∙ sym (with_between (get_or items place 0) (items_at items before) (items_at items behind) (items_below items before place up below less) (items_above items behind place up within more))
+    ∙ ap (with_item (get_or items place 0)) (sym (map-append (λ p. get_or items p 0) before behind))
+
+-- items at rising places rise
+pub items_rise : (items places : List ℕ) → IsRising items → IsRising places → ((other : ℕ) → Member other places → other < length items) → IsRising (items_at items places)
+items_rise items [] up rising within = nil_rises
+items_rise items (place ∷ places) up rising within =
+    cons_rises (get_or items place 0) (items_at items places)
+    (items_above items places place up (λ other m. within other (inr m)) (first_below place places rising))
+    (items_rise items places up (rest_rises place places rising) (λ other m. within other (inr m)))
