@@ -189,6 +189,49 @@ class Miners(unittest.TestCase):
                         (4_095, "", 0),
                     )
 
+    def test_itemsets_that_are_too_long_for_a_word_are_mined_and_found_again(
+        self,
+    ) -> None:
+        # A place among 1,110 items takes 11 bits and a count 40, so a word has room for seven items.
+        heavy = 900_000_000
+        alone = range(100, 1_200)
+        given = "".join(
+            [f"{heavy}x {item}\n" for item in alone]
+            + [f"{heavy}x 1 2 3 4 5 6 7 8 9 10\n", "7x 1 2 3 4 5 6 7 8 9\n"]
+        ).encode()
+        together = [
+            items
+            for size in range(1, 11)
+            for items in itertools.combinations(range(1, 11), size)
+        ]
+        lines = {
+            items: f"{' '.join(map(str, items))} ({heavy + 7 * (10 not in items)})\n"
+            for items in together
+        }
+        lines.update({(item,): f"{item} ({heavy})\n" for item in alone})
+        ordered = sorted(lines, key=lambda items: (len(items), items))
+        closed = [(item,) for item in alone]
+        closed += [tuple(range(1, last)) for last in (10, 11)]
+        for ask, miner, workers in itertools.product(
+            ("sets", "closed"), MINERS, ("1", "4")
+        ):
+            with self.subTest(ask=ask, miner=miner, workers=workers):
+                words = [ask, "--min", "1", "--miner", miner, "--workers", workers]
+                ended = run(words, given)
+                wanted = ordered if ask == "sets" else closed
+                self.assertEqual(
+                    (ended.out.decode(), ended.said, ended.status),
+                    ("".join(lines[items] for items in wanted), "", 0),
+                )
+        rules = sum(
+            2 ** len(items) - 2 if 10 not in items else 2 ** (len(items) - 1) - 1
+            for items in together
+        )
+        ended = run(["rules", "--min", "1", "--conf", "1/1"], given)
+        self.assertEqual(
+            (ended.out.count(b"\n"), ended.said, ended.status), (rules, "", 0)
+        )
+
     def test_a_limit_stops_classes_that_no_memory_holds(self) -> None:
         # That they are too many isn't known before they are mined: the most frequent item is in no larger set.
         given = f"3x 0\n2x {' '.join(map(str, range(1, 41)))}\n".encode()
