@@ -14,11 +14,9 @@ use Rattle.basket_sets.proofs.theory.Rising.{Member-from_has, first_below, nil_r
 use Rattle.basket_sets.proofs.theory.Tests.{apart_eqb}
 use Rattle.basket_sets.proofs.theory.Ranges.{range_more}
 use Rattle.mine_baskets.specs.declared.span.Span.{Span}
-use Rattle.mine_baskets.specs.declared.words.Word.{Word}
 use Rattle.mine_baskets.specs.Covers.{AreCovers, HasPlace, basket_at, covers_in, weights_of}
 use Rattle.mine_baskets.specs.Span.{baskets_at}
 use Rattle.mine_baskets.specs.Span.{basket_at as span_at}
-use Rattle.mine_baskets.specs.Words.{word_place, word_places}
 
 covers_at : (covers : List (Vec ℕ Global)) (rank : ℕ) (d : Vec ℕ Global) → rank < length covers → get_or (covers_in covers) rank [] ≡ (get_or covers rank d).items
 covers_at covers rank d below = get_or-map (λ (v : Vec ℕ Global). v.items) covers rank d [] below
@@ -105,6 +103,3 @@ basket_of f xs n d here =
 
 pub span_weights : (ranks : List ℕ) (spans : List Span) → map (λ (span : Span). span.weight) spans ≡ weights_of (baskets_at ranks spans)
 span_weights ranks spans = sym (map-map (λ (p : Weighted). p.weight) (span_at ranks) spans)
-
-pub word_weights : (count : ℕ) (words : List Word) → map (λ (word : Word). word.weight) words ≡ weights_of (word_places count words)
-word_weights count words = sym (map-map (λ (p : Weighted). p.weight) (word_place count) words)

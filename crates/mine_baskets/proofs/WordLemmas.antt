@@ -7,7 +7,7 @@ use Rattle.std.proofs.Math.Seq.{get_or-append_seam, map-set_same}
 use Rattle.std.proofs.lemmas.Bool.{cases_lt}
 use Rattle.std.proofs.lemmas.Nat.Bits.{bit_at-zero}
 use Rattle.std.proofs.lemmas.List.{get_or-map, get_or_append_left, get_or_default, length-append, length-map, length-set, map-append, take_more}
-use Rattle.std.proofs.lemmas.List.Sorted.{IsPermutation-map, sum_by-IsPermutation}
+use Rattle.std.proofs.lemmas.List.Sorted.{IsPermutation-map}
 use Rattle.std.proofs.lemmas.List.Sums.{sum_by-append, sum_by-cons, sum_by-set}
 use Rattle.basket_sets.specs.declared.weighted.Weighted.{Weighted}
 use Rattle.basket_sets.specs.Counts.{AllBelow}
@@ -17,6 +17,7 @@ use Rattle.basket_sets.proofs.theory.Members.{Member, Member-filter, Member-from
 use Rattle.basket_sets.proofs.theory.Rising.{Member-from_has, has-from_Member, same_rising}
 use Rattle.basket_sets.proofs.theory.Ranges.{Member-into_range, Member-range, filtered_range_rises}
 use Rattle.basket_sets.proofs.theory.Tests.{or_false}
+use Rattle.mine_baskets.proofs.MergedLemmas.{other_weights}
 use Rattle.mine_baskets.specs.declared.words.Word.{Word}
 use Rattle.mine_baskets.specs.ListBaskets.{AreRankBaskets, HaveSameWeights, IsRankBasket, weight_where}
 use Rattle.mine_baskets.specs.Words.{AreInOrder, EndsBy, has_rank, rank_bits, ranks_in, word_place, word_places}
@@ -46,8 +47,7 @@ module _ (test : List ℕ → Bool) where
 
 -- words in another order have the same weights
 pub moved_words : (count : ℕ) (words moved : List Word) → IsPermutation words moved → HaveSameWeights (word_places count words) (word_places count moved)
-moved_words count words moved permutation test =
-    sym (sum_by-IsPermutation (weigh test) (word_places count words) (word_places count moved) (IsPermutation-map (word_place count) words moved permutation))
+moved_words count words moved permutation = other_weights (word_places count words) (word_places count moved) (IsPermutation-map (word_place count) words moved permutation)
 
 -- the baskets of words are baskets of ranks
 pub words_ranked : (count : ℕ) (words : List Word) → All (λ word. 1 ≤ word.weight) words → sum_by (λ word. word.weight) words ≤ MOST_WEIGHT
