@@ -1,13 +1,12 @@
 //! The items that sets are known to have.
 ghost use Rattle.std.specs.Prelude.{◌≡◌, ◌<◌, ◌≤◌, ◌-◌, ◌^◌, ◌%◌, [], IfOk, IfSome, IsTrue, length, map, slice_index_or, take};
-ghost use Rattle.basket_lists.specs.Packed.{IsCoding, IsLonger, IsPacked, code_of, digits, number_of, size_of, unpacked};
-ghost use Rattle.basket_lists.specs.Known.{FitsWord, IsBetween, IsWordOf, longer_number};
-ghost use Rattle.basket_sets.specs.Itemset.{AllBelow, IsRising, rising};
+ghost use Rattle.basket_lists.specs.Packed.{IsCoding, IsPacked, code_of, number_of, size_of, unpacked};
 
+mod longer;
 mod without;
 
 use crate::packed::{Packed, SIZE_AT};
-use basket_sets::{Itemset, is_rising};
+use basket_sets::is_rising;
 use std::alloc::{AllocError, Global};
 use std::marker::Model;
 
@@ -107,6 +106,19 @@ impl KnownItems {
         })
     }
 
+    /// The same items and the same words.
+    pub fn copied(&self, alloc: Global) -> Result<Self, AllocError>
+        ensures { IfOk result (λ known. known ≡ self.now) }
+    {
+        Ok(KnownItems {
+            items: self.items.to_vec(alloc)?,
+            slots: self.slots.to_vec(alloc)?,
+            item_bits: self.item_bits,
+            most: self.most,
+            count_bits: self.count_bits,
+        })
+    }
+
     /// The greatest item, or 0.
     pub fn greatest(&self) -> u32 {
         self.items.last().copied().unwrap_or(0)
@@ -182,118 +194,6 @@ impl KnownItems {
             }
         }
         self.items.binary_search(&item).ok()
-    }
-
-    /// How many of the places that are digits of a number are greater than another, or none if that is
-    /// among them.
-    fn places_above(&self, number: u128, size: u32, place: u128) -> Option<u32>
-        requires { IsRising (digits self.now.item_bits size number) }
-        ensures { IfSome result (IsBetween self.now.item_bits size number place) }
-    {
-        let mut rest = number;
-        let mut above = 0;
-        while above < size {
-            let last = low_bits(rest, self.item_bits);
-            if last == place {
-                return None;
-            }
-            if last < place {
-                return Some(above);
-            }
-            rest >>= self.item_bits;
-            above += 1;
-        }
-        Some(above)
-    }
-
-    /// The word of a set of this size, whose places are the digits of the number.
-    fn word(&self, size: u32, number: u128, count: u64) -> Packed
-        requires fits { FitsWord self.now size number count }
-        ensures { IsWordOf self.now size number count result }
-    {
-        let code = (u128::from(size) << self.number_bits()) + number;
-        Packed {
-            word: (code << self.count_bits) + u128::from(count),
-        }
-    }
-
-    /// A packed set with one more item and a count of its own, or none if the item isn't known, or
-    /// is in the set, or the word has no room.
-    pub fn longer(&self, packed: &Packed, item: u32, count: u64) -> Option<Packed>
-        requires { IsPacked self.now packed.now }
-        ensures { IfSome result (IsLonger self.now packed.now item count) }
-    {
-        let code = self.code(packed);
-        let size = self.code_size(packed);
-        if size >= self.most || !self.has_room(count) {
-            return None;
-        }
-        let place = self.place_of(item)? as u128;
-        let number = self.number(code);
-        let above = self.places_above(number, size, place)?;
-        let longer = self.with_place(number, place, above * self.item_bits);
-        Some(self.word(size + 1, longer, count))
-    }
-
-    /// A number with one more digit before the last bits.
-    fn with_place(&self, number: u128, place: u128, last_bits: u32) -> u128
-        requires last { last_bits < 128 }
-        requires place { place < 2 ^ self.now.item_bits }
-        requires room { longer_number self.now.item_bits number place last_bits < 2 ^ 121 }
-        ensures { result ≡ longer_number self.now.item_bits number place last_bits }
-    {
-        let first = ((number >> last_bits) << self.item_bits) + place;
-        (first << last_bits) + low_bits(number, last_bits)
-    }
-
-    /// Whether a word has room for a count.
-    fn has_room(&self, count: u64) -> bool
-        ensures { IsTrue result → count < 2 ^ self.now.count_bits }
-    {
-        u128::from(count) < 1 << self.count_bits
-    }
-}
-
-impl KnownItems {
-    /// The empty set, or none if a word has no room for the count.
-    fn no_items(&self, count: u64) -> Option<Packed>
-        ensures packed { IfSome result (IsPacked self.now) }
-        ensures same { IfSome result (λ packed. unpacked self.now packed ≡ record { set = []; count = count }) }
-    {
-        if !self.has_room(count) {
-            return None;
-        }
-        Some(self.word(0, 0, count))
-    }
-
-    /// A set as a word, or none if an item isn't known, or a word has no room.
-    pub fn pack(&self, set: &Itemset, count: u64) -> Option<Packed>
-        ensures packed { IfSome result (IsPacked self.now) }
-        ensures same { IfSome result (λ packed. unpacked self.now packed ≡ record { set = set.now; count = count }) }
-    {
-        let mut packed = self.no_items(count)?;
-        for item in set.items() {
-            packed = self.longer(&packed, *item, count)?;
-        }
-        Some(packed)
-    }
-
-    /// The set of the names of some numbers as a word, or none if one isn't known, two are one, or
-    /// a word has no room. The list has the name of a number at the place of that number.
-    pub fn pack_renamed(&self, numbers: &Itemset, names: &[u32], count: u64) -> Option<Packed>
-        requires { AllBelow (length names.now) numbers.now }
-        ensures packed { IfSome result (IsPacked self.now) }
-        ensures same { IfSome result (λ packed. unpacked self.now packed
-            ≡ record { set = rising (map (λ number. slice_index_or names.now number 0) numbers.now); count = count }) }
-    {
-        let mut packed = self.no_items(count)?;
-        let items = numbers.items();
-        let mut left = items.len();
-        while left > 0 {
-            left -= 1;
-            packed = self.longer(&packed, names[items[left] as usize], count)?;
-        }
-        Some(packed)
     }
 
     /// Writes the items of a packed set, which rise, to the beginning of the room, and returns how

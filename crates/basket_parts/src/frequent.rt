@@ -38,13 +38,27 @@ fn frequent_sets(
 ) -> Result<CountedSets, AllocError>
     ensures { IfOk result (λ sets. sets ≡ map counted_of (filter (is_frequent_line minimum.now total) lines.now)) }
 {
-    let mut sets = CountedSets::empty(alloc);
+    let (items, most) = single_items(alloc, lines)?;
+    let mut sets = CountedSets::new(alloc, &items, most)?;
     for line in lines {
         if is_frequent(line, minimum, total) {
             sets.push(line.set.copied(alloc)?, line.count)?;
         }
     }
     Ok(sets)
+}
+
+/// The items of sets of one item, and the greatest count of such a set.
+fn single_items(alloc: Global, lines: &[CountedLine]) -> Result<(Vec<u32>, u64), AllocError> {
+    let mut items = Vec::new(alloc);
+    let mut most = 0;
+    for line in lines {
+        if let [item] = line.set.items() {
+            items.push(*item)?;
+            most = line.count.max(most);
+        }
+    }
+    Ok((items, most))
 }
 
 /// Does nothing: the items of each set rise, by its type, and this says so of all of them.

@@ -1,8 +1,7 @@
 //! Closed and maximal sets.
-ghost use Rattle.std.specs.Prelude.{◌≡◌, ◌<◌, ◌++◌, ◌∷◌, [], IfOk, OnOk, length};
+ghost use Rattle.std.specs.Prelude.{◌≡◌, IfOk, length};
 ghost use Rattle.basket_rules.specs.Condensed.{AreClosed, AreMaximal, AreUnmarked, closed_in, maximal_in};
 ghost use Rattle.basket_rules.specs.Consistency.{IsConsistent};
-ghost use Rattle.basket_rules.specs.Listed.{counted_at};
 
 use crate::covered::{Supersets, covered};
 use basket_core::{CountedSets, Frequent};
@@ -33,24 +32,11 @@ fn unmarked(alloc: Global, sets: &CountedSets, marks: &[bool]) -> Result<Counted
     requires { length marks.now ≡ length sets.now }
     ensures { IfOk result (AreUnmarked sets.now marks.now) }
 {
-    let mut kept = CountedSets::empty(alloc);
+    let mut kept = sets.empty_like(alloc)?;
     for number in 0..sets.len() {
         if !marks[number] {
-            keep(alloc, sets, number, &mut kept)?;
+            kept.push_from(alloc, sets, number)?;
         }
     }
     Ok(kept)
-}
-
-/// Adds the set at a place of the list.
-fn keep(
-    alloc: Global,
-    sets: &CountedSets,
-    place: usize,
-    kept: &mut CountedSets,
-) -> Result<(), AllocError>
-    requires { place < length sets.now }
-    ensures { OnOk result (kept.new ≡ kept.old ++ counted_at sets.now place ∷ []) }
-{
-    kept.push(sets.set(alloc, place)?, sets.count(place))
 }
