@@ -1,5 +1,5 @@
 //! The sets that meet a minimum.
-ghost use Rattle.std.specs.Prelude.{◌≡◌, All, IfOk, filter, map};
+ghost use Rattle.std.specs.Prelude.{◌≡◌, [], All, IfOk, filter, map};
 ghost use Rattle.basket_parts.specs.Frequent.{HasRisingSet, counted_of, is_frequent_line};
 ghost use Rattle.basket_parts.specs.CombinedCounts.{frequent_in, total_in};
 
@@ -38,8 +38,7 @@ fn frequent_sets(
 ) -> Result<CountedSets, AllocError>
     ensures { IfOk result (λ sets. sets ≡ map counted_of (filter (is_frequent_line minimum.now total) lines.now)) }
 {
-    let (items, most) = single_items(alloc, lines)?;
-    let mut sets = CountedSets::new(alloc, &items, most)?;
+    let mut sets = empty_list(alloc, lines)?;
     for line in lines {
         if is_frequent(line, minimum, total) {
             sets.push(line.set.copied(alloc)?, line.count)?;
@@ -48,8 +47,10 @@ fn frequent_sets(
     Ok(sets)
 }
 
-/// The items of sets of one item, and the greatest count of such a set.
-fn single_items(alloc: Global, lines: &[CountedLine]) -> Result<(Vec<u32>, u64), AllocError> {
+/// The empty list, for sets of the items that lines have as sets of one item.
+fn empty_list(alloc: Global, lines: &[CountedLine]) -> Result<CountedSets, AllocError>
+    ensures { IfOk result (λ sets. sets ≡ []) }
+{
     let mut items = Vec::new(alloc);
     let mut most = 0;
     for line in lines {
@@ -58,7 +59,7 @@ fn single_items(alloc: Global, lines: &[CountedLine]) -> Result<(Vec<u32>, u64),
             most = line.count.max(most);
         }
     }
-    Ok((items, most))
+    CountedSets::new(alloc, &items, most)
 }
 
 /// Does nothing: the items of each set rise, by its type, and this says so of all of them.
