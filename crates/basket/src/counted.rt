@@ -104,7 +104,7 @@ pub fn report_listing<R: Threads + Sync>(
 fn single_items(alloc: Global, sets: &CountedSets) -> Result<CountedSets, AllocError>
     ensures { IfOk result (λ items. items ≡ filter (λ c. length c.set == 1) sets.now) }
 {
-    let mut items = CountedSets::empty(alloc);
+    let mut items = CountedSets::empty(alloc)?;
     for place in 0..sets.len() {
         if sets.size(place) == 1 {
             items.push(sets.set(alloc, place)?, sets.count(place))?;

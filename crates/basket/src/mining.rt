@@ -198,7 +198,7 @@ fn by_eclat<R: Threads + Sync, G: Gate + Sync, T: Row + Sync>(
     class_joins_add_up();
     let runs = runs_shared(rt, alloc, coded, cutting)?;
     let miner = EclatMiner::<T> {
-        vertical: Vertical::of_runs(coded, runs),
+        vertical: Vertical::of_runs(alloc, coded, runs)?,
         rows: PhantomData,
     };
     let phase = Phase::of_classes(cutting, gate);

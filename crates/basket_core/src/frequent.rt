@@ -98,7 +98,7 @@ fn gathered(alloc: Global, classes: Vec<CountedSets>) -> Result<CountedSets, All
     ensures { IfOk result (λ sets. sets ≡ flat_map (λ class. class) classes.items) }
 {
     let count = count_sets(&classes);
-    let mut sets = CountedSets::empty(alloc);
+    let mut sets = CountedSets::empty(alloc)?;
     for class in classes {
         if !sets.is_empty() {
             sets.append(alloc, class)?;

@@ -100,13 +100,3 @@ module _ (coding : Coding) (plain : List Counted) (words moved : List Packed) (s
 
   pub sets_moved : IsPermutation (map (kept coding plain) words) (map (kept coding plain) (take size (moved ++ drop (length moved) words)))
   sets_moved = subst (λ l. IsPermutation (map (kept coding plain) words) (map (kept coding plain) l)) (sym written) (IsPermutation-map (kept coding plain) words moved is)
-
--- ---- the sets of another list that is kept alike
-
-module _ (coding other : Coding) (plain : List Counted) (same : coding ≡ other) where
-  -- words of sets that are not kept elsewhere
-  pub words_alike : (words : List Packed) → All (IsKept other []) words → All (IsKept coding plain) words
-  words_alike words all = words_kept coding [] plain words (subst (λ k. All (IsKept k []) words) (sym same) all)
-
-  pub sets_alike : (words : List Packed) → All (IsKept other []) words → map (kept coding plain) words ≡ map (kept other []) words
-  sets_alike words all = sets_kept coding [] plain words (subst (λ k. All (IsKept k []) words) (sym same) all) ∙ ap (λ k. map (kept k []) words) same

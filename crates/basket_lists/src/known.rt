@@ -1,6 +1,7 @@
 //! The items that sets are known to have.
 ghost use Rattle.std.specs.Prelude.{◌≡◌, ◌<◌, ◌≤◌, ◌-◌, ◌^◌, ◌%◌, [], IfOk, IfSome, IsTrue, length, map, slice_index_or, take};
 ghost use Rattle.basket_lists.specs.Packed.{IsCoding, IsPacked, code_of, number_of, size_of, unpacked};
+ghost use Rattle.basket_sets.specs.Itemset.{IsRising};
 
 mod longer;
 mod without;
@@ -9,6 +10,7 @@ use crate::packed::{Packed, SIZE_AT};
 use basket_sets::is_rising;
 use std::alloc::{AllocError, Global};
 use std::marker::Model;
+use std::sync::ArcSlice;
 
 /// A set that is kept as a word has no more items.
 pub const MOST_ITEMS: usize = 120;
@@ -16,12 +18,12 @@ pub const MOST_ITEMS: usize = 120;
 /// How many items a word takes at most, whatever they are.
 const MOST_SIZE: u32 = 63;
 
-/// Items in rising order, and how sets of them are put into words.
+/// Items in rising order, which lists share, and how sets of them are put into words.
 #[derive(Debug, Drop)]
 pub struct KnownItems {
-    items: Vec<u32>,
+    items: ArcSlice<u32>,
     /// The places of items in that list, each by its lowest bits. Another item may have the same.
-    slots: Vec<usize>,
+    slots: ArcSlice<usize>,
     /// How many bits of a word a place has.
     item_bits: u32,
     /// How many items a word takes.
@@ -31,13 +33,26 @@ pub struct KnownItems {
 }
 
 impl Model for KnownItems {
+    ghost use Rattle.std.specs.Arc.{arc_slice_items};
     ghost use Rattle.basket_lists.specs.Packed.{Coding, IsCoding};
 
     ghost Value = { Coding };
 
-    ghost view = { λ known. record { items = known.items.items; item_bits = known.item_bits; most = known.most; count_bits = known.count_bits } };
+    ghost view = { λ known. record { items = arc_slice_items known.items; item_bits = known.item_bits; most = known.most; count_bits = known.count_bits } };
 
-    ghost invariant = { λ known. IsCoding (record { items = known.items.items; item_bits = known.item_bits; most = known.most; count_bits = known.count_bits }) };
+    ghost invariant = { λ known. IsCoding (record { items = arc_slice_items known.items; item_bits = known.item_bits; most = known.most; count_bits = known.count_bits }) };
+}
+
+/// The items in rising order, or none if one comes twice.
+fn rising_items(alloc: Global, items: &[u32]) -> Result<Vec<u32>, AllocError>
+    ensures { IfOk result (λ rising. IsRising rising.items) }
+{
+    let mut items = items.to_vec(alloc)?;
+    items.sort_unstable();
+    if is_rising(&items) {
+        return Ok(items);
+    }
+    Ok(Vec::new(alloc))
 }
 
 /// The places of items, each in the slot of its lowest bits. There are at least twice as many slots as
@@ -72,47 +87,30 @@ fn low_bits(number: u128, bits: u32) -> u128
 }
 
 impl KnownItems {
-    /// No items.
-    pub fn none(alloc: Global) -> Self
-        ensures { IsCoding result }
-    {
-        KnownItems {
-            items: Vec::new(alloc),
-            slots: Vec::new(alloc),
-            item_bits: 0,
-            most: 0,
-            count_bits: 0,
-        }
-    }
-
     /// The items, which come in any order, or none if one comes twice. Counts up to the greatest fit into
     /// a word.
     pub fn of(alloc: Global, items: &[u32], most: u64) -> Result<Self, AllocError>
         ensures { IfOk result IsCoding }
     {
-        let mut items = items.to_vec(alloc)?;
-        items.sort_unstable();
-        if !is_rising(&items) {
-            return Ok(KnownItems::none(alloc));
-        }
+        let items = rising_items(alloc, items)?;
         let count_bits = bits_of(most);
         let item_bits = bits_of(items.len().saturating_sub(1) as u64);
         Ok(KnownItems {
-            slots: slots_of(alloc, &items)?,
-            items,
+            slots: ArcSlice::from_vec(slots_of(alloc, &items)?)?,
+            items: ArcSlice::from_vec(items)?,
             item_bits,
             most: ((SIZE_AT - count_bits) / item_bits).min(MOST_SIZE),
             count_bits,
         })
     }
 
-    /// The same items and the same words.
-    pub fn copied(&self, alloc: Global) -> Result<Self, AllocError>
+    /// The same items, which are shared, and the same words.
+    pub fn shared(&self) -> Result<Self, AllocError>
         ensures { IfOk result (λ known. known ≡ self.now) }
     {
         Ok(KnownItems {
-            items: self.items.to_vec(alloc)?,
-            slots: self.slots.to_vec(alloc)?,
+            items: self.items.clone()?,
+            slots: self.slots.clone()?,
             item_bits: self.item_bits,
             most: self.most,
             count_bits: self.count_bits,
@@ -203,13 +201,14 @@ impl KnownItems {
         ensures items { take result room.new ≡ (unpacked self.now packed.now).set }
         ensures within { result ≤ MOST_ITEMS }
     {
+        let items: &[u32] = &self.items;
         let code = self.code(packed);
         let size = self.code_size(packed) as usize;
         let mut rest = self.number(code);
         let mut left = size;
         while left > 0 {
             left -= 1;
-            room[left] = self.items[low_bits(rest, self.item_bits) as usize];
+            room[left] = items[low_bits(rest, self.item_bits) as usize];
             rest >>= self.item_bits;
         }
         size

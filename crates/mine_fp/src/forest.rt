@@ -23,6 +23,8 @@ use std::marker::Model;
 #[derive(Debug, Drop)]
 pub struct Forest<'a> {
     all: PatternBase<'a>,
+    /// The empty list of itemsets, which knows the items.
+    empty: CountedSets,
 }
 
 impl<'a> Model for Forest<'a> {
@@ -53,6 +55,7 @@ impl<'a> Forest<'a> {
         requires supports { (set : List ℕ) → support_of runs.baskets set ≡ support_of coded.now.baskets set }
         ensures { IfOk result (λ forest. forest ≡ coded.now) }
     {
+        let empty = CountedSets::new(alloc, coded.items(), coded.total())?;
         // The baskets of a coding are light enough for a least support.
         let _ = coded.baskets();
         let ranks = all_ranks(alloc, &runs)?;
@@ -63,6 +66,7 @@ impl<'a> Forest<'a> {
                 ranks,
                 least: coded.minimum().least(coded.total()),
             },
+            empty,
         })
     }
 }
@@ -121,7 +125,7 @@ pub fn fp_class_with<T: Tally>(
     let all = &forest.all;
     let support = all.ranks[rank as usize].1;
     if support < all.least {
-        let none = CountedSets::new(alloc, all.coded.items(), all.coded.total())?;
+        let none = forest.empty.empty_like(alloc)?;
         return Ok((none, 0));
     }
     let below = all.below(alloc, rank, tables)?;
@@ -131,5 +135,5 @@ pub fn fp_class_with<T: Tally>(
         below,
         work: 1,
     };
-    class.list(alloc, all.coded, tables, tally)
+    class.list(alloc, all.coded, &forest.empty, tables, tally)
 }

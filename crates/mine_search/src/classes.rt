@@ -24,11 +24,13 @@ pub struct Class<P> {
 impl<P: Projected> Class<P> {
     /// The frequent sets whose greatest rank is this one, as items, each once with its support, and
     /// the work that they took (Zaki 2000). Each set is reported to the tally once it is known to be
-    /// frequent. `TooMany` comes if the tally is over, or the class is longer than its limit.
+    /// frequent. `TooMany` comes if the tally is over, or the class is longer than its limit. The empty
+    /// list knows the items.
     pub fn list<T: Tally>(
         self,
         alloc: Global,
         coded: &Coded,
+        empty: &CountedSets,
         scratch: &mut P::Scratch,
         tally: &mut T,
     ) -> Result<(CountedSets, u64), MineFault>
@@ -50,7 +52,7 @@ impl<P: Projected> Class<P> {
             below,
             work,
         } = self;
-        let mut mined = Mined::new(alloc, coded.items(), coded.total())?;
+        let mut mined = Mined::like(alloc, empty)?;
         mined.work = work;
         let set = Itemset::from_items(alloc, &[coded.item(rank)])?;
         mined.add(set, support, tally)?;

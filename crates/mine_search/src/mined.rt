@@ -15,13 +15,13 @@ pub struct Mined {
 }
 
 impl Mined {
-    /// Nothing yet. Sets of the items are to come, with counts up to the greatest.
-    pub fn new(alloc: Global, items: &[u32], most: u64) -> Result<Self, AllocError>
+    /// Nothing yet. Sets of the items that a list knows are to come.
+    pub fn like(alloc: Global, list: &CountedSets) -> Result<Self, AllocError>
         ensures sets { IfOk result (λ mined. mined.sets ≡ []) }
         ensures work { IfOk result (λ mined. mined.work ≡ 0) }
     {
         Ok(Mined {
-            sets: CountedSets::new(alloc, items, most)?,
+            sets: list.empty_like(alloc)?,
             work: 0,
         })
     }

@@ -57,7 +57,7 @@ pub fn eclat_class_with<R: Row, T: Tally>(
     let runs = vertical.runs();
     let support = runs.support(rank);
     if support < least {
-        let none = CountedSets::new(alloc, coded.items(), coded.total())?;
+        let none = vertical.empty().empty_like(alloc)?;
         return Ok((none, 0));
     }
     let mut joins = Joins::none();
@@ -78,5 +78,5 @@ pub fn eclat_class_with<R: Row, T: Tally>(
         below: Some(below),
         work: joins.number(),
     };
-    class.list(alloc, coded, &mut room, tally)
+    class.list(alloc, coded, vertical.empty(), &mut room, tally)
 }

@@ -5,7 +5,7 @@ ghost use Rattle.basket_sets.specs.Minimum.{IsLeastSupport};
 ghost use Rattle.basket_sets.specs.Support.{total_of};
 ghost use Rattle.mine_baskets.specs.ListBaskets.{HaveSameWeights};
 
-use basket_core::Coded;
+use basket_core::{Coded, CountedSets};
 use mine_baskets::ListBaskets;
 use mine_classes::Runs;
 use std::alloc::{AllocError, Global};
@@ -17,6 +17,8 @@ pub struct Vertical<'a> {
     coded: &'a Coded,
     least: u64,
     runs: Runs,
+    /// The empty list of itemsets, which knows the items.
+    empty: CountedSets,
 }
 
 impl<'a> Model for Vertical<'a> {
@@ -36,19 +38,24 @@ impl<'a> Vertical<'a> {
         ensures { IfOk result (λ vertical. vertical ≡ coded.now) }
     {
         let lists = ListBaskets::of_coded(alloc, coded)?;
-        Ok(Vertical::of_runs(coded, Runs::of(alloc, lists)?))
+        Vertical::of_runs(alloc, coded, Runs::of(alloc, lists)?)
     }
 
     /// The coded baskets, with runs of them that were made before.
-    pub fn of_runs(coded: &'a Coded, runs: Runs) -> Self
+    pub fn of_runs(alloc: Global, coded: &'a Coded, runs: Runs) -> Result<Self, AllocError>
         requires ranks { runs.ranks ≡ length coded.now.items }
         requires weights { HaveSameWeights coded.now.baskets runs.baskets }
-        ensures { result ≡ coded.now }
+        ensures { IfOk result (λ vertical. vertical ≡ coded.now) }
     {
         // The baskets of a coding are light enough for a least support.
         let _ = coded.baskets();
         let least = coded.minimum().least(coded.total());
-        Vertical { coded, least, runs }
+        Ok(Vertical {
+            coded,
+            least,
+            runs,
+            empty: CountedSets::new(alloc, coded.items(), coded.total())?,
+        })
     }
 }
 
@@ -66,6 +73,11 @@ impl Vertical<'_> {
         ensures { IsLeastSupport self.now.minimum (total_of self.now.baskets) result }
     {
         self.least
+    }
+
+    /// The empty list of itemsets, which knows the items.
+    pub(crate) fn empty(&self) -> &CountedSets {
+        &self.empty
     }
 
     /// The runs of each rank.

@@ -1,16 +1,19 @@
 //! Adds sets of other lists.
-ghost use Rattle.std.specs.Prelude.{◌≡◌, ◌<◌, ◌++◌, [], ◌∷◌, OnOk, length, slice_index_or};
+ghost use Rattle.std.specs.Prelude.{◌≡◌, ◌<◌, ◌++◌, [], ◌∷◌, All, OnOk, length, map, slice_index_or};
+ghost use Rattle.basket_lists.specs.Packed.{Coding, IsKept, kept};
 
 use crate::counted_sets::CountedSets;
+use crate::packed::Packed;
+use crate::plain::PlainSets;
 use std::alloc::{AllocError, Global};
 
 impl CountedSets {
     /// Adds the sets of another list.
-    pub fn append(&mut self, alloc: Global, mut other: CountedSets) -> Result<(), AllocError>
+    pub fn append(&mut self, alloc: Global, other: CountedSets) -> Result<(), AllocError>
         ensures { OnOk result (self.new ≡ self.old ++ other) }
     {
-        if other.plain.is_empty() && self.known.is_same(&other.known) {
-            return Ok(self.words.append(&mut other.words)?);
+        if self.known.is_same(&other.known) {
+            return append_words(&mut self.words, &mut self.plain, &other.words, &other.plain);
         }
         self.append_each(alloc, &other)
     }
@@ -40,5 +43,49 @@ impl CountedSets {
             return Ok(self.words.push(word)?);
         }
         self.push(other.set(alloc, place)?, other.count(place))
+    }
+}
+
+/// Adds words, and the sets that they stand for to those of another list. All are words of the same
+/// coding.
+fn append_words(
+    words: &mut Vec<Packed>,
+    plain: &mut PlainSets,
+    others: &[Packed],
+    other_plain: &PlainSets,
+) -> Result<(), AllocError>
+    requires { (coding : Coding) × All (IsKept coding other_plain.now) others.now }
+    ensures kept { (coding : Coding) → All (IsKept coding plain.old) words.old.items → All (IsKept coding other_plain.now) others.now
+        → All (IsKept coding plain.new) words.new.items }
+    ensures sets { (coding : Coding) → All (IsKept coding plain.old) words.old.items → All (IsKept coding other_plain.now) others.now
+        → OnOk result (map (kept coding plain.new) words.new.items ≡ map (kept coding plain.old) words.old.items ++ map (kept coding other_plain.now) others.now) }
+{
+    words.reserve(others.len())?;
+    for other in others {
+        append_word(words, plain, *other, other_plain)?;
+    }
+    Ok(())
+}
+
+/// Adds a word, and the set that it stands for if that is kept in another list.
+fn append_word(
+    words: &mut Vec<Packed>,
+    plain: &mut PlainSets,
+    other: Packed,
+    other_plain: &PlainSets,
+) -> Result<(), AllocError>
+    requires { (coding : Coding) × IsKept coding other_plain.now other }
+    ensures kept { (coding : Coding) → All (IsKept coding plain.old) words.old.items → IsKept coding other_plain.now other
+        → All (IsKept coding plain.new) words.new.items }
+    ensures sets { (coding : Coding) → All (IsKept coding plain.old) words.old.items → IsKept coding other_plain.now other
+        → OnOk result (map (kept coding plain.new) words.new.items ≡ map (kept coding plain.old) words.old.items ++ kept coding other_plain.now other ∷ []) }
+{
+    match other.place() {
+        None => Ok(words.push(other)?),
+        Some(place) => {
+            let word = Packed::elsewhere(plain.len());
+            plain.push(other_plain.items(place), other_plain.count(place))?;
+            Ok(words.push(word)?)
+        }
     }
 }

@@ -4,7 +4,7 @@ ghost use Rattle.basket_lists.specs.Known.{FitsWord, IsBetween, IsWordOf, longer
 ghost use Rattle.basket_lists.specs.Packed.{IsLonger, IsPacked, digits, unpacked};
 ghost use Rattle.basket_sets.specs.Itemset.{AllBelow, IsRising, rising};
 
-use crate::known::{KnownItems, low_bits};
+use crate::known::{KnownItems, bits_of, low_bits};
 use crate::packed::Packed;
 use basket_sets::Itemset;
 
@@ -116,6 +116,6 @@ impl KnownItems {
     fn has_room(&self, count: u64) -> bool
         ensures { IsTrue result → count < 2 ^ self.now.count_bits }
     {
-        u128::from(count) < 1 << self.count_bits
+        bits_of(count) <= self.count_bits
     }
 }

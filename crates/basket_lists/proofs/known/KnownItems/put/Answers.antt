@@ -1,4 +1,4 @@
-use Rattle.std.proofs.Common.{◌≡◌, ℕ, ◌-◌, ◌*◌, ◌/◌, ◌%◌, ◌^◌, ◌<◌, ◌≤◌, length, get_or, set, take, sym, ap, ◌∙◌, subst, inl, inr, arith, get_or-set_other, get_or-set_same, get_or-take, length-set}
+use Rattle.std.proofs.Common.{rules, ◌≡◌, ℕ, ◌-◌, ◌*◌, ◌/◌, ◌%◌, ◌^◌, ◌<◌, ◌≤◌, length, get_or, set, take, sym, ap, ◌∙◌, subst, inl, inr, arith, get_or-set_other, get_or-set_same, get_or-take, length-set}
 use Rattle.std.proofs.lemmas.Bool.{cases_eq}
 use Rattle.std.proofs.lemmas.List.{get_or_default, length-take-le, same_lists}
 use Rattle.basket_lists.specs.Packed.{Coding, IsCoding, code_of, number_of, set_of, size_of}
@@ -10,8 +10,8 @@ rest_at : (coding : Coding) (code size left rest : ℕ) → rest ≡ number_of c
     → rest ≡ number_of coding code / 2 ^ ((size_of coding code - left) * coding.item_bits)
 rest_at coding code size left rest is same = is ∙ ap (λ s. number_of coding code / 2 ^ ((s - left) * coding.item_bits)) same
 
-pub index-requires : goal.index-requires
-index-requires c =
+pub offset_bounds-items-low_bits : goal.offset_bounds-items-low_bits
+offset_bounds-items-low_bits c =
     let coding = c.args.self.now in
     let packed = c.args.packed.now in
     let code = code_of coding packed in
@@ -20,7 +20,21 @@ index-requires c =
     let rest = rest_at coding code c.code_size-size.result left c.loop-left.rest c.loop-left.invariant.rest c.code_size-size.ensures in
     let known = digit_known coding is packed c.requires left c.loop-left.rest c.loop-left-test.true (omega (arith, c.loop-left.invariant.few, c.code_size-size.ensures)) rest in
     let digit : c.low_bits.result ≡ c.loop-left.rest % 2 ^ coding.item_bits = c.low_bits.ensures ∙ ap (λ b. c.loop-left.rest % 2 ^ b) (ap (λ (k : Coding). k.item_bits) c.self.view_is) in
-    omega (arith, digit, known, ap (λ (k : Coding). length k.items) c.self.view_is, c.self.inside.items.ok.0)
+    let inside : c.low_bits.result < length c.deref-items.result.now = omega (arith, digit, known, ap (λ (k : Coding). length k.items) c.self.view_is, ap length c.deref-items.ensures.value) in
+    search (rules, inside)
+
+pub bounds-items-low_bits : goal.bounds-items-low_bits
+bounds-items-low_bits c =
+    let coding = c.args.self.now in
+    let packed = c.args.packed.now in
+    let code = code_of coding packed in
+    let is = subst IsCoding c.self.view_is c.self.invariant in
+    let left = c.loop-left.left in
+    let rest = rest_at coding code c.code_size-size.result left c.loop-left.rest c.loop-left.invariant.rest c.code_size-size.ensures in
+    let known = digit_known coding is packed c.requires left c.loop-left.rest c.loop-left-test.true (omega (arith, c.loop-left.invariant.few, c.code_size-size.ensures)) rest in
+    let digit : c.low_bits.result ≡ c.loop-left.rest % 2 ^ coding.item_bits = c.low_bits.ensures ∙ ap (λ b. c.loop-left.rest % 2 ^ b) (ap (λ (k : Coding). k.item_bits) c.self.view_is) in
+    let inside : c.low_bits.result < length c.deref-items.result.now = omega (arith, digit, known, ap (λ (k : Coding). length k.items) c.self.view_is, ap length c.deref-items.ensures.value) in
+    inside
 
 pub loop-left-preserved : goal.loop-left-preserved
 loop-left-preserved c =
@@ -35,21 +49,20 @@ loop-left-preserved c =
     let bits = ap (λ (k : Coding). k.item_bits) c.self.view_is in
     let digit : c.low_bits.result ≡ c.loop-left.rest % 2 ^ coding.item_bits = c.low_bits.ensures ∙ ap (λ b. c.loop-left.rest % 2 ^ b) bits in
     let known = digit_known coding is packed c.requires left c.loop-left.rest c.loop-left-test.true few rest in
-    let item : c.index.result.now ≡ get_or (set_of coding code) (left - 1) 0 =
-    c.index.ensures ∙ ap (λ (k : Coding). get_or k.items c.low_bits.result c.index.result.now) c.self.view_is ∙ ap (λ p. get_or coding.items p c.index.result.now) digit
-    ∙ get_or_default coding.items (c.loop-left.rest % 2 ^ coding.item_bits) c.index.result.now 0 known
-    ∙ digit_item coding is packed c.requires left c.loop-left.rest c.loop-left-test.true few rest in
+    let all = c.deref-items.ensures.value ∙ ap (λ (k : Coding). k.items) c.self.view_is in
+    let item : get_or c.deref-items.result.now c.low_bits.result 0 ≡ get_or (set_of coding code) (left - 1) 0 =
+    ap (λ items. get_or items c.low_bits.result 0) all ∙ ap (λ p. get_or coding.items p 0) digit ∙ digit_item coding is packed c.requires left c.loop-left.rest c.loop-left-test.true few rest in
     let full = c.loop-left.invariant.full in
     record {
-      full = length-set c.loop-left.room (left - 1) c.index.result.now ∙ full;
+      full = length-set c.loop-left.room (left - 1) (get_or c.deref-items.result.now c.low_bits.result 0) ∙ full;
       few = omega (arith, c.loop-left.invariant.few);
       rest = ap (λ b. c.loop-left.rest / 2 ^ b) bits ∙ rest_next coding is packed c.requires left c.loop-left.rest c.loop-left-test.true few rest
           ∙ ap (λ s. number_of coding code / 2 ^ ((s - (left - 1)) * coding.item_bits)) (sym c.code_size-size.ensures);
       room = λ k from to. elim (cases_eq k (left - 1)) [
         | inl same ↦
-            subst (λ n. get_or (set c.loop-left.room (left - 1) c.index.result.now) n 0 ≡ get_or (set_of coding code) n 0) (sym same)
-            (get_or-set_same c.loop-left.room (left - 1) c.index.result.now 0 (omega (arith, full, few, c.requires.code.size, is.sizes)) ∙ item)
-        | inr other ↦ get_or-set_other c.loop-left.room (left - 1) k c.index.result.now 0 other ∙ c.loop-left.invariant.room k (omega (arith, from, other)) to
+            subst (λ n. get_or (set c.loop-left.room (left - 1) (get_or c.deref-items.result.now c.low_bits.result 0)) n 0 ≡ get_or (set_of coding code) n 0) (sym same)
+            (get_or-set_same c.loop-left.room (left - 1) (get_or c.deref-items.result.now c.low_bits.result 0) 0 (omega (arith, full, few, c.requires.code.size, is.sizes)) ∙ item)
+        | inr other ↦ get_or-set_other c.loop-left.room (left - 1) k (get_or c.deref-items.result.now c.low_bits.result 0) 0 other ∙ c.loop-left.invariant.room k (omega (arith, from, other)) to
       ];
     }
 
