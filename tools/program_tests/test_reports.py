@@ -91,6 +91,11 @@ CSV = (
     ("items --form baskets --header --min 2", b"name\nx\nx\n", "2,x|"),
     ("items --form baskets --min 50%", b" x ,x\n\t\ny\n", "1,x|1,y|"),
     (
+        "items --form baskets --weight --min 2",
+        b"2,bread,milk,bread\n1,bread\n" * 2_000,
+        "6000,bread|4000,milk|",
+    ),
+    (
         "sets --form baskets --weight --min 2",
         b"2,bread,milk\n1,bread\n",
         "3,bread|2,milk|2,bread,milk|",
@@ -126,6 +131,12 @@ REFUSED = (
         "total weight above 1099511627775",
     ),
     ("items --form baskets --min 1", b"a\n\xff\n", 3, "record 2: field is not UTF-8"),
+    (
+        "items --form baskets --weight --min 1",
+        b"1000000000,a\n" * 1_100,
+        3,
+        "total weight above 1099511627775",
+    ),
     (
         "sets --form single --min 1",
         RECEIPTS + b"a\n",

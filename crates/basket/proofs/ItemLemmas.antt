@@ -1,9 +1,12 @@
 -- The items of an input that are counted while it is read.
-use Rattle.std.proofs.Common.{◌≡◌, ℕ, ◌+◌, List, [], ◌++◌, Bool, true, false, cond, Option, Some, None, Ok, Err, sym, ap, ◌∙◌, refl, subst, arith}
+use Rattle.std.proofs.Common.{◌≡◌, ℕ, ◌+◌, List, [], ◌++◌, Bool, true, false, cond, Option, Some, None, Result, Ok, Err, sym, ap, ◌∙◌, refl, subst, arith}
 use Rattle.std.specs.Prelude.{IfSome}
 use Rattle.basket_core.specs.declared.fault.MineFault.TheVariants.{Memory, TooMany}
+use Rattle.basket_csv.specs.Csv.{Named, baskets_of_csv}
+use Rattle.basket_csv.specs.Read.{AnswersItems}
 use Rattle.basket_plan.specs.declared.plan.Ask.TheVariants.{Items}
-use Rattle.basket_plan.specs.declared.layout.Form.TheVariants.{Fimi}
+use Rattle.basket_plan.specs.declared.layout.Form.TheVariants.{Baskets, Fimi}
+use Rattle.basket_plan.specs.declared.layout.Layout.{Layout}
 use Rattle.basket_plan.specs.Plan.{Question}
 use Rattle.basket_read.specs.declared.fault.ReadFault.{ReadFault}
 use Rattle.basket_read.specs.declared.fault.ReadFault.TheVariants.{Read}
@@ -12,7 +15,6 @@ use Rattle.basket_read.specs.Fimi.{fimi_of}
 use Rattle.basket_read.specs.ItemCounts.{AreCountsOf, Counts}
 use Rattle.basket_read.specs.Read.{FailsAfter}
 use Rattle.basket_report.specs.Report.{report_of}
-use Rattle.basket_report.specs.Style.{Numbered}
 use Rattle.basket_sets.proofs.theory.Support.{support-append}
 use Rattle.basket_sets.specs.declared.weighted.Weighted.{Weighted}
 use Rattle.basket_sets.specs.Frequent.{frequent_items_of}
@@ -20,7 +22,7 @@ use Rattle.basket_sets.specs.Support.{total_of}
 use Rattle.basket.specs.declared.fault.RunFault.TheVariants.{Input}
 use Rattle.basket.specs.Engine.{IsReadable, MakesReport, RefusesInput, RefusesSets}
 use Rattle.basket.specs.declared.contents.Contents.TheVariants as contents
-use Rattle.basket.specs.Contents.{FailsIn, by_numbers, contents_in, wording_with}
+use Rattle.basket.specs.Contents.{FailsIn, by_names, by_numbers, contents_in, wording_with}
 use Rattle.basket.specs.Outcome.{are_too_many, report_of_baskets, of_mining, outcome, outcome_of, text_of}
 use Rattle.basket.proofs.EngineLemmas.{mined_is_readable}
 
@@ -46,26 +48,70 @@ counts_refuse left after question fault failed form exact fails read = (
     refused None h = tt
     refused (Some bytes) h = λ other. ap (λ f. outcome_of (contents_in f question.layout [] bytes) question) form ∙ ap (λ r. outcome_of (by_numbers contents.Baskets r) question) (h other)
 
--- the outcome for the baskets of the input
-fimi_outcome : (bytes : List ℕ) (question : Question) (baskets : List Weighted) → question.layout.form ≡ Fimi → fimi_of bytes ≡ Ok baskets
-    → outcome bytes question ≡ of_mining (report_of_baskets baskets None question)
-fimi_outcome bytes question baskets form is =
-    ap (λ f. outcome_of (contents_in f question.layout [] bytes) question) form ∙ ap (λ r. outcome_of (by_numbers contents.Baskets r) question) is
+-- the items of the baskets of an input were counted, with these names: its outcome is the report of these baskets
+abbrev pub IsCounted : Question → ItemCounts → Option (List (List ℕ)) → List ℕ → Type 0
+IsCounted question counts names bytes = (baskets : List Weighted) × (outcome bytes question ≡ of_mining (report_of_baskets baskets names question)) × AreCountsOf counts baskets
+
+pub fimi_counted : (left : Option (List ℕ)) (question : Question) (counts : ItemCounts) → question.layout.form ≡ Fimi
+    → IfSome left (λ bytes. Counts (Ok counts) (fimi_of bytes)) → IfSome left (IsCounted question counts None)
+fimi_counted None question counts form read = tt
+fimi_counted (Some bytes) question counts form (baskets, is, counted) = (
+  baskets,
+  ap (λ f. outcome_of (contents_in f question.layout [] bytes) question) form ∙ ap (λ r. outcome_of (by_numbers contents.Baskets r) question) is,
+  counted,
+)
+
+-- what the bytes say as CSV records that are baskets, where no names are known
+abbrev pub csv_of : Question → List ℕ → Result Named ReadFault
+csv_of question bytes = baskets_of_csv question.layout.separator question.layout.header question.layout.weighted [] bytes
+
+pub csv_read : (left : Option (List ℕ)) (question : Question) (layout : Layout) (known : List (List ℕ)) (result : Result (ItemCounts × List (List ℕ)) ReadFault)
+    → layout ≡ question.layout → known ≡ [] → IfSome left (λ bytes. AnswersItems result (baskets_of_csv layout.separator layout.header layout.weighted known bytes))
+    → IfSome left (λ bytes. AnswersItems result (csv_of question bytes))
+csv_read left question layout known result same none h =
+    subst (λ (l : Layout). IfSome left (λ bytes. AnswersItems result (baskets_of_csv l.separator l.header l.weighted [] bytes))) same
+    (subst (λ names. IfSome left (λ bytes. AnswersItems result (baskets_of_csv layout.separator layout.header layout.weighted names bytes))) none h)
+
+pub csv_counted : (left : Option (List ℕ)) (question : Question) (counts : ItemCounts) (names : List (List ℕ)) → question.layout.form ≡ Baskets
+    → IfSome left (λ bytes. AnswersItems (Ok (counts, names)) (csv_of question bytes)) → IfSome left (IsCounted question counts (Some names))
+csv_counted None question counts names form read = tt
+csv_counted (Some bytes) question counts names form (baskets, is, counted) = (
+  baskets,
+  ap (λ f. outcome_of (contents_in f question.layout [] bytes) question) form ∙ ap (λ r. outcome_of (by_names contents.Baskets r) question) is,
+  counted,
+)
+
+abbrev pub items_refusal : ReadFault → Result (ItemCounts × List (List ℕ)) ReadFault
+items_refusal fault = Err fault
+
+-- the fault of CSV records is that of the input
+pub csv_refuses : (left after : Option (List ℕ)) (question : Question) (fault : ReadFault) (failed : Bool) → question.layout.form ≡ Baskets
+    → (failed ≡ false → IfSome left (λ bytes. AnswersItems (Err fault) (csv_of question bytes)))
+    → (failed ≡ true → items_refusal fault ≡ Err Read) → (fault ≡ Read → failed ≡ true) → MakesReport question left after failed (Err (Input fault))
+csv_refuses left after question fault failed form exact fails read = (
+  λ working. refused left (exact working),
+  λ broken. subst (λ f. FailsIn f left after fault) (sym form) (let refusal = fails broken in let same : fault ≡ Read = cc in same),
+  read,
+)
+  where
+    refused : (left : Option (List ℕ)) → IfSome left (λ bytes. AnswersItems (Err fault) (csv_of question bytes)) → RefusesInput left question fault
+    refused None h = tt
+    refused (Some bytes) h = λ other. ap (λ f. outcome_of (contents_in f question.layout [] bytes) question) form ∙ ap (λ r. outcome_of (by_names contents.Baskets r) question) (h other)
 
 -- memory may be out only if the input has no fault
-pub memory_refuses : (left : Option (List ℕ)) (question : Question) (counts : ItemCounts) → question.layout.form ≡ Fimi
-    → IfSome left (λ bytes. Counts (Ok counts) (fimi_of bytes)) → RefusesSets left question Memory
-memory_refuses None question counts form read = tt
-memory_refuses (Some bytes) question counts form (baskets, is, counted) =
-    (subst IsReadable (sym (fimi_outcome bytes question baskets form is)) (mined_is_readable (report_of_baskets baskets None question)), λ other. absurd (other refl))
+pub memory_refuses : (left : Option (List ℕ)) (question : Question) (counts : ItemCounts) (names : Option (List (List ℕ)))
+    → IfSome left (IsCounted question counts names) → RefusesSets left question Memory
+memory_refuses None question counts names read = tt
+memory_refuses (Some bytes) question counts names (baskets, is, counted) =
+    (subst IsReadable (sym is) (mined_is_readable (report_of_baskets baskets names question)), λ other. absurd (other refl))
 
 -- the report of the counts is that of the input
-pub counts_report : (left : Option (List ℕ)) (question : Question) (counts : ItemCounts) (report : List ℕ) → question.ask ≡ Items → question.layout.form ≡ Fimi
-    → IfSome left (λ bytes. Counts (Ok counts) (fimi_of bytes))
-    → ((baskets : List Weighted) → AreCountsOf counts baskets → report ≡ report_of Numbered (frequent_items_of baskets question.minimum))
+pub counts_report : (left : Option (List ℕ)) (question : Question) (counts : ItemCounts) (names : Option (List (List ℕ))) (report : List ℕ) → question.ask ≡ Items
+    → IfSome left (IsCounted question counts names)
+    → ((baskets : List Weighted) → AreCountsOf counts baskets → report ≡ report_of (wording_with question.layout.separator names) (frequent_items_of baskets question.minimum))
     → IfSome left (λ bytes. outcome bytes question ≡ Ok report)
-counts_report None question counts report items form read made = tt
-counts_report (Some bytes) question counts report items form (baskets, is, counted) made =
-    fimi_outcome bytes question baskets form is
-    ∙ ap (λ a. of_mining (cond (are_too_many a baskets question.minimum question.limit) (Err (TooMany question.limit)) (Ok (text_of (wording_with question.layout.separator None) a baskets question.minimum)))) items
+counts_report None question counts names report items read made = tt
+counts_report (Some bytes) question counts names report items (baskets, is, counted) made =
+    is
+    ∙ ap (λ a. of_mining (cond (are_too_many a baskets question.minimum question.limit) (Err (TooMany question.limit)) (Ok (text_of (wording_with question.layout.separator names) a baskets question.minimum)))) items
     ∙ ap Ok (sym (made baskets counted))

@@ -9,7 +9,7 @@ ghost use Rattle.basket.specs.Outcome.{report_of_baskets, outcome_for};
 use crate::contents::{Contents, style_of};
 use crate::counted::{listing, report_listing};
 use crate::fault::RunFault;
-use crate::items::report_items;
+use crate::items::{report_items, report_named_items};
 use crate::mining::{cutting, mine_in_place};
 use crate::prepared::PreparedReport;
 use crate::workers::plan_for;
@@ -65,7 +65,7 @@ pub fn run<R: RandomSource + Threads + Sync, S: Source, W: Sink>(
 }
 
 /// The report that the plan asks for over an input, which is read to its end. Items of a FIMI input
-/// are counted while it is read.
+/// and of CSV baskets are counted while it is read.
 pub fn reported<R: RandomSource + Threads + Sync, S: Source>(
     rt: &R,
     alloc: Global,
@@ -77,6 +77,7 @@ pub fn reported<R: RandomSource + Threads + Sync, S: Source>(
 {
     match (plan.ask(), plan.layout().form) {
         (Ask::Items, Form::Fimi) => report_items(rt, alloc, plan, reader),
+        (Ask::Items, Form::Baskets) => report_named_items(rt, alloc, plan, reader),
         _ => report_input(rt, alloc, plan, reader),
     }
 }

@@ -1,8 +1,8 @@
-//! The frequent items of a FIMI input.
+//! The frequent items of an input whose baskets are counted while it is read.
 ghost use Rattle.std.specs.Prelude.{◌≡◌, false, List, IfOk};
 ghost use Rattle.basket_read.specs.ItemCounts.{AreCountsOf, AreLightCounts};
 ghost use Rattle.basket_report.specs.Report.{report_of};
-ghost use Rattle.basket_report.specs.Style.{Numbered};
+ghost use Rattle.basket_report.specs.Style.{wording_of};
 ghost use Rattle.basket_sets.specs.declared.weighted.Weighted.{Weighted as Basket};
 ghost use Rattle.basket_sets.specs.Frequent.{frequent_items_of};
 ghost use Rattle.basket.specs.Engine.{MakesReport};
@@ -12,11 +12,13 @@ use crate::mining::cutting;
 use crate::prepared::PreparedReport;
 use crate::workers::plan_for;
 use basket_core::{MineFault, Source, add_counts};
+use basket_csv::{Dialect, Names, count_baskets};
 use basket_plan::{Ask, Form, Plan};
 use basket_read::{ItemCounts, count_fimi_shared};
 use basket_report::{Style, items_report};
 use mine_phases::{Open, count_shared};
 use std::alloc::{AllocError, Global};
+use std::random::RandomSource;
 use std::thread::Threads;
 
 /// The report of the frequent items of a FIMI input, which are counted while it is read.
@@ -35,7 +37,41 @@ pub fn report_items<R: Threads + Sync, S: Source>(
         Ok(counts) => counts,
         Err(fault) => return Err(RunFault::Input(fault)),
     };
-    match report_counts(rt, alloc, &counts, plan) {
+    match report_counts(rt, alloc, &counts, plan, Style::Numbers) {
+        Ok(report) => Ok(PreparedReport::Text(report)),
+        Err(AllocError) => Err(RunFault::Mine(MineFault::Memory)),
+    }
+}
+
+/// The report of the frequent items of CSV records that are baskets, which are counted while they
+/// are read.
+pub fn report_named_items<R: RandomSource + Threads + Sync, S: Source>(
+    rt: &R,
+    alloc: Global,
+    plan: &Plan,
+    reader: &mut S,
+) -> Result<PreparedReport, RunFault>
+    requires reader { S.has_failed reader.old ≡ false }
+    requires items { plan.now.question.ask ≡ Ask.Items }
+    requires records { plan.now.question.layout.form ≡ Form.Baskets }
+    ensures { MakesReport plan.now.question (S.left reader.old) (S.left reader.new) (S.has_failed reader.new) result }
+{
+    let layout = plan.layout();
+    let separator = layout.separator;
+    let dialect = Dialect {
+        separator,
+        header: layout.header,
+    };
+    let known = Names::none(alloc);
+    let (counts, names) = match count_baskets(rt, alloc, reader, dialect, layout.weighted, known) {
+        Ok(counted) => counted,
+        Err(fault) => return Err(RunFault::Input(fault)),
+    };
+    let style = Style::Names {
+        names: &names,
+        separator,
+    };
+    match report_counts(rt, alloc, &counts, plan, style) {
         Ok(report) => Ok(PreparedReport::Text(report)),
         Err(AllocError) => Err(RunFault::Mine(MineFault::Memory)),
     }
@@ -48,15 +84,16 @@ fn report_counts<R: Threads + Sync>(
     alloc: Global,
     counts: &ItemCounts,
     plan: &Plan,
+    style: Style<'_>,
 ) -> Result<Vec<u8>, AllocError>
     requires { AreLightCounts counts.now }
     ensures { (baskets : List Basket) → AreCountsOf counts.now baskets
-        → IfOk result (λ report. report.items ≡ report_of Numbered (frequent_items_of baskets plan.now.question.minimum)) }
+        → IfOk result (λ report. report.items ≡ report_of (wording_of style.entry) (frequent_items_of baskets plan.now.question.minimum)) }
 {
     let first = counts.table.counts(alloc)?;
     let cutting = cutting(&plan_for(&counts.rest, plan));
     let rest = count_shared(rt, alloc, counts.rest.baskets(), cutting, &Open)?;
     let all = add_counts(alloc, &first, &rest)?;
     let total = counts.table.total() + counts.rest.total();
-    items_report(alloc, &all, plan.minimum(), total, Style::Numbers)
+    items_report(alloc, &all, plan.minimum(), total, style)
 }

@@ -82,7 +82,7 @@ no_fault weighted nth row first weight (Ok x) f text whole w err =
 pub added : {S H X : Type 0} (old new : Baskets S H) (start : Start) (rows : List (List (List ℕ))) (row : List (List ℕ)) (first weight : ℕ) (numbers : List ℕ) (r : Result X ReadFault)
     → first ≡ fields_before old.weighted → Some weight ≡ weight_of old.weighted row → new.weighted ≡ old.weighted
     → new.names ≡ fold with_name old.names (names_of (drop first row)) → numbers ≡ map (number_in new.names) (names_of (drop first row))
-    → ((baskets : List Weighted) → HasGathered old.gathered baskets → OnOk r (HasGathered new.gathered (baskets ++ basket_of_numbers numbers weight)))
+    → ((counting : Bool) (baskets : List Weighted) → HasGathered old.gathered counting baskets → OnOk r (HasGathered new.gathered counting (baskets ++ basket_of_numbers numbers weight)))
     → HasRead old start rows → OnOk r (HasRead new start (rows ++ row ∷ []))
 added old new start rows row first weight numbers (Err fault) f w same names ns gathers h = tt
 added old new start rows row first weight numbers (Ok x) f w same names ns gathers h =
@@ -99,5 +99,5 @@ added old new start rows row first weight numbers (Ok x) f w same names ns gathe
     record {
       weighted = same ∙ h.weighted;
       names = all;
-      gathered = subst (HasGathered new.gathered) (ap (λ b. baskets_in weighted known rows ++ b) basket ∙ sym (baskets_more weighted known rows row)) (gathers (baskets_in weighted known rows) h.gathered);
+      gathered = subst (HasGathered new.gathered start.counting) (ap (λ b. baskets_in weighted known rows ++ b) basket ∙ sym (baskets_more weighted known rows row)) (gathers start.counting (baskets_in weighted known rows) h.gathered);
     }

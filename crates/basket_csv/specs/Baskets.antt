@@ -10,4 +10,4 @@ use Rattle.basket_csv.specs.Names.{in_order}
 pub record HasRead {S H : Type 0} (baskets : Baskets S H) (start : Start) (rows : List (List (List ℕ))) : Type 0 where
   pub weighted : baskets.weighted ≡ start.weighted
   pub names : baskets.names ≡ in_order (start.known ++ all_names start.weighted rows)
-  pub gathered : HasGathered baskets.gathered (baskets_in start.weighted start.known rows)
+  pub gathered : HasGathered baskets.gathered start.counting (baskets_in start.weighted start.known rows)

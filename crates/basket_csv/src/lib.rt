@@ -23,4 +23,4 @@ pub mod worked;
 
 pub use dialect::Dialect;
 pub use names::Names;
-pub use read::{read_baskets, read_named_counts, read_single};
+pub use read::{count_baskets, read_baskets, read_named_counts, read_single};

@@ -1,5 +1,5 @@
 //! Records that have a basket's id and a name each.
-ghost use Rattle.std.specs.Prelude.{◌≡◌, ◌≤◌, List, ℕ, [], ◌∷◌, ◌++◌, length, map, None, OnOk, IfOk, IfErr, IfSome};
+ghost use Rattle.std.specs.Prelude.{◌≡◌, ◌≤◌, List, ℕ, [], ◌∷◌, ◌++◌, length, map, false, None, OnOk, IfOk, IfErr, IfSome};
 ghost use Rattle.std.specs.List.{flat_map};
 ghost use Rattle.csv.specs.Records.{fields_of};
 ghost use Rattle.basket_read.specs.Fimi.{basket_of_numbers, if_light, MOST_BYTES};
@@ -50,10 +50,10 @@ fn add_number(
 /// The baskets of groups of numbers, each of weight 1.
 fn gathered_from(alloc: Global, groups: &[Group]) -> Result<GatheredBaskets, ReadFault>
     requires few { length groups.now ≤ MOST_BASKETS }
-    ensures baskets { IfOk result (λ gathered. HasGathered gathered (flat_map (λ group. basket_of_numbers group.items 1) groups.now)) }
+    ensures baskets { IfOk result (λ gathered. HasGathered gathered false (flat_map (λ group. basket_of_numbers group.items 1) groups.now)) }
     ensures err { IfErr result (λ fault. fault ≡ ReadFault.Memory) }
 {
-    let mut gathered = GatheredBaskets::new(alloc);
+    let mut gathered = GatheredBaskets::new(alloc, false);
     for group in groups {
         gathered.add(group, 1)?;
     }

@@ -1,17 +1,18 @@
 //! Reading a CSV input, over random keys or a fixed seed.
-ghost use Rattle.std.specs.Prelude.{◌≡◌, true, false, IfSome, Err};
+ghost use Rattle.std.specs.Prelude.{◌≡◌, true, false, IfOk, IfSome, Err};
 ghost use Rattle.basket_read.specs.declared.fault.ReadFault.TheVariants.{Read};
 ghost use Rattle.basket_csv.specs.Counts.{named_counts_of};
 ghost use Rattle.basket_csv.specs.Csv.{baskets_of_csv, pairs_of_csv};
-ghost use Rattle.basket_csv.specs.Read.{Answers, AnswersCounts};
+ghost use Rattle.basket_csv.specs.Read.{Answers, AnswersCounts, AnswersItems};
+ghost use Rattle.basket_read.specs.ItemCounts.{AreLightCounts};
 
-use crate::baskets::say_baskets;
+use crate::baskets::{say_baskets, say_items};
 use crate::counts::say_counts;
 use crate::dialect::Dialect;
 use crate::input::take_in;
 use crate::names::Names;
 use crate::pairs::say_pairs;
-use basket_read::{CountedLine, ReadFault};
+use basket_read::{CountedLine, ItemCounts, ReadFault};
 use basket_sets::Database;
 use basket_stream::Source;
 use std::alloc::Global;
@@ -44,6 +45,34 @@ pub fn read_baskets<R: RandomSource, S: Source>(
         Err(_) => {
             let seed = BuildHasherDefault::<FoldHasher>::new();
             say_baskets(alloc, &bytes, dialect, weight, known, seed)
+        }
+    }
+}
+
+/// Reads a CSV input to its end, as `read_baskets` does, and counts the items of its baskets.
+pub fn count_baskets<R: RandomSource, S: Source>(
+    rt: &R,
+    alloc: Global,
+    reader: &mut S,
+    dialect: Dialect,
+    weight: bool,
+    known: Names,
+) -> Result<(ItemCounts, Names), ReadFault>
+    requires { S.has_failed reader.old ≡ false }
+    // If the reader doesn't fail, the result is that of all its bytes.
+    ensures exact { S.has_failed reader.new ≡ false → IfSome (S.left reader.old) (λ bytes. AnswersItems result (baskets_of_csv dialect.separator dialect.header weight known bytes)) }
+    ensures light { IfOk result (λ counted. AreLightCounts counted.0) }
+    // If it fails, the result is `Read`, and only then.
+    ensures failed { S.has_failed reader.new ≡ true → result ≡ Err Read }
+    ensures read_is_failed { result ≡ Err Read → S.has_failed reader.new ≡ true }
+{
+    let bytes = take_in(alloc, reader)?;
+    match RandomState::new(rt) {
+        Ok(keys) => say_items(alloc, &bytes, dialect, weight, known, keys),
+        // The order of the names is the same.
+        Err(_) => {
+            let seed = BuildHasherDefault::<FoldHasher>::new();
+            say_items(alloc, &bytes, dialect, weight, known, seed)
         }
     }
 }

@@ -2,7 +2,7 @@ use Rattle.std.proofs.Common.{◌≡◌, ◌+◌, ap, sym, ◌∙◌, arith}
 use Rattle.std.proofs.lemmas.Result.{IfOk-weaker}
 use Rattle.basket_report.specs.Items.{items_met}
 use Rattle.basket_report.specs.Report.{report_of}
-use Rattle.basket_report.specs.Style.{Numbered}
+use Rattle.basket_report.specs.Style.{wording_of}
 use Rattle.basket_sets.specs.Counts.{item_supports}
 use Rattle.basket_sets.specs.Support.{total_of}
 use Rattle.basket_sets.proofs.theory.Items.{frequent_items_are_counted}
@@ -37,5 +37,5 @@ returns g c = λ baskets counted.
     let counts = c.deref-3.ensures.value ∙ c.in_ok-all.ensures.counts ∙ added_is c.deref.result.now c.deref-2.result.now counted.0 c.args.counts.now.rest baskets front back (sym counted.2) in
     let total : c.total.result + c.total-2.result ≡ total_of baskets = omega (arith, c.total.ensures, c.total-2.ensures, counted.1.total, totals_add counted.0 c.args.counts.now.rest baskets counted.2) in
     IfOk-weaker c.items_report.result _ _
-    (λ report same. same ∙ (λ i. report_of Numbered (items_met (counts i) (c.minimum.ensures i) (total i))) ∙ ap (report_of Numbered) (sym (frequent_items_are_counted baskets minimum)))
+    (λ report same. same ∙ (λ i. report_of (wording_of c.args.style) (items_met (counts i) (c.minimum.ensures i) (total i))) ∙ ap (report_of (wording_of c.args.style)) (sym (frequent_items_are_counted baskets minimum)))
     c.items_report.ensures

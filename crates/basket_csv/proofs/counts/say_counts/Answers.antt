@@ -1,4 +1,4 @@
-use Rattle.std.proofs.Common.{◌++◌, true, refl}
+use Rattle.std.proofs.Common.{◌++◌, true, false, refl}
 use Rattle.std.proofs.lemmas.Result.{err_from_is_err_and}
 use Rattle.basket_csv.specs.RecordCollector.{Start}
 use Rattle.basket_csv.specs.Counts.{lines_from}
@@ -12,7 +12,7 @@ pub returns-in_err-add_all : goal.returns-in_err-add_all
 returns-in_err-add_all g c =
     let known = c.args.known in
     let header = c.args.dialect.header in
-    let start : Start = record { first = first_number header; weighted = true; known = known } in
+    let start : Start = record { first = first_number header; weighted = true; known = known; counting = false } in
     let rows = behind_header header (records_of c.args.dialect.separator c.args.bytes.now) in
     let names = in_order (known ++ all_names true rows) in
     let p = err_from_is_err_and c.from_residual-in_err-add_all.result c.from_residual-in_err-add_all.ensures.1 in
@@ -23,7 +23,7 @@ pub returns : goal.returns
 returns g c =
     let known = c.args.known in
     let header = c.args.dialect.header in
-    let start : Start = record { first = first_number header; weighted = true; known = known } in
+    let start : Start = record { first = first_number header; weighted = true; known = known; counting = false } in
     let fresh = c.in_ok-counts.ensures.read start refl in
     let rows = behind_header header (records_of c.args.dialect.separator c.args.bytes.now) in
     let names = in_order (known ++ all_names true rows) in
@@ -32,5 +32,5 @@ returns g c =
 
 pub add_all-requires-clause-read : goal.add_all-requires-clause-read
 add_all-requires-clause-read g c =
-    let start : Start = record { first = first_number c.args.dialect.header; weighted = true; known = c.args.known } in
+    let start : Start = record { first = first_number c.args.dialect.header; weighted = true; known = c.args.known; counting = false } in
     (start, refl, c.in_ok-counts.ensures.read start refl)

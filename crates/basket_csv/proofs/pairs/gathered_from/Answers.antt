@@ -1,11 +1,11 @@
-use Rattle.std.proofs.Common.{arith, length, take}
+use Rattle.std.proofs.Common.{arith, take}
 use Rattle.std.proofs.lemmas.List.{length-take}
 use Rattle.basket_read.specs.Fimi.{basket_of_numbers}
-use Rattle.basket_csv.proofs.GatheredLemmas.{kept_are, one_basket, one_each}
+use Rattle.basket_csv.proofs.GatheredLemmas.{kept_few, one_basket, one_each}
 use Rattle.basket_csv.proofs.pairs.gathered_from.Goals as goal
 
 pub add-requires-clause-few : goal.add-requires-clause-few
 add-requires-clause-few c = λ light.
     let groups = take c.loop-group.group-index c.args.groups.now in
     let each = one_each (λ group. basket_of_numbers group.items 1) (λ group. one_basket group.items 1) groups in
-    omega (arith, kept_are _ _ _ c.loop-group.invariant light, each, length-take c.loop-group.group-index c.args.groups.now, c.loop-group-test.true, c.requires)
+    omega (arith, kept_few _ _ _ c.loop-group.invariant light, each, length-take c.loop-group.group-index c.args.groups.now, c.loop-group-test.true, c.requires)

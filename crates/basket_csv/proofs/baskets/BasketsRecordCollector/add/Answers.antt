@@ -2,7 +2,7 @@ use Rattle.std.proofs.Common.{◌++◌, arith, refl, sym, subst, ◌∙◌}
 use Rattle.csv.specs.Records.{fields_of}
 use Rattle.basket_csv.specs.Csv.{all_names, basket_of}
 use Rattle.basket_csv.specs.Names.{in_order}
-use Rattle.basket_csv.proofs.GatheredLemmas.{kept_are, one_basket, one_each}
+use Rattle.basket_csv.proofs.GatheredLemmas.{kept_few, one_basket, one_each}
 use Rattle.basket_csv.proofs.BasketLemmas.{FaultIs, added, no_fault, before_names}
 use Rattle.basket_csv.proofs.baskets.BasketsRecordCollector.add.Goals as goal
 
@@ -27,4 +27,4 @@ pub add-requires-clause-few : goal.add-requires-clause-few
 add-requires-clause-few g c = λ light.
     let (start, rows, nth, read) = c.requires.read in
     let each = one_each (basket_of start.weighted (in_order (start.known ++ all_names start.weighted rows))) (λ row. one_basket _ _) rows in
-    omega (arith, kept_are _ _ _ read.gathered light, each, nth, c.requires.few)
+    omega (arith, kept_few _ _ _ read.gathered light, each, nth, c.requires.few)
