@@ -210,7 +210,7 @@ class Miners(unittest.TestCase):
         }
         lines.update({(item,): f"{item} ({heavy})\n" for item in alone})
         ordered = sorted(lines, key=lambda items: (len(items), items))
-        closed = [(item,) for item in alone]
+        closed: list[tuple[int, ...]] = [(item,) for item in alone]
         closed += [tuple(range(1, last)) for last in (10, 11)]
         for ask, miner, workers in itertools.product(
             ("sets", "closed"), MINERS, ("1", "4")
