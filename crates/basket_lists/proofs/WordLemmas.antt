@@ -1,9 +1,10 @@
 -- Words: the size and the places of a set above its count.
-use Rattle.std.proofs.Common.{◌≡◌, ℕ, ◌+◌, ◌-◌, ◌*◌, ◌/◌, ◌%◌, ◌^◌, ◌<◌, ◌≤◌, sym, ap, ◌∙◌, subst, arith, mul_assoc, mul-le-mul_right, pow_mono, mod-eq_of_lt, lt_of_lt_of_le}
-use Rattle.std.proofs.lemmas.Nat.{mod_low, mul-add-lt, pow-add, shr-shr, shr_high}
+use Rattle.std.proofs.Common.{◌≡◌, ℕ, ◌+◌, ◌-◌, ◌*◌, ◌/◌, ◌%◌, ◌^◌, ◌<◌, ◌≤◌, sym, ap, ◌∙◌, subst, arith, mul_assoc, mul_comm, mul-le-mul_right, pow_mono, mod-eq_of_lt, lt_of_lt_of_le}
+use Rattle.std.proofs.lemmas.Nat.{field_of, mod_low, mod-pow-add, mul-add-lt, pow-add, shl-shr, shr-shr, shr_high}
+use Rattle.std.proofs.Math.Nat.{add-mul}
 use Rattle.basket_lists.specs.declared.packed.Packed.{Packed}
 use Rattle.basket_lists.specs.Known.{FitsWord, IsWordOf}
-use Rattle.basket_lists.specs.Packed.{Coding, IsCoding, code_of, size_of}
+use Rattle.basket_lists.specs.Packed.{Coding, IsCoding, code_of, number_of, size_of}
 
 module _ (coding : Coding) (is : IsCoding coding) where
   abbrev low : ℕ
@@ -18,6 +19,16 @@ module _ (coding : Coding) (is : IsCoding coding) where
   -- the size begins at bit 121
   pub size_is : (packed : Packed) → packed.word / 2 ^ 121 ≡ size_of coding (code_of coding packed)
   size_is packed = sym (shr-shr packed.word low places ∙ ap (λ k. packed.word / 2 ^ k) (let e : low + places ≡ 121 = omega (arith, is.counts) in e))
+
+  -- the number is what is left without the size and the count
+  pub number_is : (packed : Packed) → packed.word * 2 ^ 7 % 2 ^ 128 / 2 ^ (7 + low) ≡ number_of coding (code_of coding packed)
+  number_is packed =
+      let word = packed.word in
+      let none : word * 2 ^ 7 % 2 ^ 7 ≡ 0 = ap (λ n. n % 2 ^ 7) (let e : word * 2 ^ 7 ≡ word * 2 ^ 7 + 0 = omega arith in e) ∙ mod_low word 7 0 (omega arith) in
+      let cut : word * 2 ^ 7 % 2 ^ 128 ≡ word % 2 ^ 121 * 2 ^ 7 =
+      mod-pow-add (word * 2 ^ 7) 121 7 ∙ ap (λ n. n % 2 ^ 121 * 2 ^ 7 + word * 2 ^ 7 % 2 ^ 7) (shl-shr word 7) ∙ omega (arith, none) in
+      ap (λ n. n / 2 ^ (7 + low)) cut ∙ sym (shr-shr (word % 2 ^ 121 * 2 ^ 7) 7 low) ∙ ap (λ n. n / 2 ^ low) (shl-shr (word % 2 ^ 121) 7)
+      ∙ ap (λ k. word % 2 ^ k / 2 ^ low) (let e : 121 ≡ places + low = omega (arith, is.counts) in e) ∙ field_of word places low
 
   -- the places of as many items as a word takes have room
   pub size_bits : (size : ℕ) → size ≤ coding.most → size * coding.item_bits + low ≤ 121
@@ -40,20 +51,19 @@ module _ (coding : Coding) (is : IsCoding coding) where
         subst (λ p. code * 2 ^ low + count < p) all below
 
     -- nothing is lost where it is put together
-    size_kept : size * 2 ^ places % 2 ^ 128 ≡ size * 2 ^ places
-    size_kept = mod-eq_of_lt (omega (arith, code_small))
-      where
-        code_small : code < 2 ^ 128
-        code_small = omega (arith, code_below, pow_mono {i = places} {j = 121} (omega arith))
+    split : code * 2 ^ low + count ≡ size * 2 ^ 121 + number * 2 ^ low + count
+    split =
+        ap (λ n. n + count) (add-mul (size * 2 ^ places) number (2 ^ low) ∙ ap (λ n. n + number * 2 ^ low)
+        (mul_assoc size (2 ^ places) (2 ^ low) ∙ ap (λ n. size * n) (mul_comm (2 ^ places) (2 ^ low) ∙ whole)))
 
-    pub code_is : size * 2 ^ places % 2 ^ 128 + number ≡ code
-    code_is = ap (λ n. n + number) size_kept
+    pub size_kept : size * 2 ^ 121 % 2 ^ 128 ≡ size * 2 ^ 121
+    size_kept = mod-eq_of_lt (omega (arith, fits.sized, is.sizes))
 
-    pub code_fits : size * 2 ^ places % 2 ^ 128 + number < 2 ^ 128
-    code_fits = omega (arith, code_is, code_below, pow_mono {i = places} {j = 121} (omega arith))
+    pub number_kept : number * 2 ^ low % 2 ^ 128 ≡ number * 2 ^ low
+    number_kept = mod-eq_of_lt (omega (arith, split, word_below))
 
-    pub word_is : (size * 2 ^ places % 2 ^ 128 + number) * 2 ^ low % 2 ^ 128 + count ≡ code * 2 ^ low + count
-    word_is = ap (λ n. n * 2 ^ low % 2 ^ 128 + count) code_is ∙ ap (λ n. n + count) (mod-eq_of_lt (omega (arith, word_below)))
+    pub word_is : size * 2 ^ 121 % 2 ^ 128 + number * 2 ^ low % 2 ^ 128 + count ≡ code * 2 ^ low + count
+    word_is = ap (λ n. n + number * 2 ^ low % 2 ^ 128 + count) size_kept ∙ ap (λ n. size * 2 ^ 121 + n + count) number_kept ∙ sym split
 
     pub is_word_of : (packed : Packed) → packed.word ≡ code * 2 ^ low + count → IsWordOf coding size number count packed
     is_word_of packed same =

@@ -6,7 +6,7 @@ ghost use Rattle.basket_sets.specs.Itemset.{IsRising};
 mod longer;
 mod without;
 
-use crate::packed::{Packed, SIZE_AT};
+use crate::packed::{Packed, SIZE_AT, SIZE_BITS};
 use basket_sets::is_rising;
 use std::alloc::{AllocError, Global};
 use std::marker::Model;
@@ -139,19 +139,13 @@ impl KnownItems {
         packed.code(self.count_bits)
     }
 
-    /// How many bits of a code are those of the number whose digits are the places of the items.
-    fn number_bits(&self) -> u32
-        ensures value { result ≡ 121 - self.now.count_bits }
-        ensures coding { IsCoding self.now }
+    /// The number whose digits are the places of the items of a packed set.
+    fn number(&self, packed: &Packed) -> u128
+        ensures { result ≡ number_of self.now (code_of self.now packed.now) }
     {
-        SIZE_AT - self.count_bits
-    }
-
-    /// The number whose digits are the places of the items of a code.
-    fn number(&self, code: u128) -> u128
-        ensures { result ≡ number_of self.now code }
-    {
-        low_bits(code, self.number_bits())
+        // Nothing is read here: it brings what holds of the bits.
+        let _ = &self.items;
+        (packed.word << SIZE_BITS) >> (SIZE_BITS + self.count_bits)
     }
 
     /// How many items the code of a packed set has.
@@ -202,9 +196,8 @@ impl KnownItems {
         ensures within { result ≤ MOST_ITEMS }
     {
         let items: &[u32] = &self.items;
-        let code = self.code(packed);
         let size = self.code_size(packed) as usize;
-        let mut rest = self.number(code);
+        let mut rest = self.number(packed);
         let mut left = size;
         while left > 0 {
             left -= 1;

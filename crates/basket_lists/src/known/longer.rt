@@ -5,7 +5,7 @@ ghost use Rattle.basket_lists.specs.Packed.{IsLonger, IsPacked, digits, unpacked
 ghost use Rattle.basket_sets.specs.Itemset.{AllBelow, IsRising, rising};
 
 use crate::known::{KnownItems, bits_of, low_bits};
-use crate::packed::Packed;
+use crate::packed::{Packed, SIZE_AT};
 use basket_sets::Itemset;
 
 impl KnownItems {
@@ -52,17 +52,17 @@ impl KnownItems {
 
     /// A packed set with one more item and a count of its own, or none if the item isn't known, or
     /// is in the set, or the word has no room.
+    #[inline(always)]
     pub fn longer(&self, packed: &Packed, item: u32, count: u64) -> Option<Packed>
         requires { IsPacked self.now packed.now }
         ensures { IfSome result (IsLonger self.now packed.now item count) }
     {
-        let code = self.code(packed);
         let size = self.code_size(packed);
         if size >= self.most || !self.has_room(count) {
             return None;
         }
         let place = self.place_of(item)? as u128;
-        let number = self.number(code);
+        let number = self.number(packed);
         let above = self.places_above(number, size, place)?;
         let longer = self.with_place(number, place, above * self.item_bits);
         Some(self.word(size + 1, longer, count))
@@ -97,8 +97,9 @@ impl KnownItems {
         requires room { longer_number self.now.item_bits number place last_bits < 2 ^ 121 }
         ensures { result ≡ longer_number self.now.item_bits number place last_bits }
     {
-        let first = ((number >> last_bits) << self.item_bits) + place;
-        (first << last_bits) + low_bits(number, last_bits)
+        let first = number >> last_bits;
+        let last = number - (first << last_bits);
+        (((first << self.item_bits) + place) << last_bits) + last
     }
 
     /// The word of a set of this size, whose places are the digits of the number.
@@ -106,9 +107,10 @@ impl KnownItems {
         requires fits { FitsWord self.now size number count }
         ensures { IsWordOf self.now size number count result }
     {
-        let code = (u128::from(size) << self.number_bits()) + number;
+        // Nothing is read here: it brings what holds of the bits.
+        let _ = &self.items;
         Packed {
-            word: (code << self.count_bits) + u128::from(count),
+            word: (u128::from(size) << SIZE_AT) + (number << self.count_bits) + u128::from(count),
         }
     }
 

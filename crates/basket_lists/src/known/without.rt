@@ -27,9 +27,8 @@ impl KnownItems {
         ensures { (plain : List Set) → All (IsKept self.now plain) words.now
             → ArePlacesWithout (map (kept self.now plain) words.now) (unpacked self.now packed.now).set MOST_ITEMS found.new }
     {
-        let code = self.code(packed);
         let size = self.code_size(packed);
-        let number = self.number(code);
+        let number = self.number(packed);
         let mut behind = 0;
         while behind < size {
             let shorter = self.without_place(number, behind * self.item_bits);

@@ -1,4 +1,4 @@
-use Rattle.std.proofs.Common.{◌≤◌, ap, arith, leb-true, lt_of_lt_of_le, pow_mono}
+use Rattle.std.proofs.Common.{ap, arith, leb-true, lt_of_lt_of_le, pow_mono}
 use Rattle.basket_lists.specs.Packed.{Coding}
 use Rattle.basket_lists.proofs.known.KnownItems.has_room.Goals as goal
 

@@ -6,12 +6,9 @@ use Rattle.basket_lists.proofs.PlaceLemmas.{longer_fits, longer_is, longer_small
 use Rattle.basket_lists.proofs.known.KnownItems.longer.Goals as goal
 
 -- the values that the function has, and what they are
-module _ (coding : Coding) (is : IsCoding coding) (packed : Packed) (set : IsPacked coding packed) (item count place size number code above bits most : ℕ) (known : place < length coding.items)
-    (named : get_or coding.items place 0 ≡ item) (code_is : code ≡ code_of coding packed) (size_is : size ≡ size_of coding (code_of coding packed)) (number_is : number ≡ number_of coding code)
+module _ (coding : Coding) (is : IsCoding coding) (packed : Packed) (set : IsPacked coding packed) (item count place size number above bits most : ℕ) (known : place < length coding.items)
+    (named : get_or coding.items place 0 ≡ item) (size_is : size ≡ size_of coding (code_of coding packed)) (of_packed : number ≡ number_of coding (code_of coding packed))
     (between : IsBetween coding.item_bits size number place above) (bits_are : bits ≡ coding.item_bits) (most_is : most ≡ coding.most) (room : size < most) where
-  of_packed : number ≡ number_of coding (code_of coding packed)
-  of_packed = number_is ∙ ap (number_of coding) code_is
-
   is_between : IsBetween coding.item_bits (size_of coding (code_of coding packed)) (number_of coding (code_of coding packed)) place above
   is_between = subst (λ n. IsBetween coding.item_bits (size_of coding (code_of coding packed)) n place above) of_packed (subst (λ s. IsBetween coding.item_bits s number place above) size_is between)
 
@@ -42,13 +39,13 @@ module _ (coding : Coding) (is : IsCoding coding) (packed : Packed) (set : IsPac
 pub with_place-longer-requires-clause-room : goal.with_place-longer-requires-clause-room
 with_place-longer-requires-clause-room c =
     is_small c.args.self.now (subst IsCoding c.self.view_is c.self.invariant) c.args.packed.now c.requires c.args.item c.args.count c.in_ok-place.field-0 c.code_size-size.result c.number-number.result
-    c.code-code.result c.in_ok-above.above c.self.inside.item_bits c.self.inside.most c.in_ok-place.ensures.within c.in_ok-place.ensures.is c.code-code.ensures c.code_size-size.ensures
+    c.in_ok-above.above c.self.inside.item_bits c.self.inside.most c.in_ok-place.ensures.within c.in_ok-place.ensures.is c.code_size-size.ensures
     c.number-number.ensures c.in_ok-above.ensures (ap (λ (k : Coding). k.item_bits) c.self.view_is) (ap (λ (k : Coding). k.most) c.self.view_is) c.if-size-self.false
 
 pub word-requires : goal.word-requires
 word-requires c = record {
   fits = fits_word c.args.self.now (subst IsCoding c.self.view_is c.self.invariant) c.args.packed.now c.requires c.args.item c.args.count c.in_ok-place.field-0 c.code_size-size.result
-      c.number-number.result c.code-code.result c.in_ok-above.above c.self.inside.item_bits c.self.inside.most c.in_ok-place.ensures.within c.in_ok-place.ensures.is c.code-code.ensures
+      c.number-number.result c.in_ok-above.above c.self.inside.item_bits c.self.inside.most c.in_ok-place.ensures.within c.in_ok-place.ensures.is
       c.code_size-size.ensures c.number-number.ensures c.in_ok-above.ensures (ap (λ (k : Coding). k.item_bits) c.self.view_is) (ap (λ (k : Coding). k.most) c.self.view_is) c.if-size-self.false
       c.with_place-longer.result c.with_place-longer.ensures (c.if-not-has_room.ensures refl);
 }
@@ -56,6 +53,6 @@ word-requires c = record {
 pub returns : goal.returns
 returns c =
     is_longer c.args.self.now (subst IsCoding c.self.view_is c.self.invariant) c.args.packed.now c.requires c.args.item c.args.count c.in_ok-place.field-0 c.code_size-size.result c.number-number.result
-    c.code-code.result c.in_ok-above.above c.self.inside.item_bits c.self.inside.most c.in_ok-place.ensures.within c.in_ok-place.ensures.is c.code-code.ensures c.code_size-size.ensures
+    c.in_ok-above.above c.self.inside.item_bits c.self.inside.most c.in_ok-place.ensures.within c.in_ok-place.ensures.is c.code_size-size.ensures
     c.number-number.ensures c.in_ok-above.ensures (ap (λ (k : Coding). k.item_bits) c.self.view_is) (ap (λ (k : Coding). k.most) c.self.view_is) c.if-size-self.false c.with_place-longer.result
     c.with_place-longer.ensures (c.if-not-has_room.ensures refl) c.word.result c.word.ensures

@@ -8,10 +8,6 @@ use Rattle.basket_lists.proofs.WithoutLemmas.{found_without}
 use Rattle.basket_order.specs.declared.place_table.TheConstants.{NOWHERE}
 use Rattle.basket_lists.proofs.known.KnownItems.places_without.Goals as goal
 
--- what the code says
-number_at : (coding : Coding) (code number of : ℕ) → number ≡ number_of coding code → code ≡ of → number ≡ number_of coding of
-number_at coding code number of is same = is ∙ ap (number_of coding) same
-
 -- the number without a place
 less_at : (bits other number of above less : ℕ) → less ≡ shorter_number bits number (above * other) → other ≡ bits → number ≡ of → less ≡ shorter_number bits of (above * bits)
 less_at bits other number of above less is same numbers = is ∙ ap (λ b. shorter_number bits number (above * b)) same ∙ ap (λ n. shorter_number bits n (above * bits)) numbers
@@ -23,7 +19,7 @@ word-shorter-requires c =
     let code = code_of coding packed in
     let is = subst IsCoding c.self.view_is c.self.invariant in
     let above = c.loop-behind.behind in
-    let number = number_at coding c.code-code.result c.number-number.result code c.number-number.ensures c.code-code.ensures in
+    let number = c.number-number.ensures in
     let shorter = less_at coding.item_bits c.self.inside.item_bits c.number-number.result (number_of coding code) above c.without_place-shorter.result
     c.without_place-shorter.ensures (ap (λ (k : Coding). k.item_bits) c.self.view_is) number in
     let less : above < size_of coding code = omega (arith, c.loop-behind-test.true, c.code_size-size.ensures) in
@@ -40,7 +36,7 @@ loop-behind-preserved c =
     let is = subst IsCoding c.self.view_is c.self.invariant in
     let above = c.loop-behind.behind in
     let size = c.code_size-size.result in
-    let number = number_at coding c.code-code.result c.number-number.result code c.number-number.ensures c.code-code.ensures in
+    let number = c.number-number.ensures in
     let shorter = less_at coding.item_bits c.self.inside.item_bits c.number-number.result (number_of coding code) above c.without_place-shorter.result
     c.without_place-shorter.ensures (ap (λ (k : Coding). k.item_bits) c.self.view_is) number in
     let less : above < size_of coding code = omega (arith, c.loop-behind-test.true, c.code_size-size.ensures) in
