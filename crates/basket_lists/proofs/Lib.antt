@@ -7,4 +7,5 @@ mod PlaceLemmas
 mod ListLemmas
 mod OrderLemmas
 mod PlainLemmas
+mod UnmarkedLemmas
 mod WithoutLemmas

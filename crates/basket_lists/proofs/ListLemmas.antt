@@ -26,9 +26,6 @@ kept_elsewhere coding plain packed place is =
     ap (λ b. cond b (unpacked coding packed) (get_or plain (packed.word - 2 ^ 127) (record { set = []; count = 0 }))) more
     ∙ ap (λ n. get_or plain n (record { set = []; count = 0 })) (let e : packed.word - 2 ^ 127 ≡ place = omega (arith, is) in e)
 
-pub IsKept-here : (coding : Coding) (plain : List Counted) (packed : Packed) → IsPacked coding packed → IsKept coding plain packed
-IsKept-here coding plain packed is = record { small = omega (arith, is.here); here = λ less. is; elsewhere = λ more. absurd (omega (arith, is.here, more)) }
-
 -- a set of a word rises
 pub packed_rises : (coding : Coding) (packed : Packed) → IsCoding coding → IsPacked coding packed → IsRising (unpacked coding packed).set
 packed_rises coding packed is set = items_rise coding.items _ is.rises set.code.rises (λ place m. set.code.below place (has-from_Member _ place m))
@@ -80,9 +77,6 @@ module _ (coding : Coding) (plain : List Counted) (words : List Packed) (one : C
 module _ (coding : Coding) (plain : List Counted) (words : List Packed) (place : ℕ) (word : Packed) (inside : place < length words) (is : word ≡ get_or words place word) where
   pub set_here : word.word < 2 ^ 127 → get_or (map (kept coding plain) words) place (record { set = []; count = 0 }) ≡ unpacked coding word
   set_here less = get_or-map (kept coding plain) words place word (record { set = []; count = 0 }) inside ∙ ap (kept coding plain) (sym is) ∙ kept_here coding plain word less
-
-  pub set_elsewhere : (at : ℕ) → word.word ≡ 2 ^ 127 + at → get_or (map (kept coding plain) words) place (record { set = []; count = 0 }) ≡ get_or plain at (record { set = []; count = 0 })
-  set_elsewhere at same = get_or-map (kept coding plain) words place word (record { set = []; count = 0 }) inside ∙ ap (kept coding plain) (sym is) ∙ kept_elsewhere coding plain word at same
 
   pub word_kept : All (IsKept coding plain) words → IsKept coding plain word
   word_kept all = subst (IsKept coding plain) (sym is) (all place word inside)

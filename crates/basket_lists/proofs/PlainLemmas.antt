@@ -1,12 +1,11 @@
 -- Sets whose items are concatenated.
-use Rattle.std.proofs.Common.{◌≡◌, ℕ, ◌+◌, ◌<◌, ◌≤◌, List, [], ◌∷◌, ◌++◌, length, drop, get_or, refl, sym, ap, ◌∙◌, subst, arith, Result, Ok, Err, OnErr}
+use Rattle.std.proofs.Common.{◌≡◌, ℕ, ◌+◌, ◌≤◌, List, [], ◌∷◌, ◌++◌, length, drop, get_or, refl, sym, ap, ◌∙◌, subst, arith, Result, Ok, Err, OnErr}
 use Rattle.std.specs.Prelude.{All}
 use Rattle.std.specs.List.{AllByRecursion, slice_range}
-use Rattle.std.proofs.lemmas.List.{take-append-le, drop_at, length-append, map-append, get_or-map}
+use Rattle.std.proofs.lemmas.List.{take-append-le, drop_at, length-append, map-append}
 use Rattle.std.proofs.lemmas.List.Elements.{All-push, recursion_from_All}
 use Rattle.std.proofs.lemmas.Slice.{between_is, between_to_end}
 use Rattle.basket_lists.specs.declared.set_span.SetSpan.{SetSpan}
-use Rattle.basket_lists.specs.CountedSets.{set_at}
 use Rattle.basket_lists.specs.Plain.{IsPlaceOfSet, placed, placed_sets}
 use Rattle.basket_sets.specs.declared.counted.Counted.{Counted}
 use Rattle.basket_sets.specs.Itemset.{IsRising}
@@ -63,11 +62,6 @@ placed_sets_pushed items set places place all at =
     map-append (placed (items ++ set)) places (place ∷ [])
     ∙ ap (λ l. l ++ placed (items ++ set) place ∷ []) (placed_sets-append items set places all)
     ∙ ap (λ (s : List ℕ). let c : Counted = record { set = s; count = place.count } in placed_sets items places ++ c ∷ []) (set_at_end items set place at)
-
--- ---- the set at a place
-
-pub placed_at : (items : List ℕ) (places : List SetSpan) (place : ℕ) (d : SetSpan) → place < length places → set_at (placed_sets items places) place ≡ slice_range items (get_or places place d).start (get_or places place d).end
-placed_at items places place d inside = ap (λ (c : Counted). c.set) (get_or-map (placed items) places place d (record { set = []; count = 0 }) inside)
 
 -- ---- an error that changes nothing
 

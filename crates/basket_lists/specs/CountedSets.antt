@@ -1,5 +1,5 @@
 -- Lists of sets with their counts.
-use Rattle.std.specs.Prelude.{ℕ, List, [], slice_index_or}
+use Rattle.std.specs.Prelude.{◌≡◌, ◌<◌, ℕ, Bool, false, not, List, [], length, filter, slice_index_or}
 use Rattle.basket_sets.specs.declared.counted.Counted.{Counted}
 
 -- the set at a place of a list
@@ -9,3 +9,11 @@ set_at sets place = (slice_index_or sets place (record { set = []; count = 0 }))
 -- the count at a place of a list
 abbrev pub count_at : List Counted → ℕ → ℕ
 count_at sets place = (slice_index_or sets place (record { set = []; count = 0 })).count
+
+-- a test passes those sets of a list that aren't marked
+abbrev pub PassesUnmarked : List Counted → List Bool → (Counted → Bool) → Type 0
+PassesUnmarked list marks test = (k : ℕ) (none : Counted) → k < length list → test (slice_index_or list k none) ≡ not (slice_index_or marks k false)
+
+-- some sets are those of the list that aren't marked
+abbrev pub AreUnmarked : List Counted → List Bool → List Counted → Type 0
+AreUnmarked list marks kept = (test : Counted → Bool) → PassesUnmarked list marks test → kept ≡ filter test list

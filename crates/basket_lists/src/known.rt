@@ -13,10 +13,7 @@ use std::marker::Model;
 use std::sync::ArcSlice;
 
 /// A set that is kept as a word has no more items.
-pub const MOST_ITEMS: usize = 120;
-
-/// How many items a word takes at most, whatever they are.
-const MOST_SIZE: u32 = 63;
+pub const MOST_ITEMS: usize = 63;
 
 /// Items in rising order, which lists share, and how sets of them are put into words.
 #[derive(Debug, Drop)]
@@ -99,7 +96,7 @@ impl KnownItems {
             slots: ArcSlice::from_vec(slots_of(alloc, &items)?)?,
             items: ArcSlice::from_vec(items)?,
             item_bits,
-            most: ((SIZE_AT - count_bits) / item_bits).min(MOST_SIZE),
+            most: ((SIZE_AT - count_bits) / item_bits).min(MOST_ITEMS as u32),
             count_bits,
         })
     }

@@ -39,7 +39,7 @@ without_item item (x ∷ items) place up long within here =
     at_place item x items (with_item item items) place (ltb item x) (eqb item x) refl refl up long within here (λ k. without_item item items k)
 
 -- where a set stands without one of its items
-pub found_below : (list : List Counted) (number place : ℕ) (found : List ℕ) → ArePlacesWithout list (set_at list number) 120 found → place < 120 → place < length (set_at list number)
+pub found_below : (list : List Counted) (number place : ℕ) (found : List ℕ) → ArePlacesWithout list (set_at list number) 63 found → place < 63 → place < length (set_at list number)
     → get_or found place NOWHERE ≢ NOWHERE → (get_or found place NOWHERE < length list) × (set_at list (get_or found place NOWHERE) ≡ without place (set_at list number))
 found_below list number place found all few within said =
     let at = get_or found place NOWHERE in

@@ -1,9 +1,7 @@
 -- Which sets of a consistent list are marked, and what is kept of them.
-use Rattle.std.proofs.Common.{◌≡◌, ℕ, ◌+◌, ◌<◌, ◌≤◌, Bool, true, false, not, eqb, ◌&&◌, List, [], ◌∷◌, ◌++◌, length, take, get_or, cond, filter, sym, ap, ◌∙◌, subst, inl, inr, arith}
+use Rattle.std.proofs.Common.{◌≡◌, ℕ, ◌<◌, ◌≤◌, Bool, true, false, not, eqb, ◌&&◌, List, length, get_or, sym, ap, ◌∙◌, subst, inl, inr, arith}
 use Rattle.std.specs.List.{list_all}
 use Rattle.std.proofs.lemmas.Bool.{cases_Bool, and_parts, and_from, eqb-true, eq-eqb, true≢false, false_from_ne_true}
-use Rattle.std.proofs.lemmas.List.{take_more, append-nil}
-use Rattle.std.proofs.lemmas.List.Elements.{filter-append}
 use Rattle.basket_core.specs.Listing.{Listing}
 use Rattle.basket_sets.specs.declared.counted.Counted.{Counted}
 use Rattle.basket_sets.specs.Itemset.{contains, with_item, without}
@@ -15,7 +13,8 @@ use Rattle.basket_rules.specs.Subset.{IsWithout}
 use Rattle.basket_rules.specs.declared.covered.Supersets.{Supersets}
 use Rattle.basket_rules.specs.declared.covered.Supersets.TheVariants.{All, SameCount}
 use Rattle.basket_rules.specs.Covered.{AreMarks, HasSuperset, IsBefore, IsMark}
-use Rattle.basket_rules.specs.Condensed.{is_proper_superset, is_closed_in, is_maximal_in, closed_in, maximal_in, AreUnmarked, PassesUnmarked}
+use Rattle.basket_rules.specs.Condensed.{is_proper_superset, is_closed_in, is_maximal_in, closed_in, maximal_in}
+use Rattle.basket_lists.specs.CountedSets.{AreUnmarked}
 use Rattle.basket_rules.proofs.SubsetLemmas.{not_true, true_not, contains_without, without_lacks, placed, item_more, contains_less, contains_with_item}
 use Rattle.basket_rules.proofs.SearchLemmas.{none, set_is, count_is, entry_listed, stands_once}
 use Rattle.basket_rules.proofs.theory.Condensed.{with_item_nonempty}
@@ -116,32 +115,6 @@ module _ (list : List Counted) (consistent : IsConsistent list) where
       back h = all_entries list (λ o. not (is_proper_superset o.set (set_at list k))) (λ j there. not_true _ (false_from_ne_true _ (λ e.
           let o = one_more k j below there e in
           true≢false (sym (m.each consistent.in_order o.above o.place o.without.listed o.without tt) ∙ true_not mark h))))
-
--- ---- the loops
-
--- so far those were kept that aren't marked
-abbrev pub IsKept : List Bool → List Counted → ℕ → List Counted → Type 0
-IsKept marks list number kept = (test : Counted → Bool) → PassesUnmarked list marks test → kept ≡ filter test (take number list)
-
-pub kept_more : (marks : List Bool) (list : List Counted) (number : ℕ) (kept : List Counted) → IsKept marks list number kept → number < length list
-    → get_or marks number false ≡ false → IsKept marks list (number + 1) (kept ++ get_or list number none ∷ [])
-kept_more marks list number kept so below unmarked test passes =
-    let c = get_or list number none in
-    let e : test c ≡ true = passes number none below ∙ not_true (get_or marks number false) unmarked in
-    ap (λ l. l ++ c ∷ []) (so test passes)
-    ∙ ap (λ l. filter test (take number list) ++ l) (sym (ap (λ b. cond b (c ∷ []) []) e))
-    ∙ sym (filter-append test (take number list) (c ∷ []))
-    ∙ ap (filter test) (sym (take_more list number none below))
-
-pub dropped_more : (marks : List Bool) (list : List Counted) (number : ℕ) (kept : List Counted) → IsKept marks list number kept → number < length list
-    → get_or marks number false ≡ true → IsKept marks list (number + 1) kept
-dropped_more marks list number kept so below marked test passes =
-    let c = get_or list number none in
-    let e : test c ≡ false = passes number none below ∙ ap not marked in
-    so test passes ∙ sym (append-nil (filter test (take number list)))
-    ∙ ap (λ l. filter test (take number list) ++ l) (sym (ap (λ b. cond b (c ∷ []) []) e))
-    ∙ sym (filter-append test (take number list) (c ∷ []))
-    ∙ ap (filter test) (sym (take_more list number none below))
 
 -- ---- all sets
 

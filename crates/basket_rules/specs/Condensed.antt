@@ -1,5 +1,5 @@
 -- Closed and maximal sets.
-use Rattle.std.specs.Prelude.{◌≡◌, ◌<◌, ℕ, Bool, false, IsTrue, not, ◌&&◌, ◌==◌, List, length, map, filter, slice_index_or}
+use Rattle.std.specs.Prelude.{◌≡◌, ℕ, Bool, IsTrue, not, ◌&&◌, ◌==◌, List, map, filter}
 use Rattle.std.specs.List.{list_all}
 use Rattle.basket_core.specs.Listing.{Listing}
 use Rattle.basket_sets.specs.declared.weighted.Weighted.{Weighted}
@@ -78,11 +78,3 @@ AreClosed listing list = (baskets : List Weighted) (minimum : Minimum) → IsLis
 
 abbrev pub AreMaximal : Listing → List Counted → Type 0
 AreMaximal listing list = (baskets : List Weighted) (minimum : Minimum) → IsListingOf baskets minimum listing → list ≡ maximal_of baskets minimum
-
--- a test passes those sets of a list that aren't marked
-abbrev pub PassesUnmarked : List Counted → List Bool → (Counted → Bool) → Type 0
-PassesUnmarked list marks test = (k : ℕ) (none : Counted) → k < length list → test (slice_index_or list k none) ≡ not (slice_index_or marks k false)
-
--- some sets are those of the list that aren't marked
-abbrev pub AreUnmarked : List Counted → List Bool → List Counted → Type 0
-AreUnmarked list marks kept = (test : Counted → Bool) → PassesUnmarked list marks test → kept ≡ filter test list

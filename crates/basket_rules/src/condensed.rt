@@ -1,6 +1,6 @@
 //! Closed and maximal sets.
-ghost use Rattle.std.specs.Prelude.{◌≡◌, IfOk, length};
-ghost use Rattle.basket_rules.specs.Condensed.{AreClosed, AreMaximal, AreUnmarked, closed_in, maximal_in};
+ghost use Rattle.std.specs.Prelude.{◌≡◌, IfOk};
+ghost use Rattle.basket_rules.specs.Condensed.{AreClosed, AreMaximal, closed_in, maximal_in};
 ghost use Rattle.basket_rules.specs.Consistency.{IsConsistent};
 
 use crate::covered::{Supersets, covered};
@@ -14,7 +14,7 @@ pub fn closed(alloc: Global, frequent: &Frequent) -> Result<CountedSets, AllocEr
 {
     let sets = frequent.sets();
     let marks = covered(alloc, sets, Supersets::SameCount)?;
-    unmarked(alloc, sets, &marks)
+    sets.unmarked(alloc, &marks)
 }
 
 /// The frequent sets of which no proper superset is frequent, in report order.
@@ -24,19 +24,5 @@ pub fn maximal(alloc: Global, frequent: &Frequent) -> Result<CountedSets, AllocE
 {
     let sets = frequent.sets();
     let marks = covered(alloc, sets, Supersets::All)?;
-    unmarked(alloc, sets, &marks)
-}
-
-/// The sets that aren't marked.
-fn unmarked(alloc: Global, sets: &CountedSets, marks: &[bool]) -> Result<CountedSets, AllocError>
-    requires { length marks.now ≡ length sets.now }
-    ensures { IfOk result (AreUnmarked sets.now marks.now) }
-{
-    let mut kept = sets.empty_like(alloc)?;
-    for number in 0..sets.len() {
-        if !marks[number] {
-            kept.push_from(alloc, sets, number)?;
-        }
-    }
-    Ok(kept)
+    sets.unmarked(alloc, &marks)
 }

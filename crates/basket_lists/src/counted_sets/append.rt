@@ -23,26 +23,9 @@ impl CountedSets {
         ensures { OnOk result (self.new ≡ self.old ++ other.now) }
     {
         for place in 0..other.len() {
-            self.push_from(alloc, other, place)?;
+            self.push(other.set(alloc, place)?, other.count(place))?;
         }
         Ok(())
-    }
-
-    /// Adds the set at a place of another list with its count.
-    pub fn push_from(
-        &mut self,
-        alloc: Global,
-        other: &CountedSets,
-        place: usize,
-    ) -> Result<(), AllocError>
-        requires { place < length other.now }
-        ensures { OnOk result (self.new ≡ self.old ++ slice_index_or other.now place (record { set = []; count = 0 }) ∷ []) }
-    {
-        let word = other.words[place];
-        if word.is_here() && self.known.is_same(&other.known) {
-            return Ok(self.words.push(word)?);
-        }
-        self.push(other.set(alloc, place)?, other.count(place))
     }
 }
 
@@ -68,7 +51,7 @@ fn append_words(
 }
 
 /// Adds a word, and the set that it stands for if that is kept in another list.
-fn append_word(
+pub fn append_word(
     words: &mut Vec<Packed>,
     plain: &mut PlainSets,
     other: Packed,

@@ -1,7 +1,8 @@
 use Rattle.std.proofs.Common.{◌≡◌, List, Bool, subst}
 use Rattle.std.proofs.lemmas.Result.{IfOk-weaker}
 use Rattle.basket_rules.specs.Consistency.{IsConsistent}
-use Rattle.basket_rules.specs.Condensed.{closed_in, AreClosed, AreUnmarked}
+use Rattle.basket_rules.specs.Condensed.{closed_in, AreClosed}
+use Rattle.basket_lists.specs.CountedSets.{AreUnmarked}
 use Rattle.basket_rules.proofs.MarkLemmas.{are_closed}
 use Rattle.basket_rules.proofs.theory.Condensed.{closed_of_baskets}
 use Rattle.basket_rules.proofs.condensed.closed.Goals as goal

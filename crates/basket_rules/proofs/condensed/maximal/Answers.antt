@@ -1,7 +1,8 @@
 use Rattle.std.proofs.Common.{◌≡◌, List, Bool, subst}
 use Rattle.std.proofs.lemmas.Result.{IfOk-weaker}
 use Rattle.basket_rules.specs.Consistency.{IsConsistent}
-use Rattle.basket_rules.specs.Condensed.{maximal_in, AreMaximal, AreUnmarked}
+use Rattle.basket_rules.specs.Condensed.{maximal_in, AreMaximal}
+use Rattle.basket_lists.specs.CountedSets.{AreUnmarked}
 use Rattle.basket_rules.proofs.MarkLemmas.{are_maximal}
 use Rattle.basket_rules.proofs.theory.Condensed.{maximal_of_baskets}
 use Rattle.basket_rules.proofs.condensed.maximal.Goals as goal

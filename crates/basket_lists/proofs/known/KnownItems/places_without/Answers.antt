@@ -46,9 +46,9 @@ loop-behind-preserved c =
     let has : place ≢ NOWHERE → HasCode coding.count_bits c.args.words.now place (code_of coding c.word-shorter.result) =
     subst (λ n. place ≢ NOWHERE → HasCode coding.count_bits c.args.words.now place n) c.code.ensures
     (subst (λ b. place ≢ NOWHERE → HasCode b c.args.words.now place c.code.result) (ap (λ (k : Coding). k.count_bits) c.self.view_is) c.find_code-place.ensures) in
-    let full : length c.loop-behind.found ≡ 120 = search rules in
+    let full : length c.loop-behind.found ≡ 63 = search rules in
     let at = size - (above + 1) in
-    let short : at < 120 = omega (arith, c.code_size-size.ensures, c.requires.code.size, is.sizes) in
+    let short : at < 63 = omega (arith, c.code_size-size.ensures, c.requires.code.size, is.sizes) in
     let here : at ≡ size_of coding code - 1 - above = omega (arith, c.code_size-size.ensures) in
     record {
       few = omega (arith, c.loop-behind-test.true);

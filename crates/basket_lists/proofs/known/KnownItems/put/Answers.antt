@@ -1,7 +1,8 @@
-use Rattle.std.proofs.Common.{rules, ◌≡◌, ℕ, ◌-◌, ◌*◌, ◌/◌, ◌%◌, ◌^◌, ◌<◌, ◌≤◌, length, get_or, set, take, sym, ap, ◌∙◌, subst, inl, inr, arith, get_or-set_other, get_or-set_same, get_or-take, length-set}
+use Rattle.std.proofs.Common.{rules, ◌≡◌, ℕ, ◌-◌, ◌*◌, ◌/◌, ◌%◌, ◌^◌, ◌<◌, ◌≤◌, List, length, get_or, set, take, sym, ap, ◌∙◌, subst, inl, inr, arith, get_or-set_other, get_or-set_same, get_or-take, length-set}
 use Rattle.std.proofs.lemmas.Bool.{cases_eq}
 use Rattle.std.proofs.lemmas.List.{get_or_default, length-take-le, same_lists}
-use Rattle.basket_lists.specs.Packed.{Coding, IsCoding, code_of, number_of, set_of, size_of}
+use Rattle.basket_lists.specs.Packed.{Coding, IsCoding, IsPacked, code_of, number_of, set_of, size_of}
+use Rattle.basket_lists.specs.declared.packed.Packed.{Packed}
 use Rattle.basket_lists.proofs.PlaceLemmas.{digit_item, digit_known, rest_next, set_length}
 use Rattle.basket_lists.proofs.known.KnownItems.put.Goals as goal
 
@@ -10,31 +11,24 @@ rest_at : (coding : Coding) (code size left rest : ℕ) → rest ≡ number_of c
     → rest ≡ number_of coding code / 2 ^ ((size_of coding code - left) * coding.item_bits)
 rest_at coding code size left rest is same = is ∙ ap (λ s. number_of coding code / 2 ^ ((s - left) * coding.item_bits)) same
 
+-- its lowest digit is the place of a known item
+known_place : (coding own : Coding) (packed : Packed) (size left rest digit : ℕ) (items : List ℕ) → IsCoding own → own ≡ coding → IsPacked coding packed
+    → 0 < left → left ≤ size → size ≡ size_of coding (code_of coding packed) → rest ≡ number_of coding (code_of coding packed) / 2 ^ ((size - left) * coding.item_bits)
+    → digit ≡ rest % 2 ^ own.item_bits → items ≡ own.items → digit < length items
+known_place coding own packed size left rest digit items is same set some few sized at low all =
+    let known = digit_known coding (subst IsCoding same is) packed set left rest some (omega (arith, few, sized)) (rest_at coding (code_of coding packed) size left rest at sized) in
+    omega (arith, low, known, ap (λ (k : Coding). rest % 2 ^ k.item_bits) same, ap (λ (k : Coding). length k.items) same, ap length all)
+
 pub offset_bounds-items-low_bits : goal.offset_bounds-items-low_bits
 offset_bounds-items-low_bits c =
-    let coding = c.args.self.now in
-    let packed = c.args.packed.now in
-    let code = code_of coding packed in
-    let is = subst IsCoding c.self.view_is c.self.invariant in
-    let left = c.loop-left.left in
-    let rest = rest_at coding code c.code_size-size.result left c.loop-left.rest c.loop-left.invariant.rest c.code_size-size.ensures in
-    let known = digit_known coding is packed c.requires left c.loop-left.rest c.loop-left-test.true (omega (arith, c.loop-left.invariant.few, c.code_size-size.ensures)) rest in
-    let digit : c.low_bits.result ≡ c.loop-left.rest % 2 ^ coding.item_bits = c.low_bits.ensures ∙ ap (λ b. c.loop-left.rest % 2 ^ b) (ap (λ (k : Coding). k.item_bits) c.self.view_is) in
-    let inside : c.low_bits.result < length c.deref-items.result.now = omega (arith, digit, known, ap (λ (k : Coding). length k.items) c.self.view_is, ap length c.deref-items.ensures.value) in
+    let inside = known_place c.args.self.now _ c.args.packed.now c.code_size-size.result c.loop-left.left c.loop-left.rest c.low_bits.result c.deref-items.result.now c.self.invariant c.self.view_is c.requires
+    c.loop-left-test.true c.loop-left.invariant.few c.code_size-size.ensures c.loop-left.invariant.rest c.low_bits.ensures c.deref-items.ensures.value in
     search (rules, inside)
 
 pub bounds-items-low_bits : goal.bounds-items-low_bits
 bounds-items-low_bits c =
-    let coding = c.args.self.now in
-    let packed = c.args.packed.now in
-    let code = code_of coding packed in
-    let is = subst IsCoding c.self.view_is c.self.invariant in
-    let left = c.loop-left.left in
-    let rest = rest_at coding code c.code_size-size.result left c.loop-left.rest c.loop-left.invariant.rest c.code_size-size.ensures in
-    let known = digit_known coding is packed c.requires left c.loop-left.rest c.loop-left-test.true (omega (arith, c.loop-left.invariant.few, c.code_size-size.ensures)) rest in
-    let digit : c.low_bits.result ≡ c.loop-left.rest % 2 ^ coding.item_bits = c.low_bits.ensures ∙ ap (λ b. c.loop-left.rest % 2 ^ b) (ap (λ (k : Coding). k.item_bits) c.self.view_is) in
-    let inside : c.low_bits.result < length c.deref-items.result.now = omega (arith, digit, known, ap (λ (k : Coding). length k.items) c.self.view_is, ap length c.deref-items.ensures.value) in
-    inside
+    known_place c.args.self.now _ c.args.packed.now c.code_size-size.result c.loop-left.left c.loop-left.rest c.low_bits.result c.deref-items.result.now c.self.invariant c.self.view_is c.requires
+    c.loop-left-test.true c.loop-left.invariant.few c.code_size-size.ensures c.loop-left.invariant.rest c.low_bits.ensures c.deref-items.ensures.value
 
 pub loop-left-preserved : goal.loop-left-preserved
 loop-left-preserved c =

@@ -5,7 +5,7 @@ use Rattle.basket_lists.proofs.known.KnownItems.put.Given as goal
 -- the last items are put so far
 abbrev pub invariant-loop-left : goal.invariant-loop-left
 invariant-loop-left l = record {
-  full : length l.room ≡ 120;
+  full : length l.room ≡ 63;
   few : l.left ≤ l.size;
   rest : l.rest ≡ number_of l.self (code_of l.self l.packed) / 2 ^ ((l.size - l.left) * l.self.item_bits);
   room : (k : ℕ) → l.left ≤ k → k < l.size → get_or l.room k 0 ≡ get_or (set_of l.self (code_of l.self l.packed)) k 0;
