@@ -1,6 +1,7 @@
 pub mod theory
 mod EntryLemmas
 mod MergedLemmas
+mod GroupedLemmas
 mod BitRankLemmas
 mod WordLemmas
 mod CoversLemmas

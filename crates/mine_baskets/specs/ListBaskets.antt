@@ -51,3 +51,9 @@ with_basket places place = if repeats_last places place.basket then with_last_ra
 -- equal neighbours made one, with their weights added
 abbrev pub neighbours_merged : List Weighted → List Weighted
 neighbours_merged baskets = fold with_basket [] baskets
+
+-- baskets of ranks put together from others, with the same weights
+pub record AreGrouped (count : ℕ) (baskets : List Weighted) (grouped : RankBaskets) : Type 0 where
+  pub ranks : grouped.ranks ≡ count
+  pub ranked : AreRankBaskets grouped
+  pub weights : HaveSameWeights baskets grouped.baskets

@@ -20,3 +20,7 @@ baskets_at ranks spans = map (basket_at ranks) spans
 -- so many of its first ranks
 abbrev pub span_front : Span → ℕ → Span
 span_front span depth = record { start = span.start; end = span.start + depth; weight = span.weight }
+
+-- the part after so many more ranks
+abbrev pub moved_span : ℕ → Span → Span
+moved_span before span = record { start = before + span.start; end = before + span.end; weight = span.weight }
