@@ -1,5 +1,5 @@
 -- The frequent pairs of ranks.
-use Rattle.std.proofs.Common.{◌≡◌, ℕ, ◌+◌, ◌<◌, Bool, ◌&&◌, List, [], ◌∷◌, ◌++◌, length, get_or, map, leb, ltb, refl, sym, ap, ◌∙◌, inl, inr, arith}
+use Rattle.std.proofs.Common.{◌≡◌, ℕ, ◌+◌, ◌<◌, Bool, ◌&&◌, List, [], ◌∷◌, ◌++◌, length, get_or, map, refl, sym, ap, ◌∙◌, inl, inr, arith}
 use Rattle.std.specs.List.{filter, range_with_len}
 use Rattle.std.specs.declared.alloc.Global.{Global}
 use Rattle.std.specs.declared.vec.Vec.{Vec}
@@ -16,7 +16,8 @@ use Rattle.basket_sets.specs.Support.{support_of, total_of}
 use Rattle.basket_sets.proofs.theory.Members.{Member, Member-filter}
 use Rattle.basket_sets.proofs.theory.Ranges.{Member-range, filter_members}
 use Rattle.mine_classes.specs.Conditional.{is_kept}
-use Rattle.mine_classes.specs.Pairs.{ArePairs, kept_ranks, lists_of, pairs_by_greater, pairs_of}
+use Rattle.mine_classes.proofs.theory.Pairs.{same_of_rank}
+use Rattle.mine_classes.specs.Pairs.{ArePairs, kept_ranks, lists_of, pairs_of}
 use Rattle.mine_classes.specs.Runs.{ArePairsOf}
 use Rattle.mine_classes.specs.Sums.{is_met}
 
@@ -47,14 +48,6 @@ pub lists_pushed : {X : Type 0} (f : ℕ → List X) (first n next : ℕ) (lists
 lists_pushed f first n next lists new list so_far pushed at is =
     ap lists_of pushed ∙ map-append (λ (v : Vec _ Global). v.items) lists (list ∷ []) ∙ ap (λ l. l ++ list.items ∷ []) so_far
     ∙ ap (λ l. map f (range_with_len first n) ++ l ∷ []) is ∙ sym (map-range_with_len_more f first n next at)
-
--- baskets that give each set the same support have the same pairs
-same_of_rank : (one other : List Weighted) (least rank : ℕ) → ((set : List ℕ) → support_of one set ≡ support_of other set) → pairs_of one least rank ≡ pairs_of other least rank
-same_of_rank one other least rank same i = map (λ lesser. (lesser, same (lesser ∷ rank ∷ []) i))
-    (filter (λ lesser. ltb lesser rank && (leb 1 (same (lesser ∷ rank ∷ []) i) && leb least (same (lesser ∷ rank ∷ []) i))) (range_with_len 0 rank))
-
-pub same_pairs : (one other : List Weighted) (least count : ℕ) → ((set : List ℕ) → support_of one set ≡ support_of other set) → pairs_by_greater one least count ≡ pairs_by_greater other least count
-same_pairs one other least count same i = map (λ rank. same_of_rank one other least rank same i) (range_with_len 0 count)
 
 -- there is one least support that meets a minimum
 one_least : (minimum : Minimum) (total one other : ℕ) → IsLeastSupport minimum total one → IsLeastSupport minimum total other → one ≡ other

@@ -4,3 +4,4 @@ pub mod Branches
 pub mod Supports
 pub mod Mined
 pub mod Lists
+pub mod Pairs

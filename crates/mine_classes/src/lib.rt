@@ -1,7 +1,7 @@
 //! Pairs, classes and conditional databases, the basis of all miners.
 //!
 //! `pairs` finds the frequent pairs of ranks for every miner: by a count for each pair, in
-//! `triangle`, if these are few, else rank by rank, by `sums`.
+//! `triangle`, over baskets as `ranked` has them, if these are few, else rank by rank, by `sums`.
 //!
 //! The class of a rank is the frequent sets whose greatest rank it is, and its conditional database
 //! is what a miner needs to find them. `paths` has coded baskets in the form from which classes are
@@ -20,6 +20,7 @@ mod rank_list;
 mod rank_places;
 mod rank_range;
 mod rank_runs;
+mod ranked;
 mod room;
 mod runs;
 mod shift;
@@ -38,6 +39,7 @@ pub use paths::Paths;
 pub use rank_places::RankPlaces;
 pub use rank_range::RankRange;
 pub use rank_runs::runs_of_range;
+pub use ranked::RankedBaskets;
 pub use runs::Runs;
 pub use sums::Sums;
 pub use tables::Tables;

@@ -3,15 +3,13 @@ ghost use Rattle.std.specs.Prelude.{◌≡◌, ◌<◌, ◌≤◌, ◌+◌, ◌-
 ghost use Rattle.basket_sets.specs.Counts.{AllBelow};
 ghost use Rattle.basket_sets.specs.Database.{MOST_WEIGHT};
 ghost use Rattle.basket_sets.specs.Itemset.{IsRising};
-ghost use Rattle.basket_sets.specs.Support.{total_of};
 ghost use Rattle.mine_classes.specs.Pairs.{lists_of};
 ghost use Rattle.mine_classes.specs.Sums.{WithBasket};
 ghost use Rattle.mine_classes.specs.Triangle.{HaveCounts, HaveRows, WithPairs, pairs_in_range, ranks_in, row_at, zeros};
 
 use crate::rank_range::RankRange;
+use crate::ranked::RankedBaskets;
 use crate::sums::met_in_order;
-use basket_ranks::Coded;
-use basket_sets::Weighted;
 use std::alloc::{AllocError, Global};
 
 /// How many pairs this many ranks make.
@@ -24,16 +22,16 @@ pub fn pair_count(ranks: u32) -> usize
 
 /// For each rank of a range the ranks below it that are frequent together with it, by a least
 /// support, rising, each with the support of the pair.
-pub fn pairs_of_range(
+pub fn pairs_of_range<B: RankedBaskets>(
     alloc: Global,
-    coded: &Coded,
+    baskets: &B,
     range: RankRange,
     least: u64,
 ) -> Result<Vec<Vec<(u32, u64)>>, AllocError>
-    ensures { IfOk result (λ lists. lists_of lists.items ≡ pairs_in_range coded.now.baskets least range) }
+    ensures { IfOk result (λ lists. lists_of lists.items ≡ pairs_in_range (B.baskets baskets.now) least range) }
 {
     let mut rows = no_counts(alloc, range)?;
-    count_pairs(&mut rows, range.first, coded.baskets());
+    count_pairs(&mut rows, range.first, baskets);
     let mut lists = Vec::with_capacity(alloc, rows.len())?;
     for row in &rows {
         lists.push(met_in_order(alloc, row, least)?)?;
@@ -53,13 +51,13 @@ fn no_counts(alloc: Global, range: RankRange) -> Result<Vec<Vec<u64>>, AllocErro
 }
 
 /// Counts the pairs of ranks of some baskets whose greater ranks have rows, from a first one on.
-fn count_pairs(rows: &mut [Vec<u64>], first: u32, baskets: &[Weighted])
-    requires none { HaveCounts [] first (lists_of rows.old) }
-    requires light { total_of baskets.now ≤ MOST_WEIGHT }
-    ensures { HaveCounts baskets.now first (lists_of rows.new) }
+fn count_pairs<B: RankedBaskets>(rows: &mut [Vec<u64>], first: u32, baskets: &B)
+    requires { HaveCounts [] first (lists_of rows.old) }
+    ensures { HaveCounts (B.baskets baskets.now) first (lists_of rows.new) }
 {
-    for place in baskets {
-        count_basket(rows, first, place.basket.items(), place.weight);
+    for place in 0..baskets.basket_count() {
+        let (ranks, weight) = baskets.basket_at(place);
+        count_basket(rows, first, ranks, weight);
     }
 }
 

@@ -1,4 +1,4 @@
-//! The ranks as ranges whose pairs take about equally long to count.
+//! The ranks as ranges that take workers about equally long.
 ghost use Rattle.std.specs.Prelude.{◌≤◌, ◌^◌, ◌<◌, ◌≡◌, All, IfOk, length};
 ghost use Rattle.std.specs.List.{flat_map, range_with_len};
 ghost use Rattle.basket_sets.specs.Counts.{AllBelow};
@@ -9,57 +9,62 @@ use basket_core::{Coded, Weighted};
 use mine_classes::RankRange;
 use std::alloc::{AllocError, Global};
 
-/// How many ranges there are for each of several workers. With more, all baskets are looked at more often;
-/// with fewer, one that takes long keeps the other workers waiting.
-const RANGES_FOR_EACH: u32 = 2;
-
-/// About this many baskets show how long the pairs of each rank take.
+/// About this many baskets show how many steps each rank takes.
 const SAMPLE: usize = 4_096;
 
-/// All ranks as ranges for a number of workers; one worker has one range. To count the pairs of a rank with lesser ones takes as
-/// many steps as such ranks stand before it in the baskets, and one for each basket that has it.
-/// Each range but the last has a little more than its share of the steps in a sample.
+/// What takes the time in a range of ranks.
+#[derive(Clone, Copy, Debug)]
+pub enum Cost {
+    /// Its ranks in the baskets: a step each.
+    Occurrences,
+    /// Their pairs with lesser ranks: a step each, and one for the rank.
+    Pairs,
+}
+
+/// All ranks as ranges, one for each worker, since each range looks at all baskets. Each range except
+/// the last has a little more than its share of the steps in a sample.
 pub fn ranges_of(
     alloc: Global,
     coded: &Coded,
     cutting: Cutting,
+    cost: Cost,
 ) -> Result<Vec<RankRange>, AllocError>
     ensures ranges { IfOk result (λ ranges. flat_map ranks_in ranges.items ≡ range_with_len 0 (length coded.now.items)) }
     ensures few { IfOk result (λ ranges. length ranges.items < 2 ^ 32) }
 {
-    let parts = match cutting.workers {
-        1 => 1,
-        workers => workers * RANGES_FOR_EACH,
-    };
     let mut steps = vec![in alloc; 0; coded.ranks() as usize]?;
-    if parts > 1 {
-        add_sample(&mut steps, coded.baskets());
+    if cutting.workers > 1 {
+        add_sample(&mut steps, coded.baskets(), cost);
     }
     let total = steps
         .iter()
         .fold(0u64, |total, some| total.saturating_add(*some));
-    cut(alloc, &steps, total / u64::from(parts))
+    cut(alloc, &steps, total / u64::from(cutting.workers))
 }
 
 /// Adds the steps that each rank takes in some of the baskets.
-fn add_sample(steps: &mut [u64], baskets: &[Weighted])
+fn add_sample(steps: &mut [u64], baskets: &[Weighted], cost: Cost)
     requires { All (λ place. AllBelow (length steps.old) place.basket) baskets.now }
 {
     let apart = baskets.len() / SAMPLE + 1;
     for number in 0..SAMPLE {
         if let Some(place) = baskets.get(number.saturating_mul(apart)) {
-            add_basket(steps, place.basket.items());
+            add_basket(steps, place.basket.items(), cost);
         }
     }
 }
 
 /// Adds the steps that each rank of a basket takes in it.
-fn add_basket(steps: &mut [u64], ranks: &[u32])
+fn add_basket(steps: &mut [u64], ranks: &[u32], cost: Cost)
     requires { AllBelow (length steps.old) ranks.now }
 {
     for (place, rank) in ranks.iter().enumerate() {
+        let more = match cost {
+            Cost::Occurrences => 1,
+            Cost::Pairs => place as u64 + 1,
+        };
         let some = &mut steps[*rank as usize];
-        *some = some.saturating_add(place as u64 + 1);
+        *some = some.saturating_add(more);
     }
 }
 

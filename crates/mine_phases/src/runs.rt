@@ -13,7 +13,7 @@ use crate::joined::in_a_row;
 use crate::pairs::PHASE;
 use crate::phase::Phase;
 use crate::pieces::{PartWork, by_pieces};
-use crate::ranges::ranges_of;
+use crate::ranges::{Cost, ranges_of};
 use crate::triangle::triangle_pairs;
 use basket_core::Coded;
 use mine_baskets::{ListBaskets, Span};
@@ -74,7 +74,7 @@ fn runs_by_ranges<R: Threads + Sync>(
     requires ranked { AreRankBaskets (record { ranks = length coded.now.items; baskets = baskets_at ranks.now baskets.now }) }
     ensures { IfOk result (λ of. HaveRunsFrom 0 (length coded.now.items) ranks.now (baskets_at ranks.now baskets.now) (lists_in of.items)) }
 {
-    let ranges = ranges_of(alloc, coded, cutting)?;
+    let ranges = ranges_of(alloc, coded, cutting, Cost::Occurrences)?;
     let work = RankRuns {
         count: coded.ranks(),
         ranks,
@@ -101,7 +101,7 @@ pub fn runs_shared<R: Threads + Sync>(
 {
     let lists = ListBaskets::grouped(rt, alloc, coded, cutting.workers)?;
     let pairs = if pays_for_classes(coded, &lists) {
-        triangle_pairs(rt, alloc, coded, cutting, &Open)?
+        triangle_pairs(rt, alloc, coded, &lists, cutting, &Open)?
     } else {
         Vec::new(alloc)
     };

@@ -27,7 +27,7 @@ fn pairs<R: Threads + Sync, G: Gate + Sync>(
     ensures { IfOk result (λ lists. ArePairs coded.now (lists_of lists.items)) }
 {
     if is_small_triangle(coded.ranks(), coded.baskets().len()) {
-        return triangle_pairs(rt, alloc, coded, cutting, gate);
+        return triangle_pairs(rt, alloc, coded, coded, cutting, gate);
     }
     let (runs, least) = runs_with_least(alloc, coded)?;
     count_pairs(rt, alloc, &runs, least, cutting, gate)

@@ -2,7 +2,7 @@ use Rattle.std.proofs.Common.{◌≡◌, ℕ, List, ap, ◌∙◌}
 use Rattle.basket_sets.specs.Support.{support_of}
 use Rattle.mine_baskets.specs.ListBaskets.{RankBaskets}
 use Rattle.mine_classes.specs.Pairs.{pairs_by_greater}
-use Rattle.mine_classes.proofs.PairLemmas.{same_pairs}
+use Rattle.mine_classes.proofs.theory.Pairs.{same_pairs}
 use Rattle.mine_classes.proofs.pairs.runs_with_least.Goals as goal
 
 pub returns : goal.returns

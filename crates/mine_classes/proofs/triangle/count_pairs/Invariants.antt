@@ -4,4 +4,4 @@ use Rattle.mine_classes.specs.Triangle.{HaveCounts}
 use Rattle.mine_classes.proofs.triangle.count_pairs.Given as goal
 
 abbrev pub invariant-loop-place : goal.invariant-loop-place
-invariant-loop-place l = HaveCounts (take l.place-index l.baskets) l.first (lists_of l.rows)
+invariant-loop-place g l = HaveCounts (take l.place (g.B.RankedBaskets.baskets l.baskets)) l.first (lists_of l.rows)

@@ -4,23 +4,20 @@ use Rattle.std.specs.declared.vec.Vec.{Vec}
 use Rattle.std.specs.List.{range_with_len}
 use Rattle.std.proofs.lemmas.List.{get_or-map, length-map, take_at}
 use Rattle.std.proofs.lemmas.List.FromFn.{length-map-range_with_len}
-use Rattle.basket_sets.specs.Support.{total_of}
 use Rattle.mine_classes.specs.Pairs.{lists_of, pairs_of}
 use Rattle.mine_classes.specs.Triangle.{HaveCounts, row_at, zeros}
 use Rattle.mine_classes.proofs.PairLemmas.{lists_pushed}
 use Rattle.mine_classes.proofs.TriangleLemmas.{row_pairs, zeros_count}
+use Rattle.mine_classes.proofs.triangle.pairs_of_range.Given.{Over}
 use Rattle.mine_classes.proofs.triangle.pairs_of_range.Goals as goal
 use Rattle.mine_classes.proofs.triangle.pairs_of_range.Goals.{After-deref, After-deref-row-items}
 
-pub count_pairs-requires-clause-none : goal.count_pairs-requires-clause-none
-count_pairs-requires-clause-none c =
+pub count_pairs-requires : goal.count_pairs-requires
+count_pairs-requires g c =
     let first = c.args.range.first in
     subst (HaveCounts [] first) (sym (ap lists_of c.deref_mut.ensures.value ∙ c.in_ok-rows.ensures)) (zeros_count first c.args.range.count)
 
-pub count_pairs-requires-clause-light : goal.count_pairs-requires-clause-light
-count_pairs-requires-clause-light c = omega (arith, ap total_of c.baskets.ensures.baskets, c.baskets.ensures.coding.light)
-
-module _ (c : After-deref-row-items) where
+module _ (g : Over) (c : After-deref-row-items g) where
   rows_are : c.deref-row-items.result.now ≡ c.count_pairs.new.rows
   rows_are = c.deref-row-items.ensures.value ∙ take_at c.count_pairs.new.rows _ c.in_ok-rows.rows.len (c.count_pairs.auto.rows ∙ c.deref_mut.ensures.len)
 
@@ -28,12 +25,11 @@ module _ (c : After-deref-row-items) where
   long = length-map c.deref-row-items.result.now (λ (v : Vec ℕ Global). v.items) ∙ ap length rows_are ∙ c.count_pairs.auto.rows ∙ ap length c.deref_mut.ensures.value
       ∙ sym (length-map c.in_ok-rows.rows.items (λ (v : Vec ℕ Global). v.items)) ∙ ap length c.in_ok-rows.ensures ∙ length-map-range_with_len zeros c.args.range.first c.args.range.count
 
-  counts : HaveCounts c.args.coded.now.baskets c.args.range.first (lists_of c.deref-row-items.result.now)
-  counts = subst (λ l. HaveCounts l c.args.range.first (lists_of c.deref-row-items.result.now)) c.baskets.ensures.baskets
-      (subst (λ l. HaveCounts c.baskets.result.now c.args.range.first (lists_of l)) (sym rows_are) c.count_pairs.ensures)
+  counts : HaveCounts (g.B.RankedBaskets.baskets c.args.baskets.now) c.args.range.first (lists_of c.deref-row-items.result.now)
+  counts = subst (λ l. HaveCounts (g.B.RankedBaskets.baskets c.args.baskets.now) c.args.range.first (lists_of l)) (sym rows_are) c.count_pairs.ensures
 
 -- the row of a rank
-module _ (c : After-deref) where
+module _ (g : Over) (c : After-deref g) where
   within : c.loop-row.row-index < length (lists_of c.deref-row-items.result.now)
   within = omega (arith, c.loop-row-test.true, length-map c.deref-row-items.result.now (λ (v : Vec ℕ Global). v.items))
 
@@ -42,21 +38,21 @@ module _ (c : After-deref) where
       ∙ sym (get_or-map (λ (v : Vec ℕ Global). v.items) c.deref-row-items.result.now c.loop-row.row-index c.row-item.result [] c.loop-row-test.true)
 
 pub met_in_order-requires : goal.met_in_order-requires
-met_in_order-requires c =
-    let w = (goal.at.met_in_order-requires c).After-deref-row-items in
-    let row = (counts w).long c.loop-row.row-index (within c) in
-    omega (arith, ap length (at_row c), row, within c, long w, c.args.range.few)
+met_in_order-requires g c =
+    let w = (goal.at.met_in_order-requires g c).After-deref-row-items in
+    let row = (counts g w).long c.loop-row.row-index (within g c) in
+    omega (arith, ap length (at_row g c), row, within g c, long g w, c.args.range.few)
 
 pub loop-row-preserved : goal.loop-row-preserved
-loop-row-preserved c =
-    let w = (goal.at.loop-row-preserved c).After-deref in
+loop-row-preserved g c =
+    let w = (goal.at.loop-row-preserved g c).After-deref in
     let k = c.loop-row.row-index in
     let first = c.args.range.first in
-    lists_pushed (pairs_of c.args.coded.now.baskets c.args.least) first k (first + k) c.loop-row.lists.items _ _ c.loop-row.invariant c.in_ok-push.ensures.items refl
-    (c.in_ok-met_in_order.ensures ∙ row_pairs c.args.coded.now.baskets c.args.least first _ k _ (counts (goal.at.loop-row-preserved c).After-deref-row-items) (within w) (at_row w))
+    lists_pushed (pairs_of (g.B.RankedBaskets.baskets c.args.baskets.now) c.args.least) first k (first + k) c.loop-row.lists.items _ _ c.loop-row.invariant c.in_ok-push.ensures.items refl
+    (c.in_ok-met_in_order.ensures ∙ row_pairs (g.B.RankedBaskets.baskets c.args.baskets.now) c.args.least first _ k _ (counts g (goal.at.loop-row-preserved g c).After-deref-row-items) (within g w) (at_row g w))
 
 pub returns : goal.returns
-returns c =
-    let w = (goal.at.returns c).After-deref-row-items in
-    let all : c.loop-row.row-index ≡ c.args.range.count = omega (arith, c.loop-row-test.false, c.loop-row.auto.row-index-end, long w, length-map c.deref-row-items.result.now (λ (v : Vec ℕ Global). v.items)) in
-    c.loop-row.invariant ∙ ap (λ n. map (pairs_of c.args.coded.now.baskets c.args.least) (range_with_len c.args.range.first n)) all
+returns g c =
+    let w = (goal.at.returns g c).After-deref-row-items in
+    let all : c.loop-row.row-index ≡ c.args.range.count = omega (arith, c.loop-row-test.false, c.loop-row.auto.row-index-end, long g w, length-map c.deref-row-items.result.now (λ (v : Vec ℕ Global). v.items)) in
+    c.loop-row.invariant ∙ ap (λ n. map (pairs_of (g.B.RankedBaskets.baskets c.args.baskets.now) c.args.least) (range_with_len c.args.range.first n)) all

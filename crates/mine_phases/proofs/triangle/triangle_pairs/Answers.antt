@@ -11,6 +11,7 @@ use Rattle.basket_sets.specs.declared.weighted.Weighted.{Weighted}
 use Rattle.mine_classes.specs.declared.rank_range.RankRange.{RankRange}
 use Rattle.mine_classes.specs.Pairs.{ArePairs, lists_of, pairs_by_greater, pairs_of}
 use Rattle.mine_classes.specs.Triangle.{pairs_in_range, ranks_in}
+use Rattle.mine_classes.proofs.theory.Pairs.{same_pairs}
 use Rattle.mine_phases.specs.Pieces.{HasEach}
 use Rattle.mine_phases.proofs.Parts.{entries_by_part, map_flat}
 use Rattle.mine_phases.proofs.triangle.triangle_pairs.Goals as goal
@@ -31,9 +32,12 @@ module _ (baskets : List Weighted) (least ranks : ℕ) (ranges : List RankRange)
 pub returns : goal.returns
 returns g c =
     let coding = c.args.coded.now in
+    let baskets = g.B.RankedBaskets.baskets c.args.baskets.now in
+    let least = c.least_support.result in
     IfOk-weaker c.in_a_row.result _ (λ lists. ArePairs coding (lists_of lists.items))
     (λ lists is. record {
-      least = c.least_support.result;
+      least = least;
       settles = c.least_support.ensures;
-      pairs = ap lists_of is ∙ pairs_joined coding.baskets c.least_support.result (length coding.items) _ c.in_ok-lists.lists.items c.in_ok-ranges_of.ensures.ranges c.in_ok-lists.ensures;
+      pairs = ap lists_of is ∙ pairs_joined baskets least (length coding.items) _ c.in_ok-lists.lists.items c.in_ok-ranges_of.ensures.ranges c.in_ok-lists.ensures
+          ∙ same_pairs baskets coding.baskets least (length coding.items) c.requires;
     }) c.in_a_row.ensures
