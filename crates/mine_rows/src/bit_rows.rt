@@ -87,11 +87,12 @@ impl Row for BitRow {
         y: &Self,
         marks: &Marks,
         weights: &Weights,
-    ) -> Result<(), AllocError> {
+        least: u64,
+    ) -> Result<bool, AllocError> {
         weights.bounds();
         let ones = share(&mut self.words, &x.words, &y.words)?;
         self.count = weights.weight_of_bits(&self.words, ones, &marks.planes);
-        Ok(())
+        Ok(self.count >= least)
     }
 
     fn count(&self) -> u64 {

@@ -55,12 +55,18 @@ impl Row for DiffList {
         y: &Self,
         marks: &Marks,
         weights: &Weights,
-    ) -> Result<(), AllocError> {
+        least: u64,
+    ) -> Result<bool, AllocError> {
         weights.bounds();
-        // What the second lacks and the first doesn't is lost.
-        let lost = marks.keep(&y.missing, &mut self.missing)?;
+        // What the second lacks and the first doesn't is lost, and this much may be.
+        let Some(most) = x.count.checked_sub(least) else {
+            return Ok(false);
+        };
+        let Some(lost) = marks.keep(&y.missing, &mut self.missing, most)? else {
+            return Ok(false);
+        };
         self.count = x.count - lost;
-        Ok(())
+        Ok(true)
     }
 
     fn count(&self) -> u64 {

@@ -1,5 +1,5 @@
 //! What is known of places while a row is joined with others.
-ghost use Rattle.std.specs.Prelude.{◌≡◌, ◌≤◌, ◌<◌, ◌||◌, ◌&&◌, ℕ, Bool, false, true, List, IfOk, OnOk, filter, length, nat_lt, not, slice_index};
+ghost use Rattle.std.specs.Prelude.{◌≡◌, ◌≤◌, ◌<◌, ◌||◌, ◌&&◌, ℕ, Bool, false, true, List, IfNone, IfOk, IfSome, filter, length, nat_lt, not, slice_index};
 ghost use Rattle.std.specs.List.{sum_by};
 ghost use Rattle.basket_sets.specs.Database.{MOST_WEIGHT};
 ghost use Rattle.basket_sets.specs.Itemset.{AllBelow, has};
@@ -73,15 +73,23 @@ impl Marks {
         }
     }
 
-    /// Keeps those of some places that are marked, replacing other places. Returns their weight.
-    pub fn keep(&self, places: &[u32], kept: &mut Vec<u32>) -> Result<u64, AllocError>
+    /// Keeps those of some places that are marked, replacing other places. Returns their weight, or none
+    /// if that is more than the most: then not all places were looked at.
+    #[inline(always)]
+    pub fn keep(
+        &self,
+        places: &[u32],
+        kept: &mut Vec<u32>,
+        most: u64,
+    ) -> Result<Option<u64>, AllocError>
         requires below { AllBelow (length self.now.weights.items) places.now }
         requires light { sum_by (λ place. slice_index self.now.weights.items place) places.now
             ≤ MOST_WEIGHT }
-        ensures places { OnOk result (kept.new.items
-            ≡ filter (λ place. nat_lt 0 (slice_index self.now.weights.items place)) places.now) }
-        ensures sum { IfOk result (λ sum.
-            sum ≡ sum_by (λ place. slice_index self.now.weights.items place) places.now) }
+        ensures places { IfOk result (λ sum. IfSome sum (λ _. kept.new.items
+            ≡ filter (λ place. nat_lt 0 (slice_index self.now.weights.items place)) places.now)) }
+        ensures sum { IfOk result (λ sum. IfSome sum (λ sum. (sum ≤ most)
+            × (sum ≡ sum_by (λ place. slice_index self.now.weights.items place) places.now))) }
+        ensures more { IfOk result (λ sum. IfNone sum (most < sum_by (λ place. slice_index self.now.weights.items place) places.now)) }
     {
         kept.clear();
         kept.extend_from_slice(places)?;
@@ -94,8 +102,11 @@ impl Marks {
             kept[count] = *place;
             count += usize::from(weight > 0);
             sum += weight;
+            if sum > most {
+                return Ok(None);
+            }
         }
         kept.truncate(count);
-        Ok(sum)
+        Ok(Some(sum))
     }
 }

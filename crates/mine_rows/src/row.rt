@@ -1,4 +1,4 @@
-ghost use Rattle.std.specs.Prelude.{◌≡◌, ℕ, List, IfOk, IsTrue, OnOk, length};
+ghost use Rattle.std.specs.Prelude.{◌≡◌, ℕ, List, IfOk, IsTrue, length, nat_le};
 ghost use Rattle.basket_sets.specs.Itemset.{AllBelow, IsRising};
 ghost use Rattle.mine_rows.specs.Cover.{IsAdded, all_places, common, cover_weight};
 
@@ -49,20 +49,25 @@ pub trait Row: Drop {
         ensures { at_rest weights.now marks.new };
 
     /// Becomes the row of what two covers share, beside the first of them, for which places are
-    /// marked. Both rows are beside one parent.
+    /// marked, and returns whether that weighs enough. If it doesn't, the row represents nothing.
+    /// Both rows are beside one parent.
     fn join(
         &mut self,
         x: &Self,
         y: &Self,
         marks: &Marks,
         weights: &Weights,
-    ) -> Result<(), AllocError>
+        least: u64,
+    ) -> Result<bool, AllocError>
         requires rows { (parent : List ℕ) × (first : List ℕ) × (second : List ℕ)
             × stands weights.now parent first x.now × stands weights.now parent second y.now }
         requires marks { marked x.now weights.now marks.now }
-        ensures { OnOk result ((parent first second : List ℕ)
+        ensures row { IfOk result (λ frequent. IsTrue frequent → (parent first second : List ℕ)
             → stands weights.now parent first x.now → stands weights.now parent second y.now
-            → stands weights.now first (common first second) self.new) };
+            → stands weights.now first (common first second) self.new) }
+        ensures frequent { IfOk result (λ frequent. (parent first second : List ℕ)
+            → stands weights.now parent first x.now → stands weights.now parent second y.now
+            → frequent ≡ nat_le least (cover_weight weights.now (common first second))) };
 
     /// The row of what two covers share, beside the first of them. Both rows are beside one parent.
     fn joined(alloc: Global, x: &Self, y: &Self, weights: &Weights) -> Result<Self, AllocError>
@@ -75,7 +80,8 @@ pub trait Row: Drop {
         let mut marks = Self::new_marks(alloc, weights)?;
         x.mark(&mut marks, weights);
         let mut row = Self::empty(alloc);
-        row.join(x, y, &marks, weights)?;
+        // Each cover weighs at least nothing.
+        row.join(x, y, &marks, weights, 0)?;
         Ok(row)
     }
 

@@ -72,10 +72,14 @@ impl Row for TidList {
         y: &Self,
         marks: &Marks,
         weights: &Weights,
-    ) -> Result<(), AllocError> {
+        least: u64,
+    ) -> Result<bool, AllocError> {
         weights.bounds();
-        self.count = marks.keep(&y.places, &mut self.places)?;
-        Ok(())
+        let Some(count) = marks.keep(&y.places, &mut self.places, u64::MAX)? else {
+            unreachable!()
+        };
+        self.count = count;
+        Ok(count >= least)
     }
 
     fn count(&self) -> u64 {

@@ -1,8 +1,7 @@
 -- Siblings: those of the ranks of a database, and those that are joined.
-use Rattle.std.proofs.Common.{◌≡◌, ℕ, zero, suc, ◌+◌, ◌<◌, ◌≤◌, Bool, true, ◌&&◌, List, [], ◌∷◌, ◌++◌, length, get_or, take, map, cond, refl, sym, ap, ◌∙◌, subst, arith}
+use Rattle.std.proofs.Common.{◌≡◌, ℕ, zero, suc, ◌+◌, ◌<◌, ◌≤◌, Bool, false, true, ◌&&◌, List, [], ◌∷◌, ◌++◌, length, get_or, take, map, cond, refl, sym, ap, ◌∙◌, subst, arith}
 use Rattle.std.specs.Prelude.{All, nat_eq, nat_le, sum}
 use Rattle.std.specs.List.{AllByRecursion, IsDistinct, filter, range_with_len}
-use Rattle.std.proofs.lemmas.Bool.{le-leb, lt-leb}
 use Rattle.std.proofs.lemmas.List.{append-nil, get_or-map, length-map, map-append, take_more}
 use Rattle.std.proofs.lemmas.List.Elements.{All-push, filter-append}
 use Rattle.std.proofs.lemmas.List.Sums.{sum-map}
@@ -16,10 +15,10 @@ use Rattle.basket_sets.specs.Support.{support_of, total_of}
 use Rattle.basket_sets.proofs.theory.Rising.{Member-from_has, has-from_Member, same_test}
 use Rattle.basket_sets.proofs.theory.Ranges.{Member-range, filter_members}
 use Rattle.mine_baskets.specs.Covers.{basket_at, cover_of, weights_of}
-use Rattle.mine_rows.specs.Cover.{common}
+use Rattle.mine_rows.specs.Cover.{common, cover_weight}
 use Rattle.mine_vertical.specs.declared.joins.Sibling.{Sibling}
 use Rattle.mine_vertical.specs.Siblings.{AreKept, ArePair, IsSibling}
-use Rattle.mine_vertical.proofs.CoverLemmas.{common_cover}
+use Rattle.mine_vertical.proofs.CoverLemmas.{common_cover, cover_weighs}
 
 -- ---- baskets of places in a list of ranks, and of these ranks
 
@@ -84,6 +83,17 @@ module _ {R : Type 0} (stands : List ℕ → List ℕ → List ℕ → R → Typ
       (subst (λ w. stands w first (common first second) row) pair.weighs
       (made parent first second (subst (λ w. stands w parent first sibling.row) (sym pair.weighs) pair.first_is) (subst (λ w. stands w parent second other.row) (sym pair.weighs) pair.second_is)))
 
+  -- and whether that is frequent is told by the support of both
+  pub joined_support : (sibling other : Sibling R) (least : ℕ) (frequent : Bool) → ArePair stands weights sibling other baskets set
+      → ((parent first second : List ℕ) → stands weights parent first sibling.row → stands weights parent second other.row → frequent ≡ nat_le least (cover_weight weights (common first second)))
+      → frequent ≡ nat_le least (support_of baskets (other.rank ∷ sibling.rank ∷ set))
+  joined_support sibling other least frequent pair is =
+      let parent = cover_of baskets set in
+      let first = cover_of baskets (sibling.rank ∷ set) in
+      let second = cover_of baskets (other.rank ∷ set) in
+      is parent first second (subst (λ w. stands w parent first sibling.row) (sym pair.weighs) pair.first_is) (subst (λ w. stands w parent second other.row) (sym pair.weighs) pair.second_is)
+      ∙ ap (nat_le least) ((λ i. cover_weight (pair.weighs i) (common_cover baskets set sibling.rank other.rank i)) ∙ cover_weighs baskets (other.rank ∷ sibling.rank ∷ set))
+
 module _ {R : Type 0} (stands : List ℕ → List ℕ → List ℕ → R → Type 0) (least rank : ℕ) (others below : List (Sibling R)) (baskets : List Weighted) (set : List ℕ) (i : ℕ) (other : Sibling R)
     (here : i < length others) (at : other ≡ get_or others i other) (before : AreKept stands least rank (take i others) below baskets set) where
   abbrev test : ℕ → Bool
@@ -98,17 +108,17 @@ module _ {R : Type 0} (stands : List ℕ → List ℕ → List ℕ → R → Typ
       ∙ ap (filter test) (map-append (λ (o : Sibling R). o.rank) (take i others) (other ∷ [])) ∙ filter-append test (ranks (take i others)) (other.rank ∷ [])
 
   -- one more sibling is kept or not
-  pub kept_more : (both : Sibling R) → both.rank ≡ other.rank → IsSibling stands baskets (rank ∷ set) both → least ≤ support_of baskets (other.rank ∷ rank ∷ set)
+  pub kept_more : (both : Sibling R) → both.rank ≡ other.rank → IsSibling stands baskets (rank ∷ set) both → nat_le least (support_of baskets (other.rank ∷ rank ∷ set)) ≡ true
       → AreKept stands least rank (take (i + 1) others) (below ++ both ∷ []) baskets set
   kept_more both same is enough = record {
     ranks = map-append (λ (o : Sibling R). o.rank) below (both ∷ []) ∙ ap (λ l. l ++ both.rank ∷ []) before.ranks ∙ ap (λ r. filter test (ranks (take i others)) ++ r ∷ []) same
-        ∙ sym (more ∙ ap (λ b. filter test (ranks (take i others)) ++ cond b (other.rank ∷ []) []) (le-leb least (support_of baskets (other.rank ∷ rank ∷ set)) enough));
+        ∙ sym (more ∙ ap (λ b. filter test (ranks (take i others)) ++ cond b (other.rank ∷ []) []) enough);
     rows = All-push (IsSibling stands baskets (rank ∷ set)) below both before.rows is;
   }
 
-  pub dropped_more : support_of baskets (other.rank ∷ rank ∷ set) < least → AreKept stands least rank (take (i + 1) others) below baskets set
+  pub dropped_more : nat_le least (support_of baskets (other.rank ∷ rank ∷ set)) ≡ false → AreKept stands least rank (take (i + 1) others) below baskets set
   dropped_more rare = record {
     ranks = before.ranks
-        ∙ sym (more ∙ ap (λ b. filter test (ranks (take i others)) ++ cond b (other.rank ∷ []) []) (lt-leb least (support_of baskets (other.rank ∷ rank ∷ set)) rare) ∙ append-nil (filter test (ranks (take i others))));
+        ∙ sym (more ∙ ap (λ b. filter test (ranks (take i others)) ++ cond b (other.rank ∷ []) []) rare ∙ append-nil (filter test (ranks (take i others))));
     rows = before.rows;
   }

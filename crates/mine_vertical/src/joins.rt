@@ -1,5 +1,5 @@
 //! Joins of siblings, each counted where it is made.
-ghost use Rattle.std.specs.Prelude.{◌≡◌, ◌≤◌, ◌<◌, ◌+◌, ◌∷◌, ℕ, List, IfOk, IsTrue, OnOk, length};
+ghost use Rattle.std.specs.Prelude.{◌≡◌, ◌≤◌, ◌<◌, ◌+◌, ◌∷◌, ℕ, List, IfOk, IsTrue, OnOk, length, nat_le};
 ghost use Rattle.basket_sets.specs.declared.weighted.Weighted.{Weighted as Basket};
 ghost use Rattle.basket_sets.specs.Itemset.{AllBelow, IsRising};
 ghost use Rattle.basket_sets.specs.Support.{support_of};
@@ -135,7 +135,7 @@ impl Joins {
     }
 
     /// Joins two siblings, for the first of which places are marked: the set with both ranks, which
-    /// replaces another sibling. Returns its support.
+    /// replaces another sibling if its support is at least this. Returns whether it is.
     pub fn join<R: Row>(
         &mut self,
         both: &mut Sibling<R>,
@@ -143,23 +143,26 @@ impl Joins {
         second: &Sibling<R>,
         marks: &Marks,
         weights: &Weights,
-    ) -> Result<u64, AllocError>
+        least: u64,
+    ) -> Result<bool, AllocError>
         requires rows { (baskets : List Basket) × (set : List ℕ)
             × ArePair R.stands weights.now first.now second.now baskets set }
         requires marks { R.marked first.now.row weights.now marks.now }
         requires few { self.old.number < 18446744073709551615 }
         ensures joins { OnOk result (self.new.number ≡ self.old.number + 1) }
         ensures rank { OnOk result (both.new.rank ≡ second.now.rank) }
-        ensures row { OnOk result ((baskets : List Basket) (set : List ℕ)
+        ensures row { IfOk result (λ frequent. IsTrue frequent → (baskets : List Basket) (set : List ℕ)
             → ArePair R.stands weights.now first.now second.now baskets set
             → IsSibling R.stands baskets (first.now.rank ∷ set) both.new) }
-        ensures support { IfOk result (λ support. (baskets : List Basket) (set : List ℕ)
+        ensures support { IfOk result (λ frequent. (baskets : List Basket) (set : List ℕ)
             → ArePair R.stands weights.now first.now second.now baskets set
-            → support ≡ support_of baskets (second.now.rank ∷ first.now.rank ∷ set)) }
+            → frequent ≡ nat_le least (support_of baskets (second.now.rank ∷ first.now.rank ∷ set))) }
     {
         both.rank = second.rank;
-        both.row.join(&first.row, &second.row, marks, weights)?;
+        let frequent = both
+            .row
+            .join(&first.row, &second.row, marks, weights, least)?;
         self.number += 1;
-        Ok(both.row.count())
+        Ok(frequent)
     }
 }

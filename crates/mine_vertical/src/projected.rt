@@ -129,8 +129,9 @@ impl<'a, R: Row> Siblings<'a, R> {
         sibling.mark(marks, weights);
         for other in &self.list[..at] {
             make_place(alloc, list, kept)?;
-            let support = joins.join(&mut list[kept], sibling, other, marks, weights)?;
-            if support >= self.least {
+            let both = &mut list[kept];
+            let frequent = joins.join(both, sibling, other, marks, weights, self.least)?;
+            if frequent {
                 kept += 1;
             }
         }

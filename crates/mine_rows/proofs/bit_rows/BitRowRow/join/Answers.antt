@@ -1,4 +1,4 @@
-use Rattle.std.proofs.Common.{length, sym, ap, ◌∙◌, arith}
+use Rattle.std.proofs.Common.{leb, length, sym, ap, ◌∙◌, arith}
 use Rattle.basket_sets.specs.Itemset.{has}
 use Rattle.mine_rows.specs.Bits.{word_count}
 use Rattle.mine_rows.specs.Cover.{common}
@@ -30,8 +30,8 @@ weight_of_bits-self-requires-clause-cover c =
       c.in_ok-ones.ensures.ones ∙ row_ones weights parent first second c.args.x.now c.args.y.now p q,
     )
 
-pub returns : goal.returns
-returns c = λ parent first second p q.
+pub returns-clause-row : goal.returns-clause-row
+returns-clause-row c = λ frequent parent first second p q.
     let weights = c.args.weights.now in
     let covers = common_covers weights parent first second p.covers in
     let made = c.in_ok-ones.ensures.words ∙ row_words weights parent first second c.args.x.now c.args.y.now p q in
@@ -41,3 +41,10 @@ returns c = λ parent first second p q.
       words = made;
       count = c.weight_of_bits-self.ensures (common first second) covers made ones;
     }
+
+pub returns-clause-frequent : goal.returns-clause-frequent
+returns-clause-frequent c = λ parent first second p q.
+    let weights = c.args.weights.now in
+    ap (leb c.args.least) (c.weight_of_bits-self.ensures (common first second) (common_covers weights parent first second p.covers)
+    (c.in_ok-ones.ensures.words ∙ row_words weights parent first second c.args.x.now c.args.y.now p q)
+    (c.in_ok-ones.ensures.ones ∙ row_ones weights parent first second c.args.x.now c.args.y.now p q))

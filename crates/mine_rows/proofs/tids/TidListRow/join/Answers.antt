@@ -1,12 +1,23 @@
-use Rattle.std.proofs.Common.{◌≤◌, filter, get_or, length, ltb, subst, sym, ap, ◌∙◌}
+use Rattle.std.proofs.Common.{◌≡◌, ◌<◌, ◌≤◌, ℕ, List, arith, leb, filter, get_or, length, ltb, subst, sym, ap, ◌∙◌}
+use Rattle.std.specs.Prelude.{IfNone, IfSome}
 use Rattle.std.specs.List.{sum_by}
 use Rattle.basket_sets.specs.Database.{MOST_WEIGHT}
 use Rattle.basket_sets.specs.Itemset.{AllBelow, has}
 use Rattle.mine_rows.specs.Cover.{common, cover_weight}
+use Rattle.mine_rows.specs.declared.marks.Marks.{Marks}
+use Rattle.mine_rows.specs.declared.tids.TidList.{TidList}
 use Rattle.mine_rows.specs.Marks.{IsMarked}
+use Rattle.mine_rows.specs.Rows.{IsTidList}
 use Rattle.mine_rows.proofs.MarkLemmas.{common_other, keeps_test, sums_test}
 use Rattle.mine_rows.proofs.RowLemmas.{common_covers}
 use Rattle.mine_rows.proofs.tids.TidListRow.join.Goals as goal
+
+-- what is kept weighs what both covers share
+kept_weighs : (weights parent first second lent : List ℕ) (x y : TidList) (marks : Marks) → IsTidList weights parent first x → IsTidList weights parent second y
+    → IsMarked weights (has x.places.items) marks → lent ≡ y.places.items → sum_by (λ place. get_or marks.weights.items place 0) lent ≡ cover_weight weights (common first second)
+kept_weighs weights parent first second lent x y marks p q are same =
+    ap (sum_by (λ place. get_or marks.weights.items place 0)) (same ∙ q.places) ∙ sums_test weights (has first) marks (subst (λ l. IsMarked weights (has l) marks) p.places are) second
+    ∙ ap (cover_weight weights) (common_other first second p.covers.rises q.covers.rises)
 
 pub keep-requires-clause-below : goal.keep-requires-clause-below
 keep-requires-clause-below c =
@@ -17,22 +28,34 @@ pub keep-requires-clause-light : goal.keep-requires-clause-light
 keep-requires-clause-light c =
     let (parent, first, second, p, q) = c.requires.rows in
     let weights = c.args.weights.now in
-    let marks = c.args.marks.now in
-    let is = subst (λ l. IsMarked weights (has l) marks) p.places c.requires.marks in
-    let sum = ap (sum_by (λ place. get_or marks.weights.items place 0)) (c.deref.ensures.value ∙ q.places)
-    ∙ sums_test weights (has first) marks is second ∙ ap (cover_weight weights) (common_other first second p.covers.rises q.covers.rises) in
-    subst (λ n. n ≤ MOST_WEIGHT) (sym sum) (c.bounds.ensures.light (common first second) (common_covers weights parent first second p.covers))
+    subst (λ n. n ≤ MOST_WEIGHT) (sym (kept_weighs weights parent first second c.deref.result.now c.args.x.now c.args.y.now c.args.marks.now p q c.requires.marks c.deref.ensures.value))
+    (c.bounds.ensures.light (common first second) (common_covers weights parent first second p.covers))
 
-pub returns : goal.returns
-returns c = λ parent first second p q.
+pub unreachable-requires : goal.unreachable-requires
+unreachable-requires c =
+    let (parent, first, second, p, q) = c.requires.rows in
+    let weights = c.args.weights.now in
+    let more = subst (λ found. IfNone found (18446744073709551615 < sum_by (λ place. get_or c.args.marks.now.weights.items place 0) c.deref.result.now)) c.in_default.is c.in_ok-count.ensures.more in
+    let sum = kept_weighs weights parent first second c.deref.result.now c.args.x.now c.args.y.now c.args.marks.now p q c.requires.marks c.deref.ensures.value in
+    omega (arith, more, sum, c.bounds.ensures.light (common first second) (common_covers weights parent first second p.covers))
+
+pub returns-clause-row : goal.returns-clause-row
+returns-clause-row c = λ frequent parent first second p q.
     let weights = c.args.weights.now in
     let marks = c.args.marks.now in
     let is = subst (λ l. IsMarked weights (has l) marks) p.places c.requires.marks in
-    let both = common_other first second p.covers.rises q.covers.rises in
+    let places = subst (λ found. IfSome found (λ _. c.keep.new.kept.items ≡ filter (λ place. ltb 0 (get_or marks.weights.items place 0)) c.deref.result.now)) c.in-Some.is c.in_ok-count.ensures.places in
+    let sum = subst (λ found. IfSome found (λ n. (n ≤ 18446744073709551615) × (n ≡ sum_by (λ place. get_or marks.weights.items place 0) c.deref.result.now))) c.in-Some.is c.in_ok-count.ensures.sum in
     record {
       covers = common_covers weights parent first second p.covers;
-      places = c.in_ok-self.ensures.places ∙ ap (filter (λ place. ltb 0 (get_or marks.weights.items place 0))) (c.deref.ensures.value ∙ q.places)
-          ∙ keeps_test weights (has first) marks is c.bounds.ensures.some second q.covers.below ∙ both;
-      count = c.in_ok-self.ensures.sum ∙ ap (sum_by (λ place. get_or marks.weights.items place 0)) (c.deref.ensures.value ∙ q.places)
-          ∙ sums_test weights (has first) marks is second ∙ ap (cover_weight weights) both;
+      places = places ∙ ap (filter (λ place. ltb 0 (get_or marks.weights.items place 0))) (c.deref.ensures.value ∙ q.places)
+          ∙ keeps_test weights (has first) marks is c.bounds.ensures.some second q.covers.below ∙ common_other first second p.covers.rises q.covers.rises;
+      count = sum.1 ∙ kept_weighs weights parent first second c.deref.result.now c.args.x.now c.args.y.now marks p q c.requires.marks c.deref.ensures.value;
     }
+
+pub returns-clause-frequent : goal.returns-clause-frequent
+returns-clause-frequent c = λ parent first second p q.
+    let weights = c.args.weights.now in
+    let marks = c.args.marks.now in
+    let sum = subst (λ found. IfSome found (λ n. (n ≤ 18446744073709551615) × (n ≡ sum_by (λ place. get_or marks.weights.items place 0) c.deref.result.now))) c.in-Some.is c.in_ok-count.ensures.sum in
+    ap (leb c.args.least) (sum.1 ∙ kept_weighs weights parent first second c.deref.result.now c.args.x.now c.args.y.now marks p q c.requires.marks c.deref.ensures.value)

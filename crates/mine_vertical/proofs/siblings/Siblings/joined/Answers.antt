@@ -1,4 +1,4 @@
-use Rattle.std.proofs.Common.{◌≡◌, ◌+◌, ◌<◌, ◌≤◌, ◌∷◌, ◌++◌, [], get_or, length, take, subst, sym, ap, ◌∙◌, arith}
+use Rattle.std.proofs.Common.{◌≡◌, ◌+◌, ◌<◌, ◌≤◌, ◌∷◌, ◌++◌, [], get_or, leb, length, take, subst, sym, ap, ◌∙◌, arith}
 use Rattle.std.proofs.Math.ListN.{set}
 use Rattle.std.specs.Prelude.{slice_set}
 use Rattle.std.proofs.lemmas.List.{length-set, take-set, take_all, take_more_set}
@@ -8,7 +8,7 @@ use Rattle.mine_vertical.specs.Siblings.{AreKept, ArePair, IsSibling}
 use Rattle.mine_vertical.proofs.ExtensionLemmas.{rank_at, row_at, rows_before}
 use Rattle.mine_vertical.proofs.SiblingLemmas.{dropped_more, kept_more}
 use Rattle.mine_vertical.proofs.siblings.Siblings.joined.Goals as goal
-use Rattle.mine_vertical.proofs.siblings.Siblings.joined.Goals.{then-support-self, else-support-self}
+use Rattle.mine_vertical.proofs.siblings.Siblings.joined.Goals.{then-frequent, else-frequent}
 
 pub mark-requires-clause-row : goal.mark-requires-clause-row
 mark-requires-clause-row g c =
@@ -58,10 +58,10 @@ loop-other-preserved g c =
     let same : take k (set list k both) ≡ below = take-set list k both ∙ c.in_ok-make_place.ensures.before in
     let more : take (k + 1) (set list k both) ≡ below ++ both ∷ [] = take_more_set list k both inside ∙ ap (λ l. l ++ both ∷ []) c.in_ok-make_place.ensures.before in
     record {
-      joins = omega (arith, c.loop-other.invariant.joins, c.in_ok-support.ensures.joins);
-      within = elim c.if-support-self.branch [
-        | then-support-self w ↦ omega (arith, w.kept-is, inside, long)
-        | else-support-self w ↦ omega (arith, w.kept-is, inside, long)
+      joins = omega (arith, c.loop-other.invariant.joins, c.in_ok-frequent.ensures.joins);
+      within = elim c.if-frequent.branch [
+        | then-frequent w ↦ omega (arith, w.kept-is, inside, long)
+        | else-frequent w ↦ omega (arith, w.kept-is, inside, long)
       ];
       kept = λ baskets taken are.
           let pair : ArePair stands c.deref-weights.result.now sibling other baskets taken = record {
@@ -69,16 +69,16 @@ loop-other-preserved g c =
             first_is = row_at base c.args.at c.requires.inside sibling c.index-sibling.ensures stands baskets taken are.rows;
             second_is = subst (IsSibling stands baskets taken) (sym at) (rows_before base c.args.at c.requires.inside (IsSibling stands baskets taken) are.rows i other here);
           } in
-          let support = c.in_ok-support.ensures.support baskets taken pair ∙ ap (λ r. support_of baskets (other.rank ∷ r ∷ taken)) (sym named) in
-          let is = subst (λ r. IsSibling stands baskets (r ∷ taken) both) (sym named) (c.in_ok-support.ensures.row baskets taken pair) in
+          let frequent = c.in_ok-frequent.ensures.support baskets taken pair ∙ ap (λ r. leb base.least (support_of baskets (other.rank ∷ r ∷ taken))) (sym named) in
           let before = c.loop-other.invariant.kept baskets taken are in
-          elim c.if-support-self.branch [
-            | then-support-self w ↦
+          elim c.if-frequent.branch [
+            | then-frequent w ↦
                 subst (λ l. AreKept stands base.least rank (take (i + 1) others) l baskets taken) (sym (ap (λ n. take n (slice_set list k both)) w.kept-is ∙ more))
-                (kept_more stands base.least rank others below baskets taken i other here at before both c.in_ok-support.ensures.rank is (omega (arith, support, w.if-support-self.true)))
-            | else-support-self w ↦
+                (kept_more stands base.least rank others below baskets taken i other here at before both c.in_ok-frequent.ensures.rank
+                (subst (λ r. IsSibling stands baskets (r ∷ taken) both) (sym named) (c.in_ok-frequent.ensures.row w.if-frequent.true baskets taken pair)) (sym frequent ∙ w.if-frequent.true))
+            | else-frequent w ↦
                 subst (λ l. AreKept stands base.least rank (take (i + 1) others) l baskets taken) (sym (ap (λ n. take n (slice_set list k both)) w.kept-is ∙ same))
-                (dropped_more stands base.least rank others below baskets taken i other here at before (omega (arith, support, w.if-support-self.false)))
+                (dropped_more stands base.least rank others below baskets taken i other here at before (sym frequent ∙ w.if-frequent.false))
           ];
     }
 
