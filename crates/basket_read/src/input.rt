@@ -54,7 +54,7 @@ impl Input {
         Input {
             front: Front::Empty,
             taken: 0,
-            text: Text::new(alloc),
+            text: Text::new(alloc, 0),
         }
     }
 
@@ -160,7 +160,7 @@ impl Input {
         if piece.len() > (MAX_BYTES - self.taken) as usize {
             return self.take(piece, counting);
         }
-        let empty = Text::new(self.text.alloc());
+        let empty = Text::new(self.text.alloc(), 0);
         let before = mem::replace(&mut self.text, empty);
         let text = feed_shared(rt, before, piece, workers, counting)?;
         self.text = text;

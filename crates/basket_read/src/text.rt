@@ -16,6 +16,9 @@ use crate::line::Line;
 use basket_sets::{Database, ItemTable, Itemset};
 use std::alloc::{AllocError, Global};
 
+/// About how many bytes a number and a blank have.
+const BYTES_OF_A_NUMBER: usize = 8;
+
 /// What has been read of a text: how many lines have ended, their baskets, and the line after them.
 #[derive(Debug, Drop)]
 pub struct Text {
@@ -33,14 +36,15 @@ pub struct Text {
 }
 
 impl Text {
-    pub fn new(alloc: Global) -> Self
+    /// A text of which nothing has been read, and of which this many bytes will come at least.
+    pub fn new(alloc: Global, bytes: usize) -> Self
         ensures { IsTextSoFar result [] [] }
     {
         Text {
             alloc,
             lines: 0,
             baskets: Database::new(alloc),
-            table: ItemTable::new(alloc),
+            table: ItemTable::expecting(alloc, bytes / BYTES_OF_A_NUMBER),
             refused: 0,
             heavy: false,
             line: Line::new(alloc),
@@ -178,7 +182,7 @@ impl Text {
         } = other;
         self.add_baskets(&table, baskets, heavy)?;
         self.lines += lines;
-        self.line = line;
+        self.line.copy_from(&line)?;
         Ok(())
     }
 

@@ -22,6 +22,8 @@ pub struct ItemTable {
     total: u64,
     /// How many items they have together, or `usize::MAX` if they have more.
     occurrences: usize,
+    /// The table may have this many slots, however few items they have.
+    least: usize,
 }
 
 impl Model for ItemTable {
@@ -39,10 +41,18 @@ impl ItemTable {
     pub fn new(alloc: Global) -> Self
         ensures { HasCounted result [] }
     {
+        ItemTable::expecting(alloc, 0)
+    }
+
+    /// No baskets have come, but some that have about this many items together will come.
+    pub fn expecting(alloc: Global, occurrences: usize) -> Self
+        ensures { HasCounted result [] }
+    {
         ItemTable {
             slots: Vec::new(alloc),
             total: 0,
             occurrences: 0,
+            least: occurrences.max(SMALL_TABLE),
         }
     }
 
@@ -62,7 +72,7 @@ impl ItemTable {
     {
         let greatest = greatest_item(baskets) as usize;
         let occurrences = self.occurrences.saturating_add(occurrences(baskets));
-        if greatest >= SMALL_TABLE && greatest >= occurrences {
+        if greatest >= self.least && greatest >= occurrences {
             return Ok(false);
         }
         self.reach(greatest + 1)?;
