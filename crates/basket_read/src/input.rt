@@ -84,7 +84,7 @@ impl Input {
                 if byte == MARK[0] {
                     self.front = Front::OneByte;
                 } else {
-                    self.text.feed(&[byte])?;
+                    self.text.feed(&[byte], false)?;
                     self.front = Front::Decided;
                 }
                 self.taken = 1;
@@ -117,7 +117,7 @@ impl Input {
     {
         let room = (MAX_BYTES - self.taken) as usize;
         if piece.len() > room {
-            self.text.feed(&piece[..room])?;
+            self.text.feed(&piece[..room], false)?;
             return Err(ReadFault::TooLong);
         }
         feed_part(&mut self.text, piece, counting)?;

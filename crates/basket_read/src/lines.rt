@@ -91,7 +91,7 @@ pub fn feed_part(text: &mut Text, piece: &[u8], counting: bool) -> Result<(), Re
     let mut taken = 0;
     while taken < piece.len() {
         let end = piece.len().min(taken + LEAST);
-        text.feed(&piece[taken..end])?;
+        text.feed(&piece[taken..end], counting)?;
         text.count(counting)?;
         taken = end;
     }

@@ -5,10 +5,10 @@ ghost use Rattle.basket_sets.specs.Database.{MOST_BASKETS};
 ghost use Rattle.basket_sets.specs.ItemTable.{HasCounted};
 ghost use Rattle.basket_sets.specs.Support.{total_of};
 ghost use Rattle.basket_read.specs.Cut.{cut_at};
-ghost use Rattle.basket_read.specs.Fimi.{is_line_feed, first_fault, basket_of_numbers, baskets_of, if_light, MOST_BYTES};
+ghost use Rattle.basket_read.specs.Fimi.{is_line_feed, first_fault, baskets_of, if_light, MOST_BYTES};
 ghost use Rattle.basket_sets.specs.Number.{is_digit};
 ghost use Rattle.basket_read.specs.Line.{line_state, line_at, line_ended};
-ghost use Rattle.basket_read.specs.Text.{CountsBehind, GoesOn, HasBaskets, HasJoined, HasRoom, HasRoomFor, IsTextSoFar, Tells};
+ghost use Rattle.basket_read.specs.Text.{basket_said, CountsBehind, GoesOn, HasAlso, HasBaskets, HasJoined, HasRoom, HasRoomFor, IsTextSoFar, Tells};
 
 use crate::fault::ReadFault;
 use crate::item_counts::ItemCounts;
@@ -51,17 +51,17 @@ impl Text {
         }
     }
 
-    /// Takes more of the text, up to its first fault.
-    pub fn feed(&mut self, piece: &[u8]) -> Result<(), ReadFault>
+    /// Takes more of the text, up to its first fault, and may count baskets of its lines at once.
+    pub fn feed(&mut self, piece: &[u8], counting: bool) -> Result<(), ReadFault>
         requires { HasRoom self.old (length piece.now) }
         ensures { (past : List Weighted) (bytes : List ℕ) → IsTextSoFar self.old past bytes →
-            MatchResult result (λ _. IsTextSoFar self.new past (bytes ++ piece.now)) (λ fault. Tells fault (first_fault (bytes ++ piece.now))) }
+            MatchResult result (λ _. GoesOn counting past (λ now. IsTextSoFar self.new now (bytes ++ piece.now))) (λ fault. Tells fault (first_fault (bytes ++ piece.now))) }
     {
         let mut taken = 0;
         loop {
             taken += self.take_run(&piece[taken..])?;
             match piece.get(taken) {
-                Some(byte) => self.take(*byte)?,
+                Some(byte) => self.take(*byte, counting)?,
                 None => return Ok(()),
             }
             taken += 1;
@@ -85,13 +85,13 @@ impl Text {
 
     /// Takes a byte.
     #[inline(always)]
-    fn take(&mut self, byte: u8) -> Result<(), ReadFault>
+    fn take(&mut self, byte: u8, counting: bool) -> Result<(), ReadFault>
         requires { HasRoom self.old 1 }
         ensures { (past : List Weighted) (bytes : List ℕ) → IsTextSoFar self.old past bytes →
-            MatchResult result (λ _. IsTextSoFar self.new past (bytes ++ byte ∷ [])) (λ fault. Tells fault (first_fault (bytes ++ byte ∷ []))) }
+            MatchResult result (λ _. GoesOn counting past (λ now. IsTextSoFar self.new now (bytes ++ byte ∷ []))) (λ fault. Tells fault (first_fault (bytes ++ byte ∷ []))) }
     {
         if byte == b'\n' {
-            self.end_line()?;
+            self.end_line(counting)?;
             self.lines += 1;
             return Ok(());
         }
@@ -114,19 +114,56 @@ impl Text {
         }
     }
 
-    /// Adds the line's basket, if it has a number, and begins a new line.
+    /// Counts or adds the line's basket, if it has a number, and begins a new line.
     #[inline]
-    fn end_line(&mut self) -> Result<(), ReadFault>
+    fn end_line(&mut self, counting: bool) -> Result<(), ReadFault>
         requires { self.old.heavy ≡ false → length self.old.baskets < MOST_BASKETS }
         ensures line { OnOk result (line_state self.new.line ≡ line_at []) }
         ensures lines { self.new.lines ≡ self.old.lines }
-        ensures table { self.new.table ≡ self.old.table }
-        ensures baskets { (past baskets : List Weighted) → self.old.table.total ≡ total_of past → HasBaskets self.old.heavy (past ++ self.old.baskets) baskets →
-            let line = line_ended (line_state self.old.line) in
-            OnOk result (HasBaskets self.new.heavy (past ++ self.new.baskets) (baskets ++ basket_of_numbers line.numbers.ended (unwrap_or line.weight 1))) }
+        ensures baskets { (past baskets : List Weighted) → HasCounted self.old.table past → HasBaskets self.old.heavy (past ++ self.old.baskets) baskets →
+            OnOk result (GoesOn counting past (HasAlso self.new (baskets ++ basket_said (line_ended (line_state self.old.line))))) }
         ensures err { IfErr result (λ fault. fault ≡ ReadFault.Memory) }
     {
         self.line.end()?;
+        if self.count_line(counting) {
+            self.line.clear();
+            return Ok(());
+        }
+        self.keep_line()?;
+        self.line.clear();
+        Ok(())
+    }
+
+    /// Counts the basket of the line that has ended, if it is to be counted, no baskets are kept, all
+    /// together don't weigh too much, its numbers rise and the table has a slot for each of them.
+    /// Returns whether it was counted.
+    #[inline]
+    fn count_line(&mut self, counting: bool) -> bool
+        ensures lines { self.new.lines ≡ self.old.lines }
+        ensures line { self.new.line ≡ self.old.line }
+        ensures counted { IsTrue result → (past baskets : List Weighted) → HasCounted self.old.table past → HasBaskets self.old.heavy (past ++ self.old.baskets) baskets →
+            GoesOn counting past (HasAlso self.new (baskets ++ basket_said (line_state self.old.line))) }
+        ensures left { result ≡ false → self.new ≡ self.old }
+    {
+        let weight = u64::from(self.line.weight());
+        let room = Database::MAX_WEIGHT.saturating_sub(self.table.total());
+        if !counting || self.heavy || !self.baskets.is_empty() || weight > room {
+            return false;
+        }
+        self.table.add_rising(self.line.numbers(), weight)
+    }
+
+    /// Adds the basket of the line that has ended, if it has a number.
+    #[inline]
+    fn keep_line(&mut self) -> Result<(), ReadFault>
+        requires { self.old.heavy ≡ false → length self.old.baskets < MOST_BASKETS }
+        ensures line { self.new.line ≡ self.old.line }
+        ensures lines { self.new.lines ≡ self.old.lines }
+        ensures table { self.new.table ≡ self.old.table }
+        ensures baskets { (past baskets : List Weighted) → self.old.table.total ≡ total_of past → HasBaskets self.old.heavy (past ++ self.old.baskets) baskets →
+            OnOk result (HasBaskets self.new.heavy (past ++ self.new.baskets) (baskets ++ basket_said (line_state self.old.line))) }
+        ensures err { IfErr result (λ fault. fault ≡ ReadFault.Memory) }
+    {
         let numbers = self.line.numbers();
         if !numbers.is_empty() {
             let weight = u64::from(self.line.weight());
@@ -141,7 +178,6 @@ impl Text {
                 }
             }
         }
-        self.line.clear();
         Ok(())
     }
 
@@ -233,7 +269,7 @@ impl Text {
         requires { HasRoom self 0 }
         ensures { (past : List Weighted) (bytes : List ℕ) → IsTextSoFar self past bytes → CountsBehind past result (if_light (baskets_of bytes)) }
     {
-        self.end_line()?;
+        self.end_line(false)?;
         if self.heavy {
             return Err(ReadFault::Heavy);
         }
