@@ -1,32 +1,29 @@
 -- How a text goes on with one more byte, and what its first fault is.
-use Rattle.std.proofs.Common.{◌≡◌, ℕ, ◌+◌, ◌<◌, Bool, true, false, List, [], ◌∷◌, ◌++◌, length, cond, Some, Result, Ok, Err, refl, sym, ap, ◌∙◌, subst, append_assoc, take, drop, get_or}
+use Rattle.std.proofs.Common.{◌≡◌, ◌≢◌, ◌≤◌, arith, ℕ, ◌+◌, ◌<◌, Bool, true, false, List, [], ◌∷◌, ◌++◌, length, cond, Some, Result, Ok, Err, refl, sym, ap, ◌∙◌, subst, append_assoc, take, drop, get_or}
 use Rattle.std.specs.List.{flat_map, list_all}
-use Rattle.std.specs.Prelude.{IfOk, MatchResult, unwrap_or}
-use Rattle.std.proofs.lemmas.Bool.{and_from, le-leb}
+use Rattle.std.specs.Prelude.{IfOk, MatchResult}
+use Rattle.std.proofs.lemmas.Bool.{and_from, le-leb, lt-leb}
 use Rattle.std.proofs.lemmas.List.{append-nil, length-append, take_more, take-append-drop}
 use Rattle.std.proofs.lemmas.Grind.{flat_map-append}
+use Rattle.std.proofs.lemmas.List.Sums.{sum_by-append}
 use Rattle.basket_sets.specs.declared.weighted.Weighted.{Weighted}
+use Rattle.basket_sets.specs.Itemset.{rising}
 use Rattle.basket_sets.specs.Number.{is_digit}
 use Rattle.basket_sets.proofs.theory.Numerals.{all_push}
-use Rattle.basket_sets.specs.Database.{MOST_WEIGHT}
-use Rattle.basket_sets.specs.ItemTable.{HasCounted}
-use Rattle.basket_sets.specs.Support.{total_of}
+use Rattle.basket_sets.specs.Database.{weighted, MOST_WEIGHT}
+use Rattle.basket_sets.specs.Support.{total_of, weight_at}
 use Rattle.basket_read.specs.declared.fault.ReadFault.{ReadFault}
 use Rattle.basket_read.specs.declared.fault.ReadFault.TheVariants.{Byte, Number, Heavy}
 use Rattle.basket_read.specs.declared.line.Line.{Line}
 use Rattle.basket_read.specs.declared.text.Text.{Text}
 use Rattle.basket_read.specs.Cut.{Cut, cut_at}
 use Rattle.basket_read.specs.Fimi.{is_line_feed, is_line, basket_of, basket_of_numbers, baskets_of, fault_at, first_fault, if_light}
-use Rattle.basket_read.specs.Line.{LineState, line_state, line_at, line_ended, IsLineSoFar}
-use Rattle.basket_read.specs.Text.{GoesOn, HasBaskets, IsTextSoFar, Tells}
+use Rattle.basket_read.specs.Line.{line_state, line_at, line_ended, IsLineSoFar}
+use Rattle.basket_read.specs.Text.{basket_said, GoesOn, HasAlso, HasBaskets, IsTextSoFar, Tells}
 use Rattle.basket_read.proofs.theory.Cuts.{cut_ended, cut_on}
 use Rattle.basket_read.proofs.LineLemmas.{line_numbers, line_weight}
 use Rattle.basket_read.proofs.GrammarLemmas.{line_front, no_line_feed, good_is_faultless}
 use Rattle.basket_read.proofs.theory.Grammar as grammar
-
--- what a line says where it ends
-abbrev basket_said : LineState → List Weighted
-basket_said line = basket_of_numbers (line_ended line).numbers.ended (unwrap_or line.weight 1)
 
 module _ (text : Text) (past : List Weighted) (bytes : List ℕ) (t : IsTextSoFar text past bytes) where
   -- the text with another last line
@@ -61,9 +58,9 @@ module _ (text : Text) (past : List Weighted) (bytes : List ℕ) (t : IsTextSoFa
       grammar.fault_here is_line fault_at refl bytes t.faultless byte false e bad ∙ ap (λ n. Some (cond (is_digit byte) (Number (n + 1)) (Byte (n + 1) byte))) (sym t.lines)
 
   -- what the last line adds
-  pub its_basket : basket_said (line_state text.line) ≡ basket_of last
+  pub its_basket : basket_said (line_ended (line_state text.line)) ≡ basket_of last
   its_basket =
-      ap basket_said t.line
+      ap (λ line. basket_said (line_ended line)) t.line
       ∙ (λ i. basket_of_numbers (line_numbers last i) (line_weight last i))
 
   -- the baskets of the lines that have ended, and that of the last line
@@ -71,36 +68,50 @@ module _ (text : Text) (past : List Weighted) (bytes : List ℕ) (t : IsTextSoFa
   all_baskets =
       sym (flat_map-append basket_of (cut_at is_line_feed bytes).ended (last ∷ []) ∙ ap (λ l. flat_map basket_of (cut_at is_line_feed bytes).ended ++ l) (append-nil (basket_of last)))
 
-  pub takes_line_feed : (new : Text) (byte : ℕ) → is_line_feed byte ≡ true → line_state new.line ≡ line_at [] → new.lines ≡ text.lines + 1
-      → ((baskets : List Weighted) → HasBaskets text.heavy (past ++ text.baskets) baskets
-      → HasBaskets new.heavy (past ++ new.baskets) (baskets ++ basket_said (line_state text.line)))
-      → new.table ≡ text.table → IsTextSoFar new past (bytes ++ byte ∷ [])
-  takes_line_feed new byte e is lines more same =
+  pub takes_line_feed : (new : Text) (now : List Weighted) (byte : ℕ) → is_line_feed byte ≡ true → line_state new.line ≡ line_at [] → new.lines ≡ text.lines + 1
+      → HasAlso new (flat_map basket_of (cut_at is_line_feed bytes).ended ++ basket_said (line_ended (line_state text.line))) now → IsTextSoFar new now (bytes ++ byte ∷ [])
+  takes_line_feed new now byte e is lines has =
       let ended = cut_ended is_line_feed bytes byte e in
       record {
         faultless = grammar.line_feed_here is_line fault_at refl bytes t.faultless byte e;
         lines = lines ∙ ap (λ n. n + 1) t.lines ∙ sym (length-append (cut_at is_line_feed bytes).ended (last ∷ [])) ∙ ap (λ (k : Cut). length k.ended) (sym ended);
-        baskets = subst (HasBaskets new.heavy (past ++ new.baskets))
+        baskets = subst (HasBaskets new.heavy (now ++ new.baskets))
             (ap (λ l. flat_map basket_of (cut_at is_line_feed bytes).ended ++ l) its_basket ∙ all_baskets ∙ ap (λ (k : Cut). flat_map basket_of k.ended) (sym ended))
-            (more (flat_map basket_of (cut_at is_line_feed bytes).ended) t.baskets);
-        counted = subst (λ table. HasCounted table past) (sym same) t.counted;
+            has.1;
+        counted = has.0;
         line = is ∙ ap (λ (k : Cut). line_at k.last) (sym ended);
       }
 
   -- once the last line has ended, the baskets are those of the whole text
-  pub has_all : (new : Text)
-      → ((baskets : List Weighted) → HasBaskets text.heavy (past ++ text.baskets) baskets
-      → HasBaskets new.heavy (past ++ new.baskets) (baskets ++ basket_said (line_state text.line)))
-      → HasBaskets new.heavy (past ++ new.baskets) (baskets_of bytes)
-  has_all new more =
-      subst (HasBaskets new.heavy (past ++ new.baskets)) (ap (λ l. flat_map basket_of (cut_at is_line_feed bytes).ended ++ l) its_basket ∙ all_baskets)
-      (more (flat_map basket_of (cut_at is_line_feed bytes).ended) t.baskets)
+  pub has_all : (new : Text) (now : List Weighted) → HasAlso new (flat_map basket_of (cut_at is_line_feed bytes).ended ++ basket_said (line_ended (line_state text.line))) now
+      → HasAlso new (baskets_of bytes) now
+  has_all new now has =
+      (has.0, subst (HasBaskets new.heavy (now ++ new.baskets)) (ap (λ l. flat_map basket_of (cut_at is_line_feed bytes).ended ++ l) its_basket ∙ all_baskets) has.1)
 
 -- the answer of baskets that are light, and of those that are not
 pub light_answer : (heavy : Bool) (database baskets : List Weighted) → heavy ≡ false → HasBaskets heavy database baskets → if_light baskets ≡ Ok database
 light_answer false database baskets e h =
     ap (λ b. cond b (Ok baskets) (Err Heavy)) (le-leb (total_of baskets) MOST_WEIGHT h.1) ∙ ap Ok (sym h.0)
 light_answer true database baskets e h = absurd cc
+
+pub heavy_answer : (heavy : Bool) (database baskets : List Weighted) → heavy ≡ true → HasBaskets heavy database baskets → if_light baskets ≡ Err Heavy
+heavy_answer false database baskets e h = absurd cc
+heavy_answer true database baskets e h = ap (λ b. cond b (Ok baskets) (Err Heavy)) (lt-leb (total_of baskets) MOST_WEIGHT h)
+
+-- a basket is counted at once, behind baskets that were
+pub counted_line : (heavy : Bool) (past kept baskets basket : List Weighted) → heavy ≡ false → kept ≡ [] → HasBaskets heavy (past ++ kept) baskets
+    → total_of past + total_of basket ≤ MOST_WEIGHT → HasBaskets heavy ((past ++ basket) ++ kept) (baskets ++ basket)
+counted_line true past kept baskets basket e none h light = absurd cc
+counted_line false past kept baskets basket e none h light =
+    let same : past ≡ baskets = sym (append-nil past) ∙ ap (λ l. past ++ l) (sym none) ∙ h.0 in (
+      ap (λ l. (past ++ basket) ++ l) none ∙ append-nil (past ++ basket) ∙ ap (λ l. l ++ basket) same,
+      let sum = sum_by-append (weight_at []) baskets basket in let whole = ap total_of same in omega arith,
+    )
+
+-- the basket of some numbers
+pub said_some : (numbers : List ℕ) (weight : ℕ) → numbers ≢ [] → basket_of_numbers numbers weight ≡ weighted (rising numbers) weight ∷ []
+said_some [] weight some = absurd (some refl)
+said_some (number ∷ numbers) weight some = refl
 
 -- a piece in two parts, behind what was before it
 pub take_rest : (bytes piece : List ℕ) (i : ℕ) → (bytes ++ take i piece) ++ drop i piece ≡ bytes ++ piece

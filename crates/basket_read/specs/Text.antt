@@ -1,5 +1,5 @@
 -- What a text that is being read stands for.
-use Rattle.std.specs.Prelude.{◌≡◌, ◌≢◌, ◌<◌, ◌≤◌, ◌+◌, ℕ, Bool, true, false, List, [], ◌++◌, length, Option, Some, None, Result, Ok, Err}
+use Rattle.std.specs.Prelude.{◌≡◌, ◌≢◌, ◌<◌, ◌≤◌, ◌+◌, ℕ, Bool, true, false, List, [], ◌++◌, length, Option, Some, None, Result, Ok, Err, unwrap_or}
 use Rattle.std.specs.List.{flat_map}
 use Rattle.basket_sets.specs.declared.weighted.Weighted.{Weighted}
 use Rattle.basket_sets.specs.Support.{total_of}
@@ -10,8 +10,8 @@ use Rattle.basket_read.specs.declared.fault.ReadFault.TheVariants.{Memory}
 use Rattle.basket_read.specs.declared.item_counts.ItemCounts.{ItemCounts}
 use Rattle.basket_read.specs.declared.text.Text.{Text}
 use Rattle.basket_read.specs.Cut.{cut_at}
-use Rattle.basket_read.specs.Fimi.{is_line_feed, basket_of, first_fault, MOST_BYTES}
-use Rattle.basket_read.specs.Line.{line_state, line_at}
+use Rattle.basket_read.specs.Fimi.{is_line_feed, basket_of, basket_of_numbers, first_fault, MOST_BYTES}
+use Rattle.basket_read.specs.Line.{LineState, line_state, line_at}
 
 -- a database has the baskets, which don't weigh too much, or they are known to weigh too much
 abbrev pub HasBaskets : Bool → List Weighted → List Weighted → Type 0
@@ -40,6 +40,14 @@ HasRoomFor text other =
 abbrev pub HasJoined : List Weighted → List Weighted → Tabled → Bool → List Weighted → List Weighted → Type 0
 HasJoined past behind table heavy kept baskets =
     (now : List Weighted) × (behind ≡ [] → now ≡ past) × HasCounted table now × HasBaskets heavy (now ++ kept) baskets
+
+-- the text has these baskets, of which those that are past were counted
+abbrev pub HasAlso : Text → List Weighted → List Weighted → Type 0
+HasAlso text baskets past = HasCounted text.table past × HasBaskets text.heavy (past ++ text.baskets) baskets
+
+-- what a line says that has ended
+abbrev pub basket_said : LineState → List Weighted
+basket_said line = basket_of_numbers line.numbers.ended (unwrap_or line.weight 1)
 
 -- what is past goes on from what was past: more of it only where baskets are counted
 abbrev pub GoesOn : Bool → List Weighted → (List Weighted → Type 0) → Type 0

@@ -54,7 +54,7 @@ impl Input {
         Input {
             front: Front::Empty,
             taken: 0,
-            text: Text::new(alloc),
+            text: Text::new(alloc, 0),
         }
     }
 
@@ -84,7 +84,7 @@ impl Input {
                 if byte == MARK[0] {
                     self.front = Front::OneByte;
                 } else {
-                    self.text.feed(&[byte])?;
+                    self.text.feed(&[byte], false)?;
                     self.front = Front::Decided;
                 }
                 self.taken = 1;
@@ -117,7 +117,7 @@ impl Input {
     {
         let room = (MAX_BYTES - self.taken) as usize;
         if piece.len() > room {
-            self.text.feed(&piece[..room])?;
+            self.text.feed(&piece[..room], false)?;
             return Err(ReadFault::TooLong);
         }
         feed_part(&mut self.text, piece, counting)?;
@@ -160,7 +160,7 @@ impl Input {
         if piece.len() > (MAX_BYTES - self.taken) as usize {
             return self.take(piece, counting);
         }
-        let empty = Text::new(self.text.alloc());
+        let empty = Text::new(self.text.alloc(), 0);
         let before = mem::replace(&mut self.text, empty);
         let text = feed_shared(rt, before, piece, workers, counting)?;
         self.text = text;

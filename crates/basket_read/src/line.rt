@@ -88,6 +88,16 @@ impl Line {
         self.weight.unwrap_or(1)
     }
 
+    /// Makes the line the same as another. The numbers stay in the memory of this line, so that no
+    /// other thread has memory beside them.
+    pub fn copy_from(&mut self, other: &Line) -> Result<(), AllocError>
+        ensures { OnOk result (line_state self.new ≡ line_state other.now) }
+    {
+        self.numbers.copy_from(&other.numbers)?;
+        self.weight = other.weight;
+        Ok(())
+    }
+
     /// Begins a new line.
     pub fn clear(&mut self)
         ensures { line_state self.new ≡ line_at [] }

@@ -71,7 +71,7 @@ fn feed_halves<R: Threads + Sync>(
         || -> Result<Text, ReadFault>
             requires { IsSync R.row × (length rest.now ≤ MOST_BYTES) }
             ensures { IfOk result (λ read. GoesOn counting [] (λ now. IsTextSoFar read now rest.entry.now)) }
-        { feed_shared(rt, Text::new(alloc), rest, others, counting) },
+        { feed_shared(rt, Text::new(alloc, rest.len()), rest, others, counting) },
         || -> Result<Text, ReadFault>
             requires { IsSync R.row × HasRoom text (length front.now) }
             ensures { (past : List Weighted) (bytes : List ℕ) → IsTextSoFar text past bytes →
@@ -91,7 +91,7 @@ pub fn feed_part(text: &mut Text, piece: &[u8], counting: bool) -> Result<(), Re
     let mut taken = 0;
     while taken < piece.len() {
         let end = piece.len().min(taken + LEAST);
-        text.feed(&piece[taken..end])?;
+        text.feed(&piece[taken..end], counting)?;
         text.count(counting)?;
         taken = end;
     }

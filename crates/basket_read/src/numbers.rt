@@ -136,6 +136,16 @@ impl Numbers {
         }
     }
 
+    /// Makes the numbers the same as others.
+    pub fn copy_from(&mut self, other: &Numbers) -> Result<(), AllocError>
+        ensures { OnOk result (numbers_state self.new ≡ numbers_state other.now) }
+    {
+        self.ended.clear();
+        self.ended.extend_from_slice(&other.ended)?;
+        self.begun = other.begun;
+        Ok(())
+    }
+
     /// Begins anew.
     #[inline(always)]
     pub fn clear(&mut self)

@@ -1,20 +1,24 @@
 //! A text of which not all has been read.
-ghost use Rattle.std.specs.Prelude.{◌≡◌, ◌≢◌, ◌<◌, ◌≤◌, ◌+◌, ◌⊎◌, ℕ, List, [], ◌∷◌, ◌++◌, length, take, false, if◌then◌else◌, unwrap_or, OnOk, IfOk, IfErr, IsTrue, MatchResult};
+ghost use Rattle.std.specs.Prelude.{◌≡◌, ◌≢◌, ◌<◌, ◌≤◌, ◌+◌, ◌⊎◌, ℕ, List, [], ◌∷◌, ◌++◌, length, take, false, if◌then◌else◌, OnOk, IfOk, IfErr, IsTrue, MatchResult};
 ghost use Rattle.basket_sets.specs.declared.weighted.Weighted.{Weighted};
 ghost use Rattle.basket_sets.specs.Database.{MOST_BASKETS};
 ghost use Rattle.basket_sets.specs.ItemTable.{HasCounted};
-ghost use Rattle.basket_sets.specs.Support.{total_of};
 ghost use Rattle.basket_read.specs.Cut.{cut_at};
-ghost use Rattle.basket_read.specs.Fimi.{is_line_feed, first_fault, basket_of_numbers, baskets_of, if_light, MOST_BYTES};
+ghost use Rattle.basket_read.specs.Fimi.{is_line_feed, first_fault, baskets_of, if_light, MOST_BYTES};
 ghost use Rattle.basket_sets.specs.Number.{is_digit};
-ghost use Rattle.basket_read.specs.Line.{line_state, line_at, line_ended};
+ghost use Rattle.basket_read.specs.Line.{line_state, line_at};
 ghost use Rattle.basket_read.specs.Text.{CountsBehind, GoesOn, HasBaskets, HasJoined, HasRoom, HasRoomFor, IsTextSoFar, Tells};
+
+mod line_end;
 
 use crate::fault::ReadFault;
 use crate::item_counts::ItemCounts;
 use crate::line::Line;
-use basket_sets::{Database, ItemTable, Itemset};
+use basket_sets::{Database, ItemTable};
 use std::alloc::{AllocError, Global};
+
+/// About how many bytes a number and a blank have.
+const BYTES_OF_A_NUMBER: usize = 8;
 
 /// What has been read of a text: how many lines have ended, their baskets, and the line after them.
 #[derive(Debug, Drop)]
@@ -33,31 +37,32 @@ pub struct Text {
 }
 
 impl Text {
-    pub fn new(alloc: Global) -> Self
+    /// A text of which nothing has been read, and of which this many bytes will come at least.
+    pub fn new(alloc: Global, bytes: usize) -> Self
         ensures { IsTextSoFar result [] [] }
     {
         Text {
             alloc,
             lines: 0,
             baskets: Database::new(alloc),
-            table: ItemTable::new(alloc),
+            table: ItemTable::expecting(alloc, bytes / BYTES_OF_A_NUMBER),
             refused: 0,
             heavy: false,
             line: Line::new(alloc),
         }
     }
 
-    /// Takes more of the text, up to its first fault.
-    pub fn feed(&mut self, piece: &[u8]) -> Result<(), ReadFault>
+    /// Takes more of the text, up to its first fault, and may count baskets of its lines at once.
+    pub fn feed(&mut self, piece: &[u8], counting: bool) -> Result<(), ReadFault>
         requires { HasRoom self.old (length piece.now) }
         ensures { (past : List Weighted) (bytes : List ℕ) → IsTextSoFar self.old past bytes →
-            MatchResult result (λ _. IsTextSoFar self.new past (bytes ++ piece.now)) (λ fault. Tells fault (first_fault (bytes ++ piece.now))) }
+            MatchResult result (λ _. GoesOn counting past (λ now. IsTextSoFar self.new now (bytes ++ piece.now))) (λ fault. Tells fault (first_fault (bytes ++ piece.now))) }
     {
         let mut taken = 0;
         loop {
             taken += self.take_run(&piece[taken..])?;
             match piece.get(taken) {
-                Some(byte) => self.take(*byte)?,
+                Some(byte) => self.take(*byte, counting)?,
                 None => return Ok(()),
             }
             taken += 1;
@@ -81,13 +86,13 @@ impl Text {
 
     /// Takes a byte.
     #[inline(always)]
-    fn take(&mut self, byte: u8) -> Result<(), ReadFault>
+    fn take(&mut self, byte: u8, counting: bool) -> Result<(), ReadFault>
         requires { HasRoom self.old 1 }
         ensures { (past : List Weighted) (bytes : List ℕ) → IsTextSoFar self.old past bytes →
-            MatchResult result (λ _. IsTextSoFar self.new past (bytes ++ byte ∷ [])) (λ fault. Tells fault (first_fault (bytes ++ byte ∷ []))) }
+            MatchResult result (λ _. GoesOn counting past (λ now. IsTextSoFar self.new now (bytes ++ byte ∷ []))) (λ fault. Tells fault (first_fault (bytes ++ byte ∷ []))) }
     {
         if byte == b'\n' {
-            self.end_line()?;
+            self.end_line(counting)?;
             self.lines += 1;
             return Ok(());
         }
@@ -108,37 +113,6 @@ impl Text {
         } else {
             ReadFault::Byte { line, byte }
         }
-    }
-
-    /// Adds the line's basket, if it has a number, and begins a new line.
-    #[inline]
-    fn end_line(&mut self) -> Result<(), ReadFault>
-        requires { self.old.heavy ≡ false → length self.old.baskets < MOST_BASKETS }
-        ensures line { OnOk result (line_state self.new.line ≡ line_at []) }
-        ensures lines { self.new.lines ≡ self.old.lines }
-        ensures table { self.new.table ≡ self.old.table }
-        ensures baskets { (past baskets : List Weighted) → self.old.table.total ≡ total_of past → HasBaskets self.old.heavy (past ++ self.old.baskets) baskets →
-            let line = line_ended (line_state self.old.line) in
-            OnOk result (HasBaskets self.new.heavy (past ++ self.new.baskets) (baskets ++ basket_of_numbers line.numbers.ended (unwrap_or line.weight 1))) }
-        ensures err { IfErr result (λ fault. fault ≡ ReadFault.Memory) }
-    {
-        self.line.end()?;
-        let numbers = self.line.numbers();
-        if !numbers.is_empty() {
-            let weight = u64::from(self.line.weight());
-            let room = Database::MAX_WEIGHT.saturating_sub(self.table.total());
-            if weight > room.saturating_sub(self.baskets.total()) {
-                self.heavy = true;
-            }
-            if !self.heavy {
-                let basket = Itemset::from_items(self.alloc, numbers)?;
-                if self.baskets.push(basket, weight).is_err() {
-                    return Err(ReadFault::Memory);
-                }
-            }
-        }
-        self.line.clear();
-        Ok(())
     }
 
     /// What the text allocates with.
@@ -178,7 +152,7 @@ impl Text {
         } = other;
         self.add_baskets(&table, baskets, heavy)?;
         self.lines += lines;
-        self.line = line;
+        self.line.copy_from(&line)?;
         Ok(())
     }
 
@@ -229,7 +203,7 @@ impl Text {
         requires { HasRoom self 0 }
         ensures { (past : List Weighted) (bytes : List ℕ) → IsTextSoFar self past bytes → CountsBehind past result (if_light (baskets_of bytes)) }
     {
-        self.end_line()?;
+        self.end_line(false)?;
         if self.heavy {
             return Err(ReadFault::Heavy);
         }

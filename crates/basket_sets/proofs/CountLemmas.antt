@@ -130,6 +130,23 @@ table_push before place old table long added so_far item within =
     at true slot = refl
     at false slot = refl
 
+-- the table behind one more basket
+pub counted_push : (before : List Weighted) (place : Weighted) (old : Tabled) (slots : List (Option ℕ)) (total : ℕ) → HasCounted old before → AllBelow (length old.slots) place.basket
+    → length slots ≡ length old.slots → total ≡ old.total + place.weight → HasAdded old.slots place.weight place.basket slots
+    → HasCounted (record { slots = slots; total = total }) (before ++ place ∷ [])
+counted_push before place old slots total counted below long sum added = record {
+  slots = table_push before place old.slots slots long added counted.slots;
+  within = λ item h. elim (or_cases (has (all_items before) item) (has place.basket item) (sym (items item) ∙ h)) [
+    | inl e ↦ (let k = counted.within item e in omega arith)
+    | inr e ↦ (let k = below item e in omega arith)
+  ];
+  total = let both = support-append before (place ∷ []) [] in omega (arith, counted.total);
+}
+  where
+    items : (item : ℕ) → has (all_items (before ++ place ∷ [])) item ≡ (has (all_items before) item || has place.basket item)
+    items item =
+        ap (λ l. has l item) (flat_map-append (λ p. p.basket) before (place ∷ []) ∙ ap (λ l. all_items before ++ l) (append-nil place.basket)) ∙ has-append (all_items before) place.basket item
+
 -- the tables of two lists of baskets, put together
 pub counted_both : (before more : List Weighted) (a b : Tabled) (slots : List (Option ℕ)) (total : ℕ) → HasCounted a before → HasCounted b more
     → length b.slots ≤ length slots → length slots ≡ length a.slots → total ≡ a.total + b.total

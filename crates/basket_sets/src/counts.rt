@@ -73,22 +73,23 @@ pub fn add_places(table: &mut [Slot], baskets: &[Weighted])
     ensures bounded { (item : ℕ) → unwrap_or (slice_index_or table.new item None) 0 ≤ unwrap_or (slice_index_or table.old item None) 0 + total_of baskets.now }
 {
     for place in baskets {
-        add_to_table(table, place);
+        add_to_table(table, place.basket.items(), place.weight);
     }
 }
 
-/// Adds the weight of a place at each of its items.
-fn add_to_table(table: &mut [Slot], place: &Weighted)
-    requires within { AllBelow (length table.old) place.now.basket }
-    requires fits { (item : ℕ) → IsTrue (has place.now.basket item)
-        → unwrap_or (slice_index_or table.old item None) 0 + place.now.weight + 1 < 2 ^ 64 }
+/// Adds a weight at each of some items.
+pub fn add_to_table(table: &mut [Slot], items: &[u32], weight: u64)
+    requires rising { IsRising items.now }
+    requires within { AllBelow (length table.old) items.now }
+    requires fits { (item : ℕ) → IsTrue (has items.now item)
+        → unwrap_or (slice_index_or table.old item None) 0 + weight + 1 < 2 ^ 64 }
     ensures { (item : ℕ) → slice_index_or table.new item None
-        ≡ (if has place.now.basket item
-        then slot_with place.now.weight (slice_index_or table.old item None)
+        ≡ (if has items.now item
+        then slot_with weight (slice_index_or table.old item None)
         else slice_index_or table.old item None) }
 {
-    for item in place.basket.items() {
-        table[*item as usize].add(place.weight);
+    for item in items {
+        table[*item as usize].add(weight);
     }
 }
 

@@ -1,13 +1,16 @@
 //! The supports of items while baskets come.
-ghost use Rattle.std.specs.Prelude.{◌≡◌, ◌<◌, ◌≤◌, ◌+◌, ◌++◌, ◌^◌, [], List, false, IfOk, IsTrue, OnOk, length, map};
+ghost use Rattle.std.specs.Prelude.{◌≡◌, ◌≢◌, ◌<◌, ◌≤◌, ◌+◌, ◌∷◌, ◌++◌, ◌^◌, [], List, false, IfOk, IsTrue, OnOk, length, map};
 ghost use Rattle.basket_sets.specs.declared.weighted.Weighted.{Weighted as Basket};
 ghost use Rattle.basket_sets.specs.Counts.{AllBelow, item_supports};
-ghost use Rattle.basket_sets.specs.Database.{MOST_WEIGHT};
+ghost use Rattle.basket_sets.specs.Database.{weighted, MOST_WEIGHT};
 ghost use Rattle.basket_sets.specs.ItemTable.{HasCounted};
-ghost use Rattle.basket_sets.specs.Itemset.{IsRising};
+ghost use Rattle.basket_sets.specs.Itemset.{IsRising, rising};
 ghost use Rattle.basket_sets.specs.Support.{all_items, total_of};
 
-use crate::counts::{SMALL_TABLE, add_places, add_slots, greatest_item, listed, occurrences};
+use crate::counts::{
+    SMALL_TABLE, add_places, add_slots, add_to_table, greatest_item, listed, occurrences,
+};
+use crate::itemset::is_rising;
 use crate::slot::Slot;
 use crate::weighted::Weighted;
 use std::alloc::{AllocError, Global};
@@ -22,6 +25,8 @@ pub struct ItemTable {
     total: u64,
     /// How many items they have together, or `usize::MAX` if they have more.
     occurrences: usize,
+    /// The table may have this many slots, however few items they have.
+    least: usize,
 }
 
 impl Model for ItemTable {
@@ -39,10 +44,18 @@ impl ItemTable {
     pub fn new(alloc: Global) -> Self
         ensures { HasCounted result [] }
     {
+        ItemTable::expecting(alloc, 0)
+    }
+
+    /// No baskets have come, but some that have about this many items together will come.
+    pub fn expecting(alloc: Global, occurrences: usize) -> Self
+        ensures { HasCounted result [] }
+    {
         ItemTable {
             slots: Vec::new(alloc),
             total: 0,
             occurrences: 0,
+            least: occurrences.max(SMALL_TABLE),
         }
     }
 
@@ -62,12 +75,33 @@ impl ItemTable {
     {
         let greatest = greatest_item(baskets) as usize;
         let occurrences = self.occurrences.saturating_add(occurrences(baskets));
-        if greatest >= SMALL_TABLE && greatest >= occurrences {
+        if greatest >= self.least && greatest >= occurrences {
             return Ok(false);
         }
         self.reach(greatest + 1)?;
         self.count(baskets, occurrences);
         Ok(true)
+    }
+
+    /// Counts a basket of these numbers, if there are some, they rise and the table has a slot for each.
+    /// Returns whether it was counted.
+    #[inline]
+    pub fn add_rising(&mut self, numbers: &[u32], weight: u64) -> bool
+        requires { self.old.total + weight ≤ MOST_WEIGHT }
+        ensures counted { IsTrue result → (before : List Basket) → HasCounted self.old before → HasCounted self.new (before ++ weighted (rising numbers.now) weight ∷ []) }
+        ensures some { IsTrue result → numbers.now ≢ [] }
+        ensures left { result ≡ false → self.new ≡ self.old }
+    {
+        let Some(last) = numbers.last() else {
+            return false;
+        };
+        if *last as usize >= self.slots.len() || !is_rising(numbers) {
+            return false;
+        }
+        add_to_table(&mut self.slots, numbers, weight);
+        self.total += weight;
+        self.occurrences = self.occurrences.saturating_add(numbers.len());
+        true
     }
 
     /// Counts the baskets that another table has counted.

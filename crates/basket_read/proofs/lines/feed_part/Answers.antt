@@ -39,7 +39,8 @@ count-requires c =
     room_after c.args.text.now c.feed.new.self (take end piece) 0 (length piece) (omega (arith, length-take end piece)) c.requires
     (λ past bytes t.
     let before = c.loop-taken.invariant.text past bytes t in
-    (before.0, subst (IsTextSoFar c.feed.new.self before.0) (block_behind bytes piece i end (omega (arith, c.min-end.ensures))) (c.in_ok-feed.ensures before.0 (bytes ++ take i piece) before.2)))
+    let fed = c.in_ok-feed.ensures before.0 (bytes ++ take i piece) before.2 in
+    (fed.0, subst (IsTextSoFar c.feed.new.self fed.0) (block_behind bytes piece i end (omega (arith, c.min-end.ensures))) fed.2))
 
 pub loop-taken-preserved : goal.loop-taken-preserved
 loop-taken-preserved c = record {
@@ -49,7 +50,8 @@ loop-taken-preserved c = record {
       let end = c.min-end.result in
       let piece = c.args.piece.now in
       let before = c.loop-taken.invariant.text past bytes t in
-      let after = c.in_ok-count.ensures before.0 (bytes ++ take end piece)
-      (subst (IsTextSoFar c.feed.new.self before.0) (block_behind bytes piece i end (omega (arith, c.min-end.ensures))) (c.in_ok-feed.ensures before.0 (bytes ++ take i piece) before.2)) in
-      (after.0, λ off. after.1 off ∙ before.1 off, after.2);
+      let fed = c.in_ok-feed.ensures before.0 (bytes ++ take i piece) before.2 in
+      let after = c.in_ok-count.ensures fed.0 (bytes ++ take end piece)
+      (subst (IsTextSoFar c.feed.new.self fed.0) (block_behind bytes piece i end (omega (arith, c.min-end.ensures))) fed.2) in
+      (after.0, λ off. after.1 off ∙ fed.1 off ∙ before.1 off, after.2);
 }

@@ -3,8 +3,9 @@ use Rattle.std.proofs.lemmas.List.{take_all, take_more}
 use Rattle.std.proofs.lemmas.List.Sums.{sum_by_more, sum_by_more_le}
 use Rattle.basket_sets.specs.declared.weighted.Weighted.{Weighted}
 use Rattle.basket_sets.specs.Counts.{IsTable}
+use Rattle.basket_sets.specs.Itemset.{has}
 use Rattle.basket_sets.specs.Support.{total_of}
-use Rattle.basket_sets.proofs.CountLemmas.{item_of_place, table_push, bounded_push}
+use Rattle.basket_sets.proofs.CountLemmas.{HasAdded, item_of_place, table_push, bounded_push}
 use Rattle.basket_sets.proofs.counts.add_places.Goals as goal
 
 pub loop-place-init : goal.loop-place-init
@@ -15,7 +16,8 @@ loop-place-init c = record {
 
 pub add_to_table-requires-clause-within : goal.add_to_table-requires-clause-within
 add_to_table-requires-clause-within c = λ item h.
-    let k = c.requires.within item (item_of_place c.args.baskets.now c.loop-place.place-index c.place-item.result c.loop-place-test.true c.place-item.is item h) in
+    let its = ap (λ l. has l item) (sym c.items.ensures.items) ∙ h in
+    let k = c.requires.within item (item_of_place c.args.baskets.now c.loop-place.place-index c.place-item.result c.loop-place-test.true c.place-item.is item its) in
     omega (arith, c.loop-place.auto.table)
 
 pub add_to_table-requires-clause-fits : goal.add_to_table-requires-clause-fits
@@ -32,15 +34,16 @@ loop-place-preserved c =
     let i = c.loop-place.place-index in
     let place = c.place-item.result in
     let same : length c.add_to_table.new.table ≡ length c.loop-place.table = c.add_to_table.auto.table in
+    let added = subst (λ l. HasAdded c.loop-place.table place.weight l c.add_to_table.new.table) c.items.ensures.items c.add_to_table.ensures in
     let next : take i baskets ++ place ∷ [] ≡ take (i + 1) baskets = ap (λ p. take i baskets ++ p ∷ []) c.place-item.is ∙ sym (take_more baskets i place c.loop-place-test.true) in
     record {
       table = λ before is.
           subst (λ l. IsTable l c.add_to_table.new.table) (append_assoc before (take i baskets) (place ∷ []) ∙ ap (λ l. before ++ l) next)
-          (table_push (before ++ take i baskets) place c.loop-place.table c.add_to_table.new.table same c.add_to_table.ensures (c.loop-place.invariant.table before is));
+          (table_push (before ++ take i baskets) place c.loop-place.table c.add_to_table.new.table same added (c.loop-place.invariant.table before is));
       bounded = λ item.
           let more = sum_by_more (λ (p : Weighted). p.weight) baskets i place c.loop-place-test.true in
           let its = ap (λ (p : Weighted). p.weight) c.place-item.is in
-          let step = bounded_push place c.loop-place.table c.add_to_table.new.table item c.add_to_table.ensures in
+          let step = bounded_push place c.loop-place.table c.add_to_table.new.table item added in
           let small = c.loop-place.invariant.bounded item in
           omega arith;
     }

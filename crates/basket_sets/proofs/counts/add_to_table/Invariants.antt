@@ -6,4 +6,4 @@ use Rattle.basket_sets.proofs.counts.add_to_table.Given as goal
 abbrev pub invariant-loop-item : goal.invariant-loop-item
 invariant-loop-item l =
     (number : ℕ) → get_or l.table number None
-    ≡ cond (has (take l.item-index l.item-items) number) (slot_with l.place.weight (get_or l.initial.table number None)) (get_or l.initial.table number None)
+    ≡ cond (has (take l.item-index l.items) number) (slot_with l.weight (get_or l.initial.table number None)) (get_or l.initial.table number None)

@@ -24,7 +24,7 @@ pub returns-then-piece-room : goal.returns-then-piece-room
 returns-then-piece-room c = λ past bytes r _.
     let room = 4294967295 - c.args.self.now.taken in
     long_fault c.args.self.now past bytes r c.args.piece.now room c.requires.decided (omega (arith, r.few, r.taken)) c.if-piece-room.true
-    ∙ ap (λ f. or_else f (Some TooLong)) (c.in_ok-feed.ensures past (text_of bytes) (at_front c.args.self.now past bytes r Decided c.requires.decided).1).faultless
+    ∙ ap (λ f. or_else f (Some TooLong)) (c.in_ok-feed.ensures past (text_of bytes) (at_front c.args.self.now past bytes r Decided c.requires.decided).1).2.faultless
 
 pub feed_part-requires : goal.feed_part-requires
 feed_part-requires c = has_room c.args.self.now (length c.args.piece.now) (λ past bytes r. omega (arith, r.few, r.taken)) c.requires.some

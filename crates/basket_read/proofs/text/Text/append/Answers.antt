@@ -1,4 +1,4 @@
-use Rattle.std.proofs.Common.{arith, refl}
+use Rattle.std.proofs.Common.{arith}
 use Rattle.std.specs.List.{flat_map}
 use Rattle.basket_read.specs.Cut.{cut_at}
 use Rattle.basket_read.specs.Fimi.{is_line_feed, basket_of}
@@ -14,6 +14,6 @@ overflow_add-self c = omega (arith, few_joined c.args.self.now c.args.other c.re
 pub returns : goal.returns
 returns c = λ past behind lines more t whole o joins.
     texts_joined c.args.self.now c.args.other _ past behind lines more t whole o
-    (let same = c.in_ok-add_baskets.ensures.lines in omega arith) refl
+    (let same = c.in_ok-add_baskets.ensures.lines in omega arith) c.in_ok-copy_from.ensures
     (c.in_ok-add_baskets.ensures.baskets past behind (flat_map basket_of (cut_at is_line_feed lines).ended) (flat_map basket_of (cut_at is_line_feed more).ended)
     t.counted t.baskets o.counted o.baskets joins)

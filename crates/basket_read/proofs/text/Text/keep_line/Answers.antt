@@ -1,7 +1,7 @@
 use Rattle.std.proofs.Common.{length, sym, ap, ◌∙◌, arith}
 use Rattle.std.proofs.lemmas.Bool.Decides.{nat_tests}
 use Rattle.basket_read.proofs.RoomLemmas.{rising_nonempty}
-use Rattle.basket_read.proofs.text.Text.end_line.Goals as goal
+use Rattle.basket_read.proofs.text.Text.keep_line.Goals as goal
 
 pub push-requires-clause-nonempty : goal.push-requires-clause-nonempty
 push-requires-clause-nonempty c = λ e.
