@@ -79,7 +79,7 @@ no_fault weighted nth row first weight (Ok x) f text whole w err =
     ap (λ b. cond b (weight_fault nth (weight_of weighted row)) (Some (NotText nth))) is ∙ ap (weight_fault nth) (sym w)
 
 -- a record was added: its basket stands behind those before
-pub added : {S H X : Type 0} (old new : Baskets S H) (start : Start) (rows : List (List (List ℕ))) (row : List (List ℕ)) (first weight : ℕ) (numbers : List ℕ) (r : Result X ReadFault)
+pub added : {X : Type 0} (old new : Baskets) (start : Start) (rows : List (List (List ℕ))) (row : List (List ℕ)) (first weight : ℕ) (numbers : List ℕ) (r : Result X ReadFault)
     → first ≡ fields_before old.weighted → Some weight ≡ weight_of old.weighted row → new.weighted ≡ old.weighted
     → new.names ≡ fold with_name old.names (names_of (drop first row)) → numbers ≡ map (number_in new.names) (names_of (drop first row))
     → ((counting : Bool) (baskets : List Weighted) → HasGathered old.gathered counting baskets → OnOk r (HasGathered new.gathered counting (baskets ++ basket_of_numbers numbers weight)))

@@ -1,5 +1,5 @@
 -- Pairs of an id and a name, one after another.
-use Rattle.std.proofs.Common.{◌≡◌, ℕ, zero, suc, ◌+◌, ◌≤◌, ◌<◌, Bool, true, false, cond, not, ◌&&◌, ◌||◌, List, [], ◌∷◌, ◌++◌, length, map, filter, fold, set, get_or, ltb, Some, None, Result, Ok, Err, refl, sym, ap, ◌∙◌, subst, append_assoc, arith}
+use Rattle.std.proofs.Common.{◌≡◌, ℕ, zero, suc, ◌+◌, ◌≤◌, ◌<◌, Bool, true, false, cond, not, ◌&&◌, ◌||◌, List, [], ◌∷◌, ◌++◌, length, map, filter, fold, set, get_or, ltb, Some, None, Result, refl, sym, ap, ◌∙◌, subst, append_assoc, arith}
 use Rattle.std.specs.List.{flat_map, list_all, list_any}
 use Rattle.std.specs.Result.{OnOk}
 use Rattle.std.specs.Str.{bytes_eq, is_utf8}
@@ -9,13 +9,11 @@ use Rattle.std.proofs.lemmas.List.Elements.{filter-append}
 use Rattle.std.proofs.lemmas.List.Folds.{list_all-append, flat_map-map}
 use Rattle.std.proofs.lemmas.List.Filters.{length-filter_both}
 use Rattle.std.proofs.lemmas.List.Sums.{fold-append}
-use Rattle.basket_sets.specs.declared.weighted.Weighted.{Weighted}
 use Rattle.basket_read.specs.declared.fault.ReadFault.{ReadFault}
 use Rattle.basket_read.specs.declared.fault.ReadFault.TheVariants.{NotText, ShortRecord}
-use Rattle.basket_read.specs.Fimi.{basket_of_numbers, if_light, is_nil}
-use Rattle.basket_csv.specs.Read.{Answers}
+use Rattle.basket_read.specs.Fimi.{basket_of_numbers, is_nil}
 use Rattle.basket_csv.specs.declared.pairs.Pairs.{Pairs}
-use Rattle.basket_csv.specs.Csv.{Named, field_in, is_text, pair_fault, pair_of, pairs_of, with_names, with_pair, gather, names_of_pairs}
+use Rattle.basket_csv.specs.Csv.{field_in, is_text, pair_fault, pair_of, pairs_of, with_pair, gather, names_of_pairs}
 use Rattle.basket_csv.specs.Field.{trimmed}
 use Rattle.basket_csv.specs.Names.{with_name, in_order, number_in}
 use Rattle.basket_csv.specs.Row.{IsKnownPair}
@@ -111,7 +109,7 @@ names_more known pairs pair =
     let names = map (λ (p : List ℕ × List ℕ). p.1) pairs in
     ap (λ ns. in_order (known ++ ns)) (map-append (λ p. p.1) pairs (pair ∷ [])) ∙ ap in_order (sym (append_assoc known names (pair.1 ∷ []))) ∙ fold-append with_name [] (known ++ names) (pair.1 ∷ [])
 
-pub paired : {S H : Type 0} (old new : Pairs S H) (known : List (List ℕ)) (pairs : List (List ℕ × List ℕ)) (id name : List ℕ) (number place : ℕ)
+pub paired : (old new : Pairs) (known : List (List ℕ)) (pairs : List (List ℕ × List ℕ)) (id name : List ℕ) (number place : ℕ)
     → new.names ≡ with_name old.names name → number ≡ number_in new.names name
     → new.ids ≡ with_name old.ids id → place ≡ number_in new.ids id
     → map (λ group. group.items) new.groups.items ≡ added_at (map (λ group. group.items) old.groups.items) place number
@@ -143,14 +141,14 @@ pairs_more rows row some =
     ∙ ap (λ b. pairs_of rows ++ cond (not b) (pair_of row ∷ []) []) some
 
 -- a record whose pair was added
-pub pair_added : {S H X : Type 0} (new : Pairs S H) (known : List (List ℕ)) (rows : List (List (List ℕ))) (row : List (List ℕ)) (id name : List ℕ) (r : Result X ReadFault)
+pub pair_added : {X : Type 0} (new : Pairs) (known : List (List ℕ)) (rows : List (List (List ℕ))) (row : List (List ℕ)) (id name : List ℕ) (r : Result X ReadFault)
     → id ≡ trimmed (field_in row 0) → name ≡ trimmed (field_in row 1) → is_nil (trimmed (field_in row 1)) ≡ false
     → OnOk r (HasPairs new known (pairs_of rows ++ (id, name) ∷ [])) → OnOk r (HasPairs new known (pairs_of (rows ++ row ∷ [])))
 pair_added new known rows row id name r a b some h =
     subst (λ pairs. OnOk r (HasPairs new known pairs)) (ap (λ i. pairs_of rows ++ (i, name) ∷ []) a ∙ ap (λ n. pairs_of rows ++ (trimmed (field_in row 0), n) ∷ []) b ∙ sym (pairs_more rows row some)) h
 
 -- a record of a known id and a known name, whose numbers were added
-pub known_paired : {S H : Type 0} (old new : Pairs S H) (known : List (List ℕ)) (rows : List (List (List ℕ))) (row : List (List ℕ)) (place number : ℕ)
+pub known_paired : (old new : Pairs) (known : List (List ℕ)) (rows : List (List (List ℕ))) (row : List (List ℕ)) (place number : ℕ)
     → new.names ≡ old.names → new.ids ≡ old.ids → map (λ group. group.items) new.groups.items ≡ added_at (map (λ group. group.items) old.groups.items) place number
     → IsKnownPair old.ids old.names row place number → HasPairs old known (pairs_of rows) → HasPairs new known (pairs_of (rows ++ row ∷ []))
 known_paired old new known rows row place number names same groups pair h =
@@ -171,16 +169,6 @@ pub all_baskets : {A : Type 0} (f : A → List ℕ) (groups : List A) (names : L
     → flat_map (λ group. basket_of_numbers (f group) 1) groups ≡ flat_map (λ group. basket_of_numbers (map (number_in names) group.1) 1) gathered
 all_baskets f groups names gathered e =
     sym (flat_map-map (λ numbers. basket_of_numbers numbers 1) f groups) ∙ ap (flat_map (λ numbers. basket_of_numbers numbers 1)) e ∙ flat_map-map (λ numbers. basket_of_numbers numbers 1) (λ group. map (number_in names) group.1) gathered
-
--- baskets that weigh too much are refused, and others are answered
-pub refused : (r : Result (List Weighted) ReadFault) (fault told : ReadFault) (baskets : List Weighted) (names : List (List ℕ)) (answer : Result Named ReadFault)
-    → r ≡ Err fault → r ≡ if_light baskets → answer ≡ Err told → told ≡ fault → Answers answer (with_names (if_light baskets) names)
-refused r fault told baskets names answer e light a t =
-    let said : with_names (if_light baskets) names ≡ Err fault = ap (λ l. with_names l names) (sym light ∙ e) in
-    subst (λ o. Answers o (with_names (if_light baskets) names)) (sym (a ∙ ap Err t)) (λ _. said)
-
-pub answered : (r : Result (List Weighted) ReadFault) (database baskets : List Weighted) (names : List (List ℕ)) → r ≡ Ok database → r ≡ if_light baskets → with_names (if_light baskets) names ≡ Ok (database, names)
-answered r database baskets names e light = ap (λ l. with_names l names) (sym light ∙ e)
 
 -- ---- records that are text, and others
 
@@ -220,7 +208,7 @@ gathered_few groups [] = omega arith
 gathered_few groups (pair ∷ pairs) = omega (arith, gathered_few (with_pair groups pair) pairs, with_pair_few groups pair)
 
 -- there are no more groups than records
-pub few_groups : {S H : Type 0} (read : Pairs S H) (known : List (List ℕ)) (rows : List (List (List ℕ))) → HasPairs read known (pairs_of rows) → length read.groups.items ≤ length rows
+pub few_groups : (read : Pairs) (known : List (List ℕ)) (rows : List (List (List ℕ))) → HasPairs read known (pairs_of rows) → length read.groups.items ≤ length rows
 few_groups read known rows has =
     let names = names_of_pairs known (pairs_of rows) in
     let groups = gather (pairs_of rows) in

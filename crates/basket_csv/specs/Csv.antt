@@ -35,6 +35,20 @@ abbrev pub fault_from : (ℕ → List (List ℕ) → Option ReadFault) → ℕ �
 fault_from fault nth [] = None
 fault_from fault nth (row ∷ rows) = or_else (fault nth row) (fault_from fault (nth + 1) rows)
 
+-- what is said, unless there is a fault
+abbrev pub if_faultless : {X : Type 0} → Option ReadFault → Result X ReadFault → Result X ReadFault
+if_faultless (Some fault) said = Err fault
+if_faultless None said = said
+
+-- what the records of some bytes say, by the fault of each and by what records without a fault say
+abbrev pub records_say : {X : Type 0} → ℕ → Bool → (ℕ → List (List ℕ) → Option ReadFault) → (List (List (List ℕ)) → Result X ReadFault) → List ℕ → Result X ReadFault
+records_say separator header fault said bytes =
+    let rows = behind_header header (records_of separator bytes) in if_faultless (fault_from fault (first_number header) rows) (said rows)
+
+-- what the bytes of an input say
+abbrev pub bytes_say : {X : Type 0} → ℕ → Bool → (ℕ → List (List ℕ) → Option ReadFault) → (List (List (List ℕ)) → Result X ReadFault) → List ℕ → Result X ReadFault
+bytes_say separator header fault said bytes = if nat_lt MOST_BYTES (length bytes) then Err TooLong else records_say separator header fault said bytes
+
 -- ---- a basket in each record
 
 -- the names among some fields: these trimmed, without the empty ones
@@ -93,20 +107,13 @@ abbrev pub with_names : Result (List Weighted) ReadFault → List (List ℕ) →
 with_names (Ok baskets) names = Ok (baskets, names)
 with_names (Err fault) names = Err fault
 
--- the baskets with their names, unless there is a fault
-abbrev pub if_faultless : Option ReadFault → List Weighted → List (List ℕ) → Result Named ReadFault
-if_faultless (Some fault) baskets names = Err fault
-if_faultless None baskets names = with_names (if_light baskets) names
+-- what records without a fault say, if each is a basket and some names are known
+abbrev pub baskets_said : Bool → List (List ℕ) → List (List (List ℕ)) → Result Named ReadFault
+baskets_said weighted known rows = with_names (if_light (baskets_in weighted known rows)) (in_order (known ++ all_names weighted rows))
 
--- what records say that have a basket each, where some names are known
-abbrev pub say_baskets : Bool → ℕ → List (List ℕ) → List (List (List ℕ)) → Result Named ReadFault
-say_baskets weighted nth known rows =
-    if_faultless (fault_from (basket_fault weighted) nth rows) (baskets_in weighted known rows) (in_order (known ++ all_names weighted rows))
-
--- what the bytes say, read with a separator, with or without a header and weights, where some names are known
+-- what the bytes say, read with a separator, with or without a header and weights, if some names are known
 abbrev pub baskets_of_csv : ℕ → Bool → Bool → List (List ℕ) → List ℕ → Result Named ReadFault
-baskets_of_csv separator header weighted known bytes =
-    if nat_lt MOST_BYTES (length bytes) then Err TooLong else say_baskets weighted (first_number header) known (behind_header header (records_of separator bytes))
+baskets_of_csv separator header weighted known bytes = bytes_say separator header (basket_fault weighted) (baskets_said weighted known) bytes
 
 -- ---- a basket's id and a name in each record
 
@@ -139,11 +146,10 @@ names_of_pairs known pairs = in_order (known ++ map (λ pair. pair.1) pairs)
 abbrev pub baskets_of_pairs : List (List ℕ) → List (List ℕ × List ℕ) → List Weighted
 baskets_of_pairs known pairs = flat_map (λ group. basket_of_numbers (map (number_in (names_of_pairs known pairs)) group.1) 1) (gather pairs)
 
--- what records say that have an id and a name each, where some names are known
-abbrev pub say_pairs : ℕ → List (List ℕ) → List (List (List ℕ)) → Result Named ReadFault
-say_pairs nth known rows = if_faultless (fault_from pair_fault nth rows) (baskets_of_pairs known (pairs_of rows)) (names_of_pairs known (pairs_of rows))
+-- what pairs say, if some names are known
+abbrev pub pairs_said : List (List ℕ) → List (List ℕ × List ℕ) → Result Named ReadFault
+pairs_said known pairs = with_names (if_light (baskets_of_pairs known pairs)) (names_of_pairs known pairs)
 
 -- what the bytes say
 abbrev pub pairs_of_csv : ℕ → Bool → List (List ℕ) → List ℕ → Result Named ReadFault
-pairs_of_csv separator header known bytes =
-    if nat_lt MOST_BYTES (length bytes) then Err TooLong else say_pairs (first_number header) known (behind_header header (records_of separator bytes))
+pairs_of_csv separator header known bytes = bytes_say separator header pair_fault (λ rows. pairs_said known (pairs_of rows)) bytes

@@ -21,7 +21,7 @@ abbrev pub groups_are_among : List (List ℕ) → List (List ℕ × List (List �
 groups_are_among names groups = list_all (λ group. list_all (λ name. list_any (bytes_eq name) names) group.1) groups
 
 -- the names, the ids and the numbers are those of these pairs, where some names are known
-pub record HasPairs {S H : Type 0} (read : Pairs S H) (known : List (List ℕ)) (pairs : List (List ℕ × List ℕ)) : Type 0 where
+pub record HasPairs (read : Pairs) (known : List (List ℕ)) (pairs : List (List ℕ × List ℕ)) : Type 0 where
   pub names : read.names ≡ names_of_pairs known pairs
   pub ids : read.ids ≡ map (λ group. group.0) (gather pairs)
   pub groups : map (λ group. group.items) read.groups.items ≡ numbers_of (names_of_pairs known pairs) (gather pairs)

@@ -18,6 +18,7 @@ mod read;
 mod recent;
 mod records;
 mod row;
+mod seed;
 mod weight;
 pub mod worked;
 

@@ -7,7 +7,7 @@ use Rattle.basket_csv.proofs.row.number_names.Goals as goal
 use Rattle.basket_csv.proofs.row.number_names.Goals.{then-not-is_empty+in_ok-number+in_ok-push-2, else-not-is_empty}
 
 pub loop-place-preserved-in-Some : goal.loop-place-preserved-in-Some
-loop-place-preserved-in-Some g c =
+loop-place-preserved-in-Some c =
     let fields = fields_of c.args.row.now in
     let place = c.loop-place.place in
     let below = rw c.len-place-end.ensures at c.loop-place-test.true in
@@ -17,7 +17,7 @@ loop-place-preserved-in-Some g c =
     rw (c.in_ok-push.ensures.items) (record { text = after.text; names = after.names; numbers = after.numbers })
 
 pub loop-place-preserved : goal.loop-place-preserved
-loop-place-preserved g c =
+loop-place-preserved c =
     let fields = fields_of c.args.row.now in
     let place = c.loop-place.place in
     let below = rw c.len-place-end.ensures at c.loop-place-test.true in

@@ -5,7 +5,7 @@ use Rattle.basket_csv.specs.Names.{number_in, with_name}
 use Rattle.basket_csv.proofs.row.number_names.Given as goal
 
 abbrev pub invariant-loop-place : goal.invariant-loop-place
-invariant-loop-place g l =
+invariant-loop-place l =
     let fields = fields_of l.row in
     let all = fold with_name l.fn.names (names_of (drop l.first fields)) in
     record {

@@ -10,10 +10,10 @@ use Rattle.basket_csv.proofs.RowLemmas.{nothing_is_text}
 use Rattle.basket_csv.proofs.counts.CountsRecordCollector.add.Goals as goal
 
 pub returns-in_default-clause-fault : goal.returns-in_default-clause-fault
-returns-in_default-clause-fault g c = λ start rows h _. not_text c.args.nth (fields_of c.args.row.now) (no_text_first (fields_of c.args.row.now) c.in_default.ensures nothing_is_text)
+returns-in_default-clause-fault c = λ start rows h _. not_text c.args.nth (fields_of c.args.row.now) (no_text_first (fields_of c.args.row.now) c.in_default.ensures nothing_is_text)
 
 pub returns-clause-read : goal.returns-clause-read
-returns-clause-read g c = λ start rows at h.
+returns-clause-read c = λ start rows at h.
     let old = c.args.self.now in
     let text = c.as_bytes.ensures.value ∙ c.trim.ensures ∙ ap trimmed c.in-Some.ensures.0 in
     counted old (record { alloc = old.alloc; names = c.number_names.new.names; lines = c.push.new.self; numbers = c.number_names.new.numbers }) start rows (fields_of c.args.row.now)
