@@ -18,8 +18,8 @@ use Rattle.basket_csv.specs.Baskets.{HasRead}
 use Rattle.basket_csv.specs.RecordCollector.{Start}
 use Rattle.basket_csv.specs.Csv.{field_in, is_text, names_of, fields_before, names_in, weight_of, weight_fault, basket_fault, all_names, basket_of, baskets_in}
 use Rattle.basket_csv.specs.GatheredBaskets.{HasGathered}
-use Rattle.basket_csv.specs.Names.{with_name, in_order, number_in}
-use Rattle.basket_csv.proofs.NamesLemmas.{among, numbers_stay, all_among}
+use Rattle.basket_csv.specs.Names.{with_name, in_order, number_in, is_among, are_among}
+use Rattle.basket_csv.proofs.NamesLemmas.{numbers_stay, all_among}
 
 pub no_text_first : (fields : List (List ℕ)) → is_utf8 (field_in fields 0) ≡ false → is_utf8 [] ≡ true → is_text fields ≡ false
 no_text_first [] e nothing = absurd (let both : true ≡ false = sym nothing ∙ e in cc)
@@ -36,19 +36,19 @@ names_more weighted known rows row =
     ap (λ ns. in_order (known ++ ns)) (all_names_more weighted rows row) ∙ ap in_order (sym (append_assoc known (all_names weighted rows) (names_in weighted row)))
     ∙ fold-append with_name [] (known ++ all_names weighted rows) (names_in weighted row)
 
-baskets_stay : (weighted : Bool) (names others : List (List ℕ)) (rows : List (List (List ℕ))) → list_all (among names) (all_names weighted rows) ≡ true
+baskets_stay : (weighted : Bool) (names others : List (List ℕ)) (rows : List (List (List ℕ))) → are_among names (all_names weighted rows) ≡ true
     → flat_map (basket_of weighted (fold with_name names others)) rows ≡ flat_map (basket_of weighted names) rows
 baskets_stay weighted names others [] e = refl
 baskets_stay weighted names others (row ∷ rows) e =
-    let h = and_parts (list_all (among names) (names_in weighted row)) (list_all (among names) (all_names weighted rows)) (sym (list_all-append (among names) (names_in weighted row) (all_names weighted rows)) ∙ e) in
+    let h = and_parts (are_among names (names_in weighted row)) (are_among names (all_names weighted rows)) (sym (list_all-append (is_among names) (names_in weighted row) (all_names weighted rows)) ∙ e) in
     ap (λ ns. basket_of_numbers ns (unwrap_or (weight_of weighted row) 1) ++ flat_map (basket_of weighted (fold with_name names others)) rows) (numbers_stay names others (names_in weighted row) h.0)
     ∙ ap (λ bs. basket_of weighted names row ++ bs) (baskets_stay weighted names others rows h.1)
 
 -- each of the names is among those in order with the known ones
-pub read_among : (known names : List (List ℕ)) → list_all (among (in_order (known ++ names))) names ≡ true
+pub read_among : (known names : List (List ℕ)) → list_all (is_among (in_order (known ++ names))) names ≡ true
 read_among known names =
-    let all = list_all (among (in_order (known ++ names))) in
-    (and_parts (all known) (all names) (sym (list_all-append (among (in_order (known ++ names))) known names) ∙ all_among [] (known ++ names))).1
+    let all = list_all (is_among (in_order (known ++ names))) in
+    (and_parts (all known) (all names) (sym (list_all-append (is_among (in_order (known ++ names))) known names) ∙ all_among [] (known ++ names))).1
 
 baskets_more : (weighted : Bool) (known : List (List ℕ)) (rows : List (List (List ℕ))) (row : List (List ℕ))
     → baskets_in weighted known (rows ++ row ∷ []) ≡ baskets_in weighted known rows ++ basket_of weighted (in_order (known ++ all_names weighted (rows ++ row ∷ []))) row

@@ -1,7 +1,5 @@
 -- The counted sets of records, one after another.
-use Rattle.std.proofs.Common.{◌≡◌, ℕ, ◌+◌, true, false, cond, ◌&&◌, List, [], ◌∷◌, ◌++◌, length, map, drop, fold, Option, Some, unwrap_or, refl, sym, ap, ◌∙◌, arith}
-use Rattle.std.specs.List.{list_all}
-use Rattle.std.specs.Str.{is_utf8}
+use Rattle.std.proofs.Common.{◌≡◌, ℕ, ◌+◌, true, false, cond, List, [], ◌∷◌, ◌++◌, length, map, drop, fold, Some, unwrap_or, refl, sym, ap, ◌∙◌, arith}
 use Rattle.std.proofs.lemmas.Bool.{and_parts}
 use Rattle.std.proofs.lemmas.List.Folds.{list_all-append}
 use Rattle.basket_sets.specs.Itemset.{rising}
@@ -10,31 +8,23 @@ use Rattle.basket_read.specs.declared.fault.ReadFault.TheVariants.{NotText}
 use Rattle.basket_csv.specs.declared.counts.Counts.{Counts}
 use Rattle.basket_csv.specs.RecordCollector.{Start}
 use Rattle.basket_csv.specs.Counts.{HasCounts, count_of, count_fault, set_fault, line_of, lines_from}
-use Rattle.basket_csv.specs.Csv.{field_in, is_text, names_of, names_in, all_names}
-use Rattle.basket_csv.specs.Names.{with_name, in_order, number_in}
+use Rattle.basket_csv.specs.Csv.{is_text, names_of, names_in, all_names}
+use Rattle.basket_csv.specs.Names.{with_name, in_order, number_in, is_among, are_among}
 use Rattle.basket_csv.proofs.BasketLemmas.{names_more, read_among}
-use Rattle.basket_csv.proofs.NamesLemmas.{among, numbers_stay}
+use Rattle.basket_csv.proofs.NamesLemmas.{numbers_stay}
 
 -- ---- the fault of a record
-
--- behind a first field that is text the others decide
-pub text_behind : (row : List (List ℕ)) → is_utf8 (field_in row 0) ≡ true → is_text row ≡ is_text (drop 1 row)
-text_behind [] e = refl
-text_behind (field ∷ fields) e = ap (λ b. b && is_text fields) e
 
 pub not_text : (nth : ℕ) (row : List (List ℕ)) → is_text row ≡ false → set_fault nth row ≡ Some (NotText nth)
 not_text nth row e = ap (λ b. cond b (count_fault nth (count_of row)) (Some (NotText nth))) e
 
-pub text_fault : (nth : ℕ) (row : List (List ℕ)) (count : Option ℕ) → is_text row ≡ true → count ≡ count_of row → set_fault nth row ≡ count_fault nth count
-text_fault nth row count e f = ap (λ b. cond b (count_fault nth (count_of row)) (Some (NotText nth))) e ∙ ap (count_fault nth) (sym f)
-
 -- ---- one record more
 
-lines_stay : (names others : List (List ℕ)) (nth : ℕ) (rows : List (List (List ℕ))) → list_all (among names) (all_names true rows) ≡ true
+lines_stay : (names others : List (List ℕ)) (nth : ℕ) (rows : List (List (List ℕ))) → are_among names (all_names true rows) ≡ true
     → lines_from (fold with_name names others) nth rows ≡ lines_from names nth rows
 lines_stay names others nth [] e = refl
 lines_stay names others nth (row ∷ rows) e =
-    let h = and_parts (list_all (among names) (names_in true row)) (list_all (among names) (all_names true rows)) (sym (list_all-append (among names) (names_in true row) (all_names true rows)) ∙ e) in
+    let h = and_parts (are_among names (names_in true row)) (are_among names (all_names true rows)) (sym (list_all-append (is_among names) (names_in true row) (all_names true rows)) ∙ e) in
     ap (λ ns. numbered (rising ns) (unwrap_or (count_of row) 0) nth ∷ lines_from (fold with_name names others) (nth + 1) rows) (numbers_stay names others (names_in true row) h.0)
     ∙ ap (λ ls. line_of names nth row ∷ ls) (lines_stay names others (nth + 1) rows h.1)
   where

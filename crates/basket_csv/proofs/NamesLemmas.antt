@@ -15,7 +15,7 @@ use Rattle.std.proofs.lemmas.Option.{slice_get_within, get_or_from_slice_get}
 use Rattle.std.proofs.lemmas.Slice.Eq.{bytes_eq-Decides}
 use Rattle.std.proofs.lemmas.Str.{is_utf8-from_IsUtf8}
 use Rattle.indexmap.specs.IndexSet.{insert_key}
-use Rattle.basket_csv.specs.Names.{with_name, number_in, IsKnown}
+use Rattle.basket_csv.specs.Names.{with_name, number_in, IsKnown, is_among, are_among}
 
 -- ---- a test of a list's images
 
@@ -55,6 +55,10 @@ found p xs place e =
     (any_at p xs (ltb-true (position_or_len p xs) (length xs) h.0), h.1)
 
 -- ---- names with one more
+
+pub consed : {A : Type 0} (b : Bool) (x y : A) (xs : List A) → cond b (x ∷ xs) (x ∷ xs ++ y ∷ []) ≡ x ∷ cond b xs (xs ++ y ∷ [])
+consed true x y xs = refl
+consed false x y xs = refl
 
 pub equal_bytes : (name : List ℕ) → bytes_eq name name ≡ true
 equal_bytes name = (bytes_eq-Decides name name).1 refl
@@ -136,18 +140,14 @@ place_if_same keys names name key place false view distinct e text is = tt
 
 -- ---- a name keeps its number
 
--- whether a name is among some names
-abbrev pub among : List (List ℕ) → List ℕ → Bool
-among names name = list_any (bytes_eq name) names
-
-pub among_more : (names : List (List ℕ)) (name other : List ℕ) → among names name ≡ true → among (with_name names other) name ≡ true
+pub among_more : (names : List (List ℕ)) (name other : List ℕ) → is_among names name ≡ true → is_among (with_name names other) name ≡ true
 among_more names name other e = at (list_any (bytes_eq other) names)
   where
-    at : (b : Bool) → among (cond b names (names ++ other ∷ [])) name ≡ true
+    at : (b : Bool) → is_among (cond b names (names ++ other ∷ [])) name ≡ true
     at true = e
     at false = list_any-append (bytes_eq name) names (other ∷ []) ∙ or_left _ _ e
 
-pub number_more : (names : List (List ℕ)) (name other : List ℕ) → among names name ≡ true → number_in (with_name names other) name ≡ number_in names name
+pub number_more : (names : List (List ℕ)) (name other : List ℕ) → is_among names name ≡ true → number_in (with_name names other) name ≡ number_in names name
 number_more names name other e = at (list_any (bytes_eq other) names)
   where
     new : (b : Bool) → eqb (number_in names name) (length names) ≡ b → cond b (length names + cond (bytes_eq name other) 0 1) (number_in names name) ≡ number_in names name
@@ -158,31 +158,31 @@ number_more names name other e = at (list_any (bytes_eq other) names)
     at true = refl
     at false = position_or_len_push (bytes_eq name) names other ∙ new (eqb (number_in names name) (length names)) refl
 
-pub among_all : (names others : List (List ℕ)) (name : List ℕ) → among names name ≡ true → among (fold with_name names others) name ≡ true
+pub among_all : (names others : List (List ℕ)) (name : List ℕ) → is_among names name ≡ true → is_among (fold with_name names others) name ≡ true
 among_all names [] name e = e
 among_all names (other ∷ others) name e = among_all (with_name names other) others name (among_more names name other e)
 
-pub number_in_all : (names others : List (List ℕ)) (name : List ℕ) → among names name ≡ true → number_in (fold with_name names others) name ≡ number_in names name
+pub number_in_all : (names others : List (List ℕ)) (name : List ℕ) → is_among names name ≡ true → number_in (fold with_name names others) name ≡ number_in names name
 number_in_all names [] name e = refl
 number_in_all names (other ∷ others) name e = number_in_all (with_name names other) others name (among_more names name other e) ∙ number_more names name other e
 
 -- a name is among the names with it
-pub among_with : (names : List (List ℕ)) (name : List ℕ) → among (with_name names name) name ≡ true
+pub among_with : (names : List (List ℕ)) (name : List ℕ) → is_among (with_name names name) name ≡ true
 among_with names name = at (list_any (bytes_eq name) names) refl
   where
-    at : (b : Bool) → list_any (bytes_eq name) names ≡ b → among (cond b names (names ++ name ∷ [])) name ≡ true
+    at : (b : Bool) → list_any (bytes_eq name) names ≡ b → is_among (cond b names (names ++ name ∷ [])) name ≡ true
     at true e = e
-    at false e = list_any-append (bytes_eq name) names (name ∷ []) ∙ or_right (among names name) _ (or_left _ _ (equal_bytes name))
+    at false e = list_any-append (bytes_eq name) names (name ∷ []) ∙ or_right (is_among names name) _ (or_left _ _ (equal_bytes name))
 
 -- names keep their numbers
-pub numbers_stay : (names others some : List (List ℕ)) → list_all (among names) some ≡ true → map (number_in (fold with_name names others)) some ≡ map (number_in names) some
+pub numbers_stay : (names others some : List (List ℕ)) → are_among names some ≡ true → map (number_in (fold with_name names others)) some ≡ map (number_in names) some
 numbers_stay names others [] e = refl
 numbers_stay names others (name ∷ some) e =
-    let h = and_parts (among names name) (list_all (among names) some) e in
+    let h = and_parts (is_among names name) (are_among names some) e in
     ap (λ n. n ∷ map (number_in (fold with_name names others)) some) (number_in_all names others name h.0) ∙ ap (λ ns. number_in names name ∷ ns) (numbers_stay names others some h.1)
 
 -- all names are among themselves
-pub all_among : (names some : List (List ℕ)) → list_all (among (fold with_name names some)) some ≡ true
+pub all_among : (names some : List (List ℕ)) → list_all (is_among (fold with_name names some)) some ≡ true
 all_among names [] = refl
 all_among names (name ∷ some) =
-    and_from (among (fold with_name (with_name names name) some) name) _ (among_all (with_name names name) some name (among_with names name)) (all_among (with_name names name) some)
+    and_from (is_among (fold with_name (with_name names name) some) name) _ (among_all (with_name names name) some name (among_with names name)) (all_among (with_name names name) some)

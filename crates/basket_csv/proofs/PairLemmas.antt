@@ -1,12 +1,12 @@
 -- Pairs of an id and a name, one after another.
-use Rattle.std.proofs.Common.{◌≡◌, ℕ, zero, suc, ◌+◌, ◌≤◌, ◌<◌, Bool, true, false, cond, not, ◌&&◌, ◌||◌, List, [], ◌∷◌, ◌++◌, length, map, filter, fold, set, get_or, ltb, Some, None, Result, refl, sym, ap, ◌∙◌, subst, append_assoc, arith}
-use Rattle.std.specs.List.{flat_map, list_all, list_any}
+use Rattle.std.proofs.Common.{◌≡◌, ℕ, zero, suc, ◌+◌, ◌≤◌, ◌<◌, Bool, true, false, cond, not, ◌||◌, List, [], ◌∷◌, ◌++◌, length, map, filter, fold, set, get_or, ltb, Some, None, Result, refl, sym, ap, ◌∙◌, subst, append_assoc, arith}
+use Rattle.std.specs.List.{flat_map, list_any}
 use Rattle.std.specs.Result.{OnOk}
 use Rattle.std.specs.Str.{bytes_eq, is_utf8}
-use Rattle.std.proofs.lemmas.Bool.{and_parts, and_from, and_left, and_right}
+use Rattle.std.proofs.lemmas.Bool.{and_parts, and_left, and_right}
 use Rattle.std.proofs.lemmas.List.{length-map, map-append}
 use Rattle.std.proofs.lemmas.List.Elements.{filter-append}
-use Rattle.std.proofs.lemmas.List.Folds.{list_all-append, flat_map-map}
+use Rattle.std.proofs.lemmas.List.Folds.{flat_map-map}
 use Rattle.std.proofs.lemmas.List.Filters.{length-filter_both}
 use Rattle.std.proofs.lemmas.List.Sums.{fold-append}
 use Rattle.basket_read.specs.declared.fault.ReadFault.{ReadFault}
@@ -15,12 +15,14 @@ use Rattle.basket_read.specs.Fimi.{basket_of_numbers, is_nil}
 use Rattle.basket_csv.specs.declared.pairs.Pairs.{Pairs}
 use Rattle.basket_csv.specs.Csv.{field_in, is_text, pair_fault, pair_of, pairs_of, with_pair, gather, names_of_pairs}
 use Rattle.basket_csv.specs.Field.{trimmed}
-use Rattle.basket_csv.specs.Names.{with_name, in_order, number_in}
+use Rattle.basket_csv.specs.Names.{with_name, in_order, number_in, are_among}
 use Rattle.basket_csv.specs.Row.{IsKnownPair}
-use Rattle.basket_csv.specs.Pairs.{HasPairs, added_at, numbers_of, groups_are_among}
+use Rattle.basket_csv.specs.Named.{NamedBasket, are_named}
+use Rattle.basket_csv.specs.Pairs.{HasPairs, added_at, numbers_of}
+use Rattle.basket_csv.proofs.NamedLemmas.{pairs_are_numbered}
 use Rattle.basket_csv.proofs.BasketLemmas.{no_text_first}
 use Rattle.basket_csv.proofs.RowLemmas.{known_some, nothing_is_text}
-use Rattle.basket_csv.proofs.NamesLemmas.{among, among_more, among_with, numbers_stay, number_stays}
+use Rattle.basket_csv.proofs.NamesLemmas.{consed, numbers_stay, number_stays}
 
 -- ---- a number that was added to a group
 
@@ -41,9 +43,8 @@ group_new f (group ∷ groups) (suc place) number new all n = ap (λ gs. f group
 abbrev Groups : Type 0
 Groups = List (List ℕ × List (List ℕ))
 
-consed : {A : Type 0} (b : Bool) (x y : A) (xs : List A) → cond b (x ∷ xs) (x ∷ xs ++ y ∷ []) ≡ x ∷ cond b xs (xs ++ y ∷ [])
-consed true x y xs = refl
-consed false x y xs = refl
+abbrev baskets_of : Groups → List NamedBasket
+baskets_of groups = map (λ group. (group.1, 1)) groups
 
 ids_more : (groups : Groups) (id name : List ℕ) → with_name (map (λ g. g.0) groups) id ≡ map (λ g. g.0) (with_pair groups (id, name))
 ids_more [] id name = refl
@@ -68,36 +69,11 @@ groups_more names (group ∷ groups) id name = at (bytes_eq id group.0) (groups_
         let next : 1 + number_in (map (λ g. g.0) groups) id ≡ suc (number_in (map (λ g. g.0) groups) id) = omega arith in
         ap (λ place. added_at (map (number_in names) group.1 ∷ numbers_of names groups) place (number_in names name)) next ∙ ap (λ gs. map (number_in names) group.1 ∷ gs) later
 
-groups_stay : (names : List (List ℕ)) (name : List ℕ) (groups : Groups) → groups_are_among names groups ≡ true → numbers_of (with_name names name) groups ≡ numbers_of names groups
+groups_stay : (names : List (List ℕ)) (name : List ℕ) (groups : Groups) → are_named names (baskets_of groups) ≡ true → numbers_of (with_name names name) groups ≡ numbers_of names groups
 groups_stay names name [] e = refl
 groups_stay names name (group ∷ groups) e =
-    let h = and_parts (list_all (among names) group.1) (groups_are_among names groups) e in
+    let h = and_parts (are_among names group.1) (are_named names (baskets_of groups)) e in
     ap (λ g. g ∷ numbers_of (with_name names name) groups) (numbers_stay names (name ∷ []) group.1 h.0) ∙ ap (λ gs. map (number_in names) group.1 ∷ gs) (groups_stay names name groups h.1)
-
-all_among_more : (names : List (List ℕ)) (name : List ℕ) (some : List (List ℕ)) → list_all (among names) some ≡ true → list_all (among (with_name names name)) some ≡ true
-all_among_more names name [] e = refl
-all_among_more names name (other ∷ some) e =
-    let h = and_parts (among names other) (list_all (among names) some) e in
-    and_from (among (with_name names name) other) (list_all (among (with_name names name)) some) (among_more names other name h.0) (all_among_more names name some h.1)
-
-among_goes_on : (names : List (List ℕ)) (name : List ℕ) (groups : Groups) → groups_are_among names groups ≡ true → groups_are_among (with_name names name) groups ≡ true
-among_goes_on names name [] e = refl
-among_goes_on names name (group ∷ groups) e =
-    let h = and_parts (list_all (among names) group.1) (groups_are_among names groups) e in
-    and_from (list_all (among (with_name names name)) group.1) (groups_are_among (with_name names name) groups) (all_among_more names name group.1 h.0) (among_goes_on names name groups h.1)
-
-among_with_pair : (names : List (List ℕ)) (groups : Groups) (id name : List ℕ) → among names name ≡ true → groups_are_among names groups ≡ true → groups_are_among names (with_pair groups (id, name)) ≡ true
-among_with_pair names [] id name is e = and_from (among names name && true) true (and_from (among names name) true is refl) refl
-among_with_pair names (group ∷ groups) id name is e =
-    let h = and_parts (list_all (among names) group.1) (groups_are_among names groups) e in
-    at (bytes_eq id group.0) h.0 h.1 (among_with_pair names groups id name is h.1)
-  where
-    at : (b : Bool) → list_all (among names) group.1 ≡ true → groups_are_among names groups ≡ true → groups_are_among names (with_pair groups (id, name)) ≡ true
-        → groups_are_among names (cond b ((group.0, group.1 ++ name ∷ []) ∷ groups) (group ∷ with_pair groups (id, name))) ≡ true
-    at true here behind later =
-        and_from (list_all (among names) (group.1 ++ name ∷ [])) (groups_are_among names groups)
-        (list_all-append (among names) group.1 (name ∷ []) ∙ and_from (list_all (among names) group.1) _ here (and_from (among names name) true is refl)) behind
-    at false here behind later = and_from (list_all (among names) group.1) (groups_are_among names (with_pair groups (id, name))) here later
 
 -- ---- what was read, with one pair more
 
@@ -123,15 +99,13 @@ paired old new known pairs id name number place a b c d e h =
     let ids_after : new.ids ≡ with_name ids id = c ∙ ap (λ is. with_name is id) h.ids in
     let at_place : place ≡ number_in ids id = d ∙ ap (λ is. number_in is id) ids_after ∙ number_stays ids id in
     let its_number : number ≡ number_in (with_name before name) name = b ∙ ap (λ ns. number_in ns name) after in
-    let stay : map (λ group. group.items) old.groups.items ≡ numbers_of (with_name before name) (gather pairs) = h.groups ∙ sym (groups_stay before name (gather pairs) h.among) in
+    let stay : map (λ group. group.items) old.groups.items ≡ numbers_of (with_name before name) (gather pairs) = h.groups ∙ sym (groups_stay before name (gather pairs) (pairs_are_numbered known pairs).1) in
     record {
       names = after ∙ sym names;
       ids = ids_after ∙ ids_more (gather pairs) id name ∙ ap (map (λ g. g.0)) (sym all);
       groups = e ∙ ap (λ gs. added_at gs place number) stay ∙ ap (λ p. added_at (numbers_of (with_name before name) (gather pairs)) p number) at_place
           ∙ ap (added_at (numbers_of (with_name before name) (gather pairs)) (number_in ids id)) its_number
           ∙ groups_more (with_name before name) (gather pairs) id name ∙ ap (λ gs. numbers_of (with_name before name) gs) (sym all) ∙ ap (λ ns. numbers_of ns (gather (pairs ++ (id, name) ∷ []))) (sym names);
-      among = ap (λ ns. groups_are_among ns (gather (pairs ++ (id, name) ∷ []))) names ∙ ap (groups_are_among (with_name before name)) all
-          ∙ among_with_pair (with_name before name) (gather pairs) id name (among_with before name) (among_goes_on before name (gather pairs) h.among);
     }
 
 pairs_more : (rows : List (List (List ℕ))) (row : List (List ℕ)) → is_nil (trimmed (field_in row 1)) ≡ false → pairs_of (rows ++ row ∷ []) ≡ pairs_of rows ++ pair_of row ∷ []

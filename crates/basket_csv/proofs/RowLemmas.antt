@@ -7,9 +7,9 @@ use Rattle.std.proofs.lemmas.List.{drop_all, at_drop_more}
 use Rattle.csv.specs.Records.{field_at}
 use Rattle.basket_read.specs.Fimi.{is_nil}
 use Rattle.basket_csv.specs.Field.{trimmed}
-use Rattle.basket_csv.specs.Names.{with_name, number_in, IsKnown}
+use Rattle.basket_csv.specs.Names.{with_name, number_in, IsKnown, is_among}
 use Rattle.basket_csv.specs.Row.{IsKnownField}
-use Rattle.basket_csv.proofs.NamesLemmas.{among, among_with, number_in_all}
+use Rattle.basket_csv.proofs.NamesLemmas.{among_with, number_in_all}
 use Rattle.basket_csv.specs.Csv.{field_in, is_text, names_of}
 
 -- ---- the field at a place
@@ -108,7 +108,7 @@ module _ (fields : List (List ℕ)) (first place : ℕ) (before names : List (Li
       let rest = names_of (drop (place + 1) fields) in
       let same = names_go_on fields place below some in
       let later : all ≡ fold with_name new rest = h.names ∙ ap (fold with_name names) same ∙ ap (λ ns. fold with_name ns rest) (sym e) in
-      let is_among = ap (λ ns. among ns name) e ∙ among_with names name in
+      let is_among = ap (λ ns. is_among ns name) e ∙ among_with names name in
       let stays : number_in all name ≡ number = ap (λ ns. number_in ns name) later ∙ number_in_all new rest name is_among ∙ sym n in
       record {
         text = more_text;

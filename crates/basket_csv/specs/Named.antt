@@ -1,25 +1,16 @@
 -- Baskets of names, whose supports need no numbers.
 use Rattle.std.specs.Prelude.{◌≡◌, ℕ, ◌+◌, IsTrue, Bool, false, if◌then◌else◌, List, [], ◌∷◌, ◌++◌, map, unwrap_or}
-use Rattle.std.specs.List.{list_all, list_any, flat_map, sum_by}
-use Rattle.std.specs.Str.{bytes_eq}
+use Rattle.std.specs.List.{list_all, flat_map, sum_by}
 use Rattle.basket_sets.specs.declared.weighted.Weighted.{Weighted}
 use Rattle.basket_sets.specs.Itemset.{rising}
 use Rattle.basket_sets.specs.Support.{support_of}
 use Rattle.basket_read.specs.Fimi.{basket_of_numbers}
 use Rattle.basket_csv.specs.Csv.{names_in, weight_of, all_names, baskets_in, gather, names_of_pairs, baskets_of_pairs}
-use Rattle.basket_csv.specs.Names.{in_order, number_in}
+use Rattle.basket_csv.specs.Names.{are_among, in_order, number_in}
 
 -- some names and a weight
 abbrev pub NamedBasket : Type 0
 NamedBasket = List (List ℕ) × ℕ
-
--- whether a name is among some names
-abbrev pub is_among : List (List ℕ) → List ℕ → Bool
-is_among names name = list_any (bytes_eq name) names
-
--- whether each name of a set is among some names
-abbrev pub are_among : List (List ℕ) → List (List ℕ) → Bool
-are_among names set = list_all (is_among names) set
 
 -- whether a basket of these names has a name, and has each name of a set
 abbrev pub has_all : List (List ℕ) → List (List ℕ) → Bool
