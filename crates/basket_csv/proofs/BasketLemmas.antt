@@ -2,8 +2,7 @@
 use Rattle.std.proofs.Common.{◌≡◌, ℕ, Bool, true, false, cond, List, [], ◌∷◌, ◌++◌, map, drop, fold, Some, None, Result, Ok, Err, unwrap_or, refl, sym, ap, ◌∙◌, subst, append-nil, append_assoc}
 use Rattle.std.specs.List.{flat_map, list_all}
 use Rattle.std.specs.Result.{MatchResult, OnOk, IfErr}
-use Rattle.std.specs.Str.{is_utf8}
-use Rattle.std.proofs.lemmas.Bool.{and_parts, and_left}
+use Rattle.std.proofs.lemmas.Bool.{and_parts}
 use Rattle.std.proofs.lemmas.List.Concat.{flat_map-append}
 use Rattle.std.proofs.lemmas.List.Folds.{list_all-append}
 use Rattle.std.proofs.lemmas.List.Sums.{fold-append}
@@ -16,14 +15,10 @@ use Rattle.basket_read.specs.Text.{Tells}
 use Rattle.basket_csv.specs.declared.baskets.Baskets.{Baskets}
 use Rattle.basket_csv.specs.Baskets.{HasRead}
 use Rattle.basket_csv.specs.RecordCollector.{Start}
-use Rattle.basket_csv.specs.Csv.{field_in, is_text, names_of, fields_before, names_in, weight_of, weight_fault, basket_fault, all_names, basket_of, baskets_in}
+use Rattle.basket_csv.specs.Csv.{is_text, names_of, fields_before, names_in, weight_of, weight_fault, basket_fault, all_names, basket_of, baskets_in}
 use Rattle.basket_csv.specs.GatheredBaskets.{HasGathered}
 use Rattle.basket_csv.specs.Names.{with_name, in_order, number_in, is_among, are_among}
 use Rattle.basket_csv.proofs.NamesLemmas.{numbers_stay, all_among}
-
-pub no_text_first : (fields : List (List ℕ)) → is_utf8 (field_in fields 0) ≡ false → is_utf8 [] ≡ true → is_text fields ≡ false
-no_text_first [] e nothing = absurd (let both : true ≡ false = sym nothing ∙ e in cc)
-no_text_first (field ∷ fields) e nothing = and_left (is_utf8 field) (is_text fields) e
 
 -- ---- one record more
 

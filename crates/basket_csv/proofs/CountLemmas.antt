@@ -1,22 +1,16 @@
 -- The counted sets of records, one after another.
-use Rattle.std.proofs.Common.{◌≡◌, ℕ, ◌+◌, true, false, cond, List, [], ◌∷◌, ◌++◌, length, map, drop, fold, Some, unwrap_or, refl, sym, ap, ◌∙◌, arith}
+use Rattle.std.proofs.Common.{◌≡◌, ℕ, ◌+◌, true, List, [], ◌∷◌, ◌++◌, length, map, drop, fold, Some, unwrap_or, refl, sym, ap, ◌∙◌, arith}
 use Rattle.std.proofs.lemmas.Bool.{and_parts}
 use Rattle.std.proofs.lemmas.List.Folds.{list_all-append}
 use Rattle.basket_sets.specs.Itemset.{rising}
 use Rattle.basket_read.specs.declared.counted_line.CountedLine.{CountedLine}
-use Rattle.basket_read.specs.declared.fault.ReadFault.TheVariants.{NotText}
 use Rattle.basket_csv.specs.declared.counts.Counts.{Counts}
 use Rattle.basket_csv.specs.RecordCollector.{Start}
-use Rattle.basket_csv.specs.Counts.{HasCounts, count_of, count_fault, set_fault, line_of, lines_from}
-use Rattle.basket_csv.specs.Csv.{is_text, names_of, names_in, all_names}
+use Rattle.basket_csv.specs.Counts.{HasCounts, count_of, line_of, lines_from}
+use Rattle.basket_csv.specs.Csv.{names_of, names_in, all_names}
 use Rattle.basket_csv.specs.Names.{with_name, in_order, number_in, is_among, are_among}
 use Rattle.basket_csv.proofs.BasketLemmas.{names_more, read_among}
 use Rattle.basket_csv.proofs.NamesLemmas.{numbers_stay}
-
--- ---- the fault of a record
-
-pub not_text : (nth : ℕ) (row : List (List ℕ)) → is_text row ≡ false → set_fault nth row ≡ Some (NotText nth)
-not_text nth row e = ap (λ b. cond b (count_fault nth (count_of row)) (Some (NotText nth))) e
 
 -- ---- one record more
 

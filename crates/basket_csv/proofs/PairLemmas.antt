@@ -1,27 +1,25 @@
 -- Pairs of an id and a name, one after another.
-use Rattle.std.proofs.Common.{◌≡◌, ℕ, zero, suc, ◌+◌, ◌≤◌, ◌<◌, Bool, true, false, cond, not, ◌||◌, List, [], ◌∷◌, ◌++◌, length, map, filter, fold, set, get_or, ltb, Some, None, Result, refl, sym, ap, ◌∙◌, subst, append_assoc, arith}
+use Rattle.std.proofs.Common.{◌≡◌, ℕ, zero, suc, ◌+◌, ◌≤◌, ◌<◌, Bool, true, false, cond, not, ◌||◌, List, [], ◌∷◌, ◌++◌, length, map, filter, fold, set, get_or, None, Result, refl, sym, ap, ◌∙◌, subst, append_assoc, arith}
 use Rattle.std.specs.List.{flat_map, list_any}
 use Rattle.std.specs.Result.{OnOk}
 use Rattle.std.specs.Str.{bytes_eq, is_utf8}
-use Rattle.std.proofs.lemmas.Bool.{and_parts, and_left, and_right}
+use Rattle.std.proofs.lemmas.Bool.{and_parts}
 use Rattle.std.proofs.lemmas.List.{length-map, map-append}
 use Rattle.std.proofs.lemmas.List.Elements.{filter-append}
 use Rattle.std.proofs.lemmas.List.Folds.{flat_map-map}
 use Rattle.std.proofs.lemmas.List.Filters.{length-filter_both}
 use Rattle.std.proofs.lemmas.List.Sums.{fold-append}
 use Rattle.basket_read.specs.declared.fault.ReadFault.{ReadFault}
-use Rattle.basket_read.specs.declared.fault.ReadFault.TheVariants.{NotText, ShortRecord}
 use Rattle.basket_read.specs.Fimi.{basket_of_numbers, is_nil}
 use Rattle.basket_csv.specs.declared.pairs.Pairs.{Pairs}
-use Rattle.basket_csv.specs.Csv.{field_in, is_text, pair_fault, pair_of, pairs_of, with_pair, gather, names_of_pairs}
+use Rattle.basket_csv.specs.Csv.{field_in, pair_fault, pair_of, pairs_of, with_pair, gather, names_of_pairs}
 use Rattle.basket_csv.specs.Field.{trimmed}
 use Rattle.basket_csv.specs.Names.{with_name, in_order, number_in, are_among}
 use Rattle.basket_csv.specs.Row.{IsKnownPair}
 use Rattle.basket_csv.specs.Named.{NamedBasket, are_named}
 use Rattle.basket_csv.specs.Pairs.{HasPairs, added_at, numbers_of}
 use Rattle.basket_csv.proofs.NamedLemmas.{pairs_are_numbered}
-use Rattle.basket_csv.proofs.BasketLemmas.{no_text_first}
-use Rattle.basket_csv.proofs.RowLemmas.{known_some, nothing_is_text}
+use Rattle.basket_csv.proofs.RowLemmas.{known_some}
 use Rattle.basket_csv.proofs.NamesLemmas.{consed, numbers_stay, number_stays}
 
 -- ---- a number that was added to a group
@@ -144,27 +142,13 @@ pub all_baskets : {A : Type 0} (f : A → List ℕ) (groups : List A) (names : L
 all_baskets f groups names gathered e =
     sym (flat_map-map (λ numbers. basket_of_numbers numbers 1) f groups) ∙ ap (flat_map (λ numbers. basket_of_numbers numbers 1)) e ∙ flat_map-map (λ numbers. basket_of_numbers numbers 1) (λ group. map (number_in names) group.1) gathered
 
--- ---- records that are text, and others
+-- ---- records of two fields
 
 pub no_fault : (nth : ℕ) (row : List (List ℕ)) → length row ≡ 2 → is_utf8 (field_in row 0) ≡ true → is_utf8 (field_in row 1) ≡ true → pair_fault nth row ≡ None
 no_fault nth [] two id name = absurd (omega (arith, two))
 no_fault nth (field ∷ []) two id name = absurd (omega (arith, two))
 no_fault nth (field ∷ other ∷ []) two id name = rw (id, name) refl
 no_fault nth (field ∷ other ∷ more ∷ fields) two id name = absurd (omega (arith, two))
-
-no_pair : (nth : ℕ) (row : List (List ℕ)) → is_text row ≡ false → pair_fault nth row ≡ Some (NotText nth)
-no_pair nth row e = ap (λ b. cond b (cond (ltb (length row) 2) (Some (ShortRecord nth)) None) (Some (NotText nth))) e
-
-pub first_is_no_text : (nth : ℕ) (row : List (List ℕ)) → is_utf8 (field_in row 0) ≡ false → pair_fault nth row ≡ Some (NotText nth)
-first_is_no_text nth row e = no_pair nth row (no_text_first row e nothing_is_text)
-
-pub second_is_no_text : (nth : ℕ) (row : List (List ℕ)) → is_utf8 (field_in row 1) ≡ false → pair_fault nth row ≡ Some (NotText nth)
-second_is_no_text nth row e = no_pair nth row (second row e)
-  where
-    second : (fields : List (List ℕ)) → is_utf8 (field_in fields 1) ≡ false → is_text fields ≡ false
-    second [] f = absurd (let both : true ≡ false = sym nothing_is_text ∙ f in cc)
-    second (field ∷ []) f = absurd (let both : true ≡ false = sym nothing_is_text ∙ f in cc)
-    second (field ∷ other ∷ fields) f = and_right (is_utf8 field) (is_text (other ∷ fields)) (and_left (is_utf8 other) (is_text fields) f)
 
 -- ---- how many groups there are
 
