@@ -59,7 +59,7 @@ baskets_more weighted known rows row =
 abbrev pub FaultIs : {X : Type 0} → Result X ReadFault → Bool → ℕ → List (List ℕ) → Type 0
 FaultIs r weighted nth row = MatchResult r (λ _. basket_fault weighted nth row ≡ None) (λ fault. Tells fault (basket_fault weighted nth row))
 
--- how many fields stand before the names, as a number of the code's
+-- how many fields come before the names, as a number in the code
 pub before_names : (weighted : Bool) (first : ℕ) → first ≡ bool_byte weighted → first ≡ fields_before weighted
 before_names true first e = e
 before_names false first e = e
@@ -73,7 +73,7 @@ no_fault weighted nth row first weight (Ok x) f text whole w err =
     let is : is_text row ≡ true = whole ∙ ap (λ n. is_text (drop n row)) (sym f) ∙ sym text in
     ap (λ b. cond b (weight_fault nth (weight_of weighted row)) (Some (NotText nth))) is ∙ ap (weight_fault nth) (sym w)
 
--- a record was added: its basket stands behind those before
+-- a record was added: its basket comes after those before
 pub added : {X : Type 0} (old new : Baskets) (start : Start) (rows : List (List (List ℕ))) (row : List (List ℕ)) (first weight : ℕ) (numbers : List ℕ) (r : Result X ReadFault)
     → first ≡ fields_before old.weighted → Some weight ≡ weight_of old.weighted row → new.weighted ≡ old.weighted
     → new.names ≡ fold with_name old.names (names_of (drop first row)) → numbers ≡ map (number_in new.names) (names_of (drop first row))

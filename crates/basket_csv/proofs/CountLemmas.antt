@@ -40,7 +40,7 @@ lines_more known nth rows row =
     ∙ ap (λ ls. ls ++ line_of new (nth + length rows) row ∷ [])
     (ap (λ ns. lines_from ns nth rows) (names_more true known rows row) ∙ lines_stay (in_order (known ++ all_names true rows)) (names_in true row) nth rows (read_among known (all_names true rows)))
 
--- a record was added: its set stands behind those before
+-- a record was added: its set comes after those before
 pub counted : (old new : Counts) (start : Start) (rows : List (List (List ℕ))) (row : List (List ℕ)) (line : CountedLine)
     → start.first + length rows ≡ line.line → Some line.count ≡ count_of row
     → new.names ≡ fold with_name old.names (names_of (drop 1 row)) → line.set ≡ rising (map (number_in new.names) (names_of (drop 1 row)))

@@ -41,7 +41,7 @@ same_number names other name o n = at (bytes_eq name other) refl
         ne_eqb (number_in names other) (number_in names name)
         (λ same. both_ways (bytes_eq name other) e ((bytes_eq-Decides name other).1 (sym (name_at names name n) ∙ ap (λ k. get_or names k []) (sym same) ∙ name_at names other o)))
 
--- a basket of numbers has a name's number where the basket of names has the name
+-- a basket of numbers has a name's number if the basket of names has the name, and only then
 has_number : (names basket : List (List ℕ)) (name : List ℕ) → are_among names basket ≡ true → is_among names name ≡ true → has (map (number_in names) basket) (number_in names name) ≡ is_among basket name
 has_number names [] name all n = refl
 has_number names (other ∷ basket) name all n =

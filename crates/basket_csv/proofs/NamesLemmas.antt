@@ -106,7 +106,7 @@ new_place keys new_keys key names name place view text new e =
     let old : place ≡ number_in names name = e ∙ sym (place_of_map string_bytes (bytes_eq (string_bytes key)) keys) ∙ ap (λ ns. number_in ns (string_bytes key)) (sym view) ∙ ap (number_in names) text in
     (same, old ∙ sym (number_stays names name) ∙ ap (λ ns. number_in ns name) (sym same))
 
--- among keys of which no two are equal, a key's place is the one at which it stands
+-- among keys of which no two are equal, a key's place is the one at which it is found
 own_place : {K : Type 0} {eq : K → K → Bool} → IsEquivalence eq → (keys : List K) (place : ℕ) (key : K) → IsDistinct eq keys → slice_get keys place ≡ Some key → position_or_len (eq key) keys ≡ place
 own_place laws [] place key d e = absurd (true≢false (sym (ap is_some e)))
 own_place {K} {eq} laws (k ∷ keys) zero key d e =
@@ -118,7 +118,7 @@ own_place {K} {eq} laws (k ∷ keys) (suc place) key d e =
     let rest = own_place laws keys place key (IsDistinct-tail eq k keys d) e in
     ap (λ b. cond (not b) (1 + position_or_len (eq key) keys) 0) other ∙ omega (arith, rest)
 
--- the place of a name that stands at it
+-- the place of a name that is found at it
 pub place_of_key : {Z : Type 0} (keys : List (String Z)) (names : List (List ℕ)) (key : String Z) (place : ℕ)
     → names ≡ map string_bytes keys → IsDistinct string_eq keys → slice_get keys place ≡ Some key
     → (names ≡ with_name names (string_bytes key)) × (place ≡ number_in names (string_bytes key))
@@ -128,7 +128,7 @@ place_of_key keys names key place view distinct e =
     known_place keys names (string_bytes key) place view
     (ap (λ b. cond b (Some (position_or_len (string_eq key) keys)) None) (lt-ltb (position_or_len (string_eq key) keys) (length keys) (omega arith)) ∙ ap Some at)
 
--- what is answered of a name that stands at a place: the place, if it is the name that was asked for
+-- what is returned of a name that is found at a place: the place, if it is the name that was asked for
 pub place_if_same : {Z : Type 0} (keys : List (String Z)) (names : List (List ℕ)) (name : List ℕ) (key : String Z) (place : ℕ) (same : Bool)
     → names ≡ map string_bytes keys → IsDistinct string_eq keys → slice_get keys place ≡ Some key → IsUtf8 (string_bytes key) → same ≡ bytes_eq (string_bytes key) name
     → IfSome (then_some same place) (IsKnown names name)

@@ -18,8 +18,8 @@ module _ {X Y : Type 0} (finds : X → Result Y ReadFault → Type 0) (result : 
   faultless found said e h = subst (λ o. AnswersBy finds result (if_faultless o said)) (sym e) h
 
   -- one has
-  pub faulty : (told fault : ReadFault) (found : Option ReadFault) (said : Result Y ReadFault) → result ≡ Err told → told ≡ fault → Tells fault found → AnswersBy finds result (if_faultless found said)
-  faulty told fault found said e f tells =
+  pub faulty : (returned fault : ReadFault) (found : Option ReadFault) (said : Result Y ReadFault) → result ≡ Err returned → returned ≡ fault → Tells fault found → AnswersBy finds result (if_faultless found said)
+  faulty returned fault found said e f tells =
       subst (λ r. AnswersBy finds r (if_faultless found said)) (sym (e ∙ ap Err f)) (λ some. ap (λ o. if_faultless o said) (tells some))
 
   -- all bytes of a reader were taken in, which are not too many
@@ -33,16 +33,16 @@ module _ {X Y : Type 0} (finds : X → Result Y ReadFault → Type 0) (result : 
 
 -- a fault was passed on, of what more is said of
 pub passed_on : {X Y Z W : Type 0} (finds : X → Result Y ReadFault → Type 0) (first : Z → Result W ReadFault → Type 0) (more : Result W ReadFault → Result Y ReadFault)
-    (result : Result X ReadFault) (inner : Result Z ReadFault) (told fault : ReadFault) (said : Result W ReadFault)
-    → more (Err fault) ≡ Err fault → result ≡ Err told → told ≡ fault → inner ≡ Err fault → AnswersBy first inner said → AnswersBy finds result (more said)
-passed_on finds first more result inner told fault said same e f is h =
+    (result : Result X ReadFault) (inner : Result Z ReadFault) (returned fault : ReadFault) (said : Result W ReadFault)
+    → more (Err fault) ≡ Err fault → result ≡ Err returned → returned ≡ fault → inner ≡ Err fault → AnswersBy first inner said → AnswersBy finds result (more said)
+passed_on finds first more result inner returned fault said same e f is h =
     subst (λ r. AnswersBy finds r (more said)) (sym (e ∙ ap Err f)) (λ other. ap more (subst (λ r. AnswersBy first r said) is h other) ∙ same)
 
 -- ---- counts of baskets
 
-pub items_answered : (counting : Bool) (result : Result (ItemCounts × List (List ℕ)) ReadFault) (said : Result Named ReadFault) → AnswersBy (AreNamedCounts counting) result said → AnswersItems result said
-items_answered counting (Ok found) said (baskets, is, counted) = (baskets, is, counted.0)
-items_answered counting (Err fault) said h = h
+pub items_found : (counting : Bool) (result : Result (ItemCounts × List (List ℕ)) ReadFault) (said : Result Named ReadFault) → AnswersBy (AreNamedCounts counting) result said → AnswersItems result said
+items_found counting (Ok found) said (baskets, is, counted) = (baskets, is, counted.0)
+items_found counting (Err fault) said h = h
 
 pub light_items : (counting : Bool) (result : Result (ItemCounts × List (List ℕ)) ReadFault) (said : Result Named ReadFault) → AnswersBy (AreNamedCounts counting) result said → IfOk result (λ found. AreLightCounts found.0)
 light_items counting (Ok found) said (baskets, is, counted) = (baskets, counted.0, counted.1)

@@ -28,7 +28,7 @@ field_missing [] place e = refl
 field_missing (first ∷ fields) zero e = absurd cc
 field_missing (first ∷ fields) (suc place) e = field_missing fields place e
 
--- a field that is a known name as it stands
+-- a field that is a known name as it is
 pub known_field : (result : Option ℕ) (names : List (List ℕ)) (field found : List ℕ) → field ≡ found → trimmed found ≡ found → 0 < length found
     → IfSome result (IsKnown names found) → IfSome result (IsKnownField names field)
 known_field None names field found e is some h = tt

@@ -14,7 +14,7 @@ use Rattle.basket_csv.specs.Records.{records_of}
 
 -- ---- records
 
--- the field at a place, empty where the record has none
+-- the field at a place, empty if the record has none
 abbrev pub field_in : List (List ℕ) → ℕ → List ℕ
 field_in row place = slice_index_or row place []
 
@@ -22,15 +22,15 @@ field_in row place = slice_index_or row place []
 abbrev pub is_text : List (List ℕ) → Bool
 is_text row = list_all is_utf8 row
 
--- the records behind the header, where there is one
-abbrev pub behind_header : Bool → List (List (List ℕ)) → List (List (List ℕ))
-behind_header header rows = if header then drop 1 rows else rows
+-- the records after the header, if there is one
+abbrev pub after_header : Bool → List (List (List ℕ)) → List (List (List ℕ))
+after_header header rows = if header then drop 1 rows else rows
 
 -- the number of the first of these; the header is number 1
 abbrev pub first_number : Bool → ℕ
 first_number header = if header then 2 else 1
 
--- the fault of the first record that has one, where the first has this number
+-- the fault of the first record that has one, if the first has this number
 abbrev pub fault_from : (ℕ → List (List ℕ) → Option ReadFault) → ℕ → List (List (List ℕ)) → Option ReadFault
 fault_from fault nth [] = None
 fault_from fault nth (row ∷ rows) = or_else (fault nth row) (fault_from fault (nth + 1) rows)
@@ -43,7 +43,7 @@ if_faultless None said = said
 -- what the records of some bytes say, by the fault of each and by what records without a fault say
 abbrev pub records_say : {X : Type 0} → ℕ → Bool → (ℕ → List (List ℕ) → Option ReadFault) → (List (List (List ℕ)) → Result X ReadFault) → List ℕ → Result X ReadFault
 records_say separator header fault said bytes =
-    let rows = behind_header header (records_of separator bytes) in if_faultless (fault_from fault (first_number header) rows) (said rows)
+    let rows = after_header header (records_of separator bytes) in if_faultless (fault_from fault (first_number header) rows) (said rows)
 
 -- what the bytes of an input say
 abbrev pub bytes_say : {X : Type 0} → ℕ → Bool → (ℕ → List (List ℕ) → Option ReadFault) → (List (List (List ℕ)) → Result X ReadFault) → List ℕ → Result X ReadFault
@@ -55,7 +55,7 @@ bytes_say separator header fault said bytes = if nat_lt MOST_BYTES (length bytes
 abbrev pub names_of : List (List ℕ) → List (List ℕ)
 names_of fields = filter (λ name. not (is_nil name)) (map trimmed fields)
 
--- how many fields of a record stand before its names: that of the weight, where one is asked for
+-- how many fields of a record come before its names: that of the weight, if one is asked for
 abbrev pub fields_before : Bool → ℕ
 fields_before weighted = if weighted then 1 else 0
 
@@ -72,7 +72,7 @@ positive (Some number) = if nat_lt 0 number then Some number else None
 abbrev pub weight_written : List ℕ → Option ℕ
 weight_written text = positive (number_of MOST_NUMBER text)
 
--- the weight of a record: that in its first field, where one is asked for, else 1
+-- the weight of a record: that in its first field, if one is asked for, else 1
 abbrev pub weight_of : Bool → List (List ℕ) → Option ℕ
 weight_of weighted row = if weighted then weight_written (trimmed (field_in row 0)) else Some 1
 
@@ -129,7 +129,7 @@ pair_of row = (trimmed (field_in row 0), trimmed (field_in row 1))
 abbrev pub pairs_of : List (List (List ℕ)) → List (List ℕ × List ℕ)
 pairs_of rows = filter (λ pair. not (is_nil pair.1)) (map pair_of rows)
 
--- some ids, each with its names, and one pair more: the name joins those of its id, which stands last where it is new
+-- some ids, each with its names, and one pair more: the name joins those of its id, which comes last if it is new
 abbrev pub with_pair : List (List ℕ × List (List ℕ)) → List ℕ × List ℕ → List (List ℕ × List (List ℕ))
 with_pair [] pair = (pair.0, pair.1 ∷ []) ∷ []
 with_pair (group ∷ groups) pair = if bytes_eq pair.0 group.0 then (group.0, group.1 ++ pair.1 ∷ []) ∷ groups else group ∷ with_pair groups pair

@@ -22,6 +22,6 @@ pub record HasGathered (gathered : GatheredBaskets) (counting : Bool) (baskets :
 abbrev pub AreGathered : Bool → ItemCounts → List Weighted → Type 0
 AreGathered counting counts baskets = AreCountsOf counts baskets × (total_of baskets ≤ MOST_WEIGHT) × (counting ≡ false → counts.rest ≡ baskets)
 
--- so it is, and this is said of them
+-- the same, and these baskets are what is said
 abbrev pub Gathers : Bool → List Weighted → ItemCounts → Result (List Weighted) ReadFault → Type 0
 Gathers counting baskets counts said = (said ≡ Ok baskets) × AreGathered counting counts baskets

@@ -17,7 +17,7 @@ abbrev pub has_all : List (List ℕ) → List (List ℕ) → Bool
 has_all [] set = false
 has_all (name ∷ names) set = are_among (name ∷ names) set
 
--- what a basket adds to the support of a set: its weight where it has a name and all those of the set, else nothing
+-- what a basket adds to the support of a set: its weight if it has a name and all those of the set, else nothing
 abbrev pub named_weight_at : List (List ℕ) → NamedBasket → ℕ
 named_weight_at set basket = if has_all basket.0 set then basket.1 else 0
 
@@ -60,7 +60,7 @@ BasketsAreNumbered = (weighted : Bool) (known : List (List ℕ)) (rows : List (L
     let names = in_order (known ++ all_names weighted rows) in
     (baskets_in weighted known rows ≡ numbered names (named_baskets weighted rows)) × IsTrue (are_named names (named_baskets weighted rows))
 
--- so it is with pairs
+-- the same of pairs
 abbrev pub PairsAreNumbered : Type 0
 PairsAreNumbered = (known : List (List ℕ)) (pairs : List (List ℕ × List ℕ)) →
     let names = names_of_pairs known pairs in
@@ -71,7 +71,7 @@ abbrev pub BasketSupportIsByNames : Type 0
 BasketSupportIsByNames = (weighted : Bool) (known : List (List ℕ)) (rows : List (List (List ℕ))) (set : List (List ℕ)) → IsTrue (are_among (known ++ all_names weighted rows) set)
     → support_of (baskets_in weighted known rows) (numbered_set (in_order (known ++ all_names weighted rows)) set) ≡ named_support (named_baskets weighted rows) set
 
--- so it is with pairs
+-- the same of pairs
 abbrev pub PairSupportIsByNames : Type 0
 PairSupportIsByNames = (known : List (List ℕ)) (pairs : List (List ℕ × List ℕ)) (set : List (List ℕ)) → IsTrue (are_among (known ++ map (λ pair. pair.1) pairs) set)
     → support_of (baskets_of_pairs known pairs) (numbered_set (names_of_pairs known pairs) set) ≡ named_support (named_pairs pairs) set

@@ -6,7 +6,7 @@ ghost use Rattle.basket_read.specs.declared.fault.ReadFault.TheVariants.{Read};
 ghost use Rattle.basket_read.specs.Fimi.{MOST_BYTES};
 ghost use Rattle.basket_read.specs.Text.{Tells};
 ghost use Rattle.basket_csv.specs.RecordCollector.{Start};
-ghost use Rattle.basket_csv.specs.Csv.{fault_from, behind_header, first_number, records_say};
+ghost use Rattle.basket_csv.specs.Csv.{fault_from, after_header, first_number, records_say};
 ghost use Rattle.basket_csv.specs.Read.{AnswersBy};
 ghost use Rattle.basket_csv.specs.Records.{MOST_RECORDS, records_of, records_left, records_taken, IsReading};
 
@@ -82,10 +82,10 @@ fn add_all<C: RecordCollector>(
     requires short { length bytes.now ≤ MOST_BYTES }
     requires read { (start : Start) × (start.first ≡ first_number dialect.header) × C.has_read collector.old start [] }
     ensures fault { (start : Start) → start.first ≡ first_number dialect.header → C.has_read collector.old start [] →
-        let found = fault_from (C.fault_of start) (first_number dialect.header) (behind_header dialect.header (records_of dialect.separator bytes.now)) in
+        let found = fault_from (C.fault_of start) (first_number dialect.header) (after_header dialect.header (records_of dialect.separator bytes.now)) in
         MatchResult result (λ _. found ≡ None) (λ fault. Tells fault found) }
     ensures read { (start : Start) → start.first ≡ first_number dialect.header → C.has_read collector.old start [] →
-        OnOk result (C.has_read collector.new start (behind_header dialect.header (records_of dialect.separator bytes.now))) }
+        OnOk result (C.has_read collector.new start (after_header dialect.header (records_of dialect.separator bytes.now))) }
     ensures not_read { IfErr result (λ fault. fault ≢ Read) }
 {
     let mut records = Records::new(alloc, bytes, dialect.separator);

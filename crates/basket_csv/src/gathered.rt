@@ -90,7 +90,7 @@ impl GatheredBaskets {
         Ok(())
     }
 
-    /// The baskets, those that are past as counts, if they don't weigh too much.
+    /// All baskets, if they don't weigh too much: the counts of those that are past, and the others.
     pub fn finish(self) -> Result<ItemCounts, ReadFault>
         ensures baskets { (counting : Bool) (baskets : List Weighted) → HasGathered self counting baskets →
             AnswersBy (Gathers counting baskets) result (if_light baskets) }

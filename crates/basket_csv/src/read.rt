@@ -20,7 +20,7 @@ use basket_stream::Source;
 use std::alloc::Global;
 use std::random::RandomSource;
 
-/// Reads a CSV input to its end, where each record is a basket of names: its fields, without the
+/// Reads a CSV input to its end. Each record is a basket of names: its fields, without the
 /// spaces and tabs at their ends and without the empty ones. With `weight` the first field of each
 /// record except the header is the basket's weight. The known names keep their numbers, and new
 /// ones are numbered after them.
@@ -67,7 +67,7 @@ pub fn count_baskets<R: RandomSource, S: Source>(
     say(alloc, &bytes, dialect, baskets)
 }
 
-/// Reads a CSV input to its end, where each record is a pair: the id of a basket and a name in it,
+/// Reads a CSV input to its end. Each record is a pair: the id of a basket and a name in it,
 /// both without the spaces and tabs at their ends. A record without a name is ignored. The known
 /// names keep their numbers, and new ones are numbered after them.
 pub fn read_single<R: RandomSource, S: Source>(
@@ -89,7 +89,7 @@ pub fn read_single<R: RandomSource, S: Source>(
     say(alloc, &bytes, dialect, pairs)
 }
 
-/// Reads a CSV input to its end, where each record is a count and a set of names: its first field
+/// Reads a CSV input to its end. Each record is a count and a set of names: its first field
 /// is the count, and the others are the names, without the spaces and tabs at their ends and
 /// without the empty ones. The known names keep their numbers, and new ones are numbered after
 /// them. A set's line is the number of its record; the header, if there is one, is number 1.
