@@ -2,7 +2,7 @@
 ghost use Rattle.std.specs.Prelude.{◌≡◌, ◌≤◌, [], drop, MatchResult, IfOk, IfErr, IfSome, false};
 ghost use Rattle.csv.specs.Records.{fields_of};
 ghost use Rattle.basket_csv.specs.RecordCollector.{Start};
-ghost use Rattle.basket_csv.specs.Csv.{Named, is_text, weight_of, fields_before, basket_fault, baskets_said};
+ghost use Rattle.basket_csv.specs.Csv.{Named, is_text, weight_of, weight_written, fields_before, basket_fault, baskets_said};
 ghost use Rattle.basket_csv.specs.Baskets.{AreNamedCounts, HasRead};
 
 use crate::collector::RecordCollector;
@@ -11,10 +11,19 @@ use crate::gathered::GatheredBaskets;
 use crate::names::{Names, Numbering};
 use crate::row::{number_names, text_at};
 use crate::seed::Seed;
-use crate::weight::weight_in;
 use basket_read::{ItemCounts, ReadFault};
+use basket_sets::parse_number;
 use csv::ByteRecord;
 use std::alloc::Global;
+
+/// The weight that a text writes: digits of a value from 1 on.
+fn weight_in(text: &[u8]) -> Option<u32>
+    ensures read { result ≡ weight_written text.now }
+    ensures some { IfSome result (λ weight. 1 ≤ weight) }
+{
+    let weight = parse_number(text, u64::from(u32::MAX))?;
+    (weight > 0).then_some(weight as u32)
+}
 
 /// The weight of a record, if it has one: that in its first field, if one is asked for, else 1.
 fn weight_of(weighted: bool, nth: u32, row: &ByteRecord) -> Result<Option<u32>, ReadFault>

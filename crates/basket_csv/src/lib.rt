@@ -19,7 +19,6 @@ mod recent;
 mod records;
 mod row;
 mod seed;
-mod weight;
 pub mod worked;
 
 pub use dialect::Dialect;
