@@ -22,7 +22,7 @@ module _ {X Y : Type 0} (finds : X → Result Y ReadFault → Type 0) (result : 
   faulty returned fault found said e f tells =
       subst (λ r. AnswersBy finds r (if_faultless found said)) (sym (e ∙ ap Err f)) (λ some. ap (λ o. if_faultless o said) (tells some))
 
-  -- all bytes of a reader were taken in, which are not too many
+  -- all bytes of a reader were taken in, and they are not too many
   pub exact : (left : Option (List ℕ)) (bytes items : List ℕ) (say : List ℕ → Result Y ReadFault) → bytes ≡ items → length items ≤ MOST_BYTES → IfSome left (λ all. all ≡ items)
       → AnswersBy finds result (say bytes) → IfSome left (λ all. AnswersBy finds result (cond (nat_lt MOST_BYTES (length all)) (Err TooLong) (say all)))
   exact None bytes items say same short taken h = tt
@@ -31,7 +31,7 @@ module _ {X Y : Type 0} (finds : X → Result Y ReadFault → Type 0) (result : 
       let few : length all ≤ MOST_BYTES = subst (λ bs. length bs ≤ MOST_BYTES) (sym taken) short in
       rw (le-ltb MOST_BYTES (length all) few) (subst (λ bs. AnswersBy finds result (say bs)) is h)
 
--- a fault was passed on, of what more is said of
+-- the fault of a first result is returned, and more is said of what is said there
 pub passed_on : {X Y Z W : Type 0} (finds : X → Result Y ReadFault → Type 0) (first : Z → Result W ReadFault → Type 0) (more : Result W ReadFault → Result Y ReadFault)
     (result : Result X ReadFault) (inner : Result Z ReadFault) (returned fault : ReadFault) (said : Result W ReadFault)
     → more (Err fault) ≡ Err fault → result ≡ Err returned → returned ≡ fault → inner ≡ Err fault → AnswersBy first inner said → AnswersBy finds result (more said)

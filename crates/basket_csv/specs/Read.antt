@@ -9,7 +9,7 @@ use Rattle.basket_read.specs.ItemCounts.{AreCountsOf}
 use Rattle.basket_csv.specs.Counts.{NamedCounts}
 use Rattle.basket_csv.specs.Csv.{Named}
 
--- except if memory is out, what is found is what is said by this relation, and a fault is the one that is said
+-- except if memory is out, what is found fits what is said, and a fault is the one that is said
 abbrev pub AnswersBy : {X Y : Type 0} → (X → Result Y ReadFault → Type 0) → Result X ReadFault → Result Y ReadFault → Type 0
 AnswersBy finds (Ok found) said = finds found said
 AnswersBy finds (Err fault) said = fault ≢ Memory → said ≡ Err fault

@@ -32,7 +32,7 @@ pub trait RecordCollector {
     // What records without a fault say.
     ghost said_of: { Start → List (List (List ℕ)) → Result Said ReadFault };
 
-    // Whether this may be found, with these names, if that is said.
+    // What is found, with the names, fits what is said.
     ghost finds: { Start → Self.Found × List (List ℕ) → Result Said ReadFault → Type 0 };
 
     // These are the records that were added.
