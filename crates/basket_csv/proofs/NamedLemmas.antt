@@ -1,10 +1,10 @@
 -- Supports of names and of their numbers.
-use Rattle.std.proofs.Common.{◌≡◌, ℕ, suc, ◌+◌, Bool, true, false, cond, not, eqb, ◌&&◌, ◌||◌, List, [], ◌∷◌, ◌++◌, map, filter, get_or, unwrap_or, refl, sym, ap, ◌∙◌, arith}
+use Rattle.std.proofs.Common.{◌≡◌, ℕ, ◌+◌, Bool, true, false, cond, eqb, ◌&&◌, ◌||◌, List, [], ◌∷◌, ◌++◌, map, filter, get_or, unwrap_or, refl, sym, ap, ◌∙◌, arith}
 use Rattle.std.specs.List.{flat_map, list_all}
 use Rattle.std.specs.Str.{bytes_eq}
 use Rattle.std.proofs.lemmas.Bool.{and_parts, and_from, both_ways, eq-eqb, ne_eqb}
 use Rattle.std.proofs.lemmas.List.Folds.{list_all-append, flat_map-map}
-use Rattle.std.proofs.lemmas.List.Sums.{sum_by-cons, sum_by-append}
+use Rattle.std.proofs.lemmas.List.Sums.{passes_at_first, sum_by-cons, sum_by-append}
 use Rattle.std.proofs.lemmas.Slice.Eq.{bytes_eq-Decides}
 use Rattle.basket_sets.specs.Itemset.{has, contains, rising}
 use Rattle.basket_sets.specs.Support.{support_of}
@@ -17,20 +17,12 @@ use Rattle.basket_csv.specs.Named.{NamedBasket, are_named, has_all, named_weight
 use Rattle.basket_csv.specs.Names.{in_order, number_in, is_among, are_among}
 use Rattle.basket_csv.proofs.BasketLemmas.{read_among}
 use Rattle.basket_csv.proofs.LawLemmas.{by_id}
-use Rattle.basket_csv.proofs.NamesLemmas.{all_among}
+use Rattle.basket_csv.proofs.NamesLemmas.{all_among, at_any}
 
 -- ---- names of equal numbers are equal
 
 name_at : (names : List (List ℕ)) (name : List ℕ) → is_among names name ≡ true → get_or names (number_in names name) [] ≡ name
-name_at [] name e = absurd cc
-name_at (first ∷ names) name e = at (bytes_eq name first) refl (name_at names name) e
-  where
-    at : (b : Bool) → bytes_eq name first ≡ b → (is_among names name ≡ true → get_or names (number_in names name) [] ≡ name) → (b || is_among names name) ≡ true
-        → get_or (first ∷ names) (cond (not b) (1 + number_in names name) 0) [] ≡ name
-    at true f later e = sym ((bytes_eq-Decides name first).0 f)
-    at false f later e =
-        let next : 1 + number_in names name ≡ suc (number_in names name) = omega arith in
-        ap (λ n. get_or (first ∷ names) n []) next ∙ later e
+name_at names name e = sym ((bytes_eq-Decides name _).0 (passes_at_first (bytes_eq name) names [] (at_any (bytes_eq name) names e)))
 
 same_number : (names : List (List ℕ)) (other name : List ℕ) → is_among names other ≡ true → is_among names name ≡ true → eqb (number_in names other) (number_in names name) ≡ bytes_eq name other
 same_number names other name o n = at (bytes_eq name other) refl

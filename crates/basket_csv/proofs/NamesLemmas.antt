@@ -9,7 +9,8 @@ use Rattle.std.specs.String.{string_bytes, string_eq, string_eq_equiv}
 use Rattle.std.proofs.lemmas.Bool.{true≢false, ltb-true, lt-ltb, eqb-true, or_left, or_right, and_parts, and_from}
 use Rattle.std.proofs.lemmas.List.{map-append}
 use Rattle.std.proofs.lemmas.List.Elements.{All-from_recursion}
-use Rattle.std.proofs.lemmas.List.Folds.{position_or_len_push, list_any-append}
+use Rattle.std.proofs.lemmas.List.Folds.{position_or_len_push, list_any-append, list_any_at}
+use Rattle.std.proofs.lemmas.List.Sums.{passes_at_first}
 use Rattle.std.proofs.lemmas.Map.Keys.{IsDistinct-head, IsDistinct-tail}
 use Rattle.std.proofs.lemmas.Option.{slice_get_within, get_or_from_slice_get}
 use Rattle.std.proofs.lemmas.Slice.Eq.{bytes_eq-Decides}
@@ -31,13 +32,9 @@ place_of_map f p (x ∷ xs) = ap (λ n. cond (not (p (f x))) (1 + n) 0) (place_o
 
 any_at : {X : Type 0} (p : X → Bool) (xs : List X) → position_or_len p xs < length xs → list_any p xs ≡ true
 any_at p [] h = absurd (omega arith)
-any_at p (x ∷ xs) h = at (p x) (any_at p xs) h
-  where
-    at : (b : Bool) → (position_or_len p xs < length xs → list_any p xs ≡ true) → cond (not b) (1 + position_or_len p xs) 0 < suc (length xs) → (b || list_any p xs) ≡ true
-    at true later h = refl
-    at false later h = later (omega arith)
+any_at p (x ∷ xs) h = list_any_at p (x ∷ xs) (position_or_len p (x ∷ xs)) x h (passes_at_first p (x ∷ xs) x h)
 
-at_any : {X : Type 0} (p : X → Bool) (xs : List X) → list_any p xs ≡ true → position_or_len p xs < length xs
+pub at_any : {X : Type 0} (p : X → Bool) (xs : List X) → list_any p xs ≡ true → position_or_len p xs < length xs
 at_any p [] e = absurd cc
 at_any p (x ∷ xs) e = at (p x) (at_any p xs) e
   where
