@@ -26,6 +26,7 @@ fn weight_in(text: &[u8]) -> Option<u32>
 }
 
 /// The weight of a record, if it has one: that in its first field, if one is asked for, else 1.
+#[tactic(auto, using(crate::proofs::RowLemmas::no_text))]
 fn weight_of(weighted: bool, nth: u32, row: &ByteRecord) -> Result<Option<u32>, ReadFault>
     ensures weight { MatchResult result
         (λ weight. (weight ≡ weight_of weighted (fields_of row.now)) × (is_text (fields_of row.now) ≡ is_text (drop (fields_before weighted) (fields_of row.now))))
