@@ -2,8 +2,7 @@
 use Rattle.std.proofs.Common.{◌≡◌, ℕ, Bool, true, false, cond, List, [], ◌∷◌, ◌++◌, map, drop, fold, Some, None, Result, Ok, Err, unwrap_or, refl, sym, ap, ◌∙◌, subst, append-nil, append_assoc}
 use Rattle.std.specs.List.{flat_map, list_all}
 use Rattle.std.specs.Result.{MatchResult, OnOk, IfErr}
-use Rattle.std.specs.Str.{is_utf8}
-use Rattle.std.proofs.lemmas.Bool.{and_parts, and_left}
+use Rattle.std.proofs.lemmas.Bool.{and_parts}
 use Rattle.std.proofs.lemmas.List.Concat.{flat_map-append}
 use Rattle.std.proofs.lemmas.List.Folds.{list_all-append}
 use Rattle.std.proofs.lemmas.List.Sums.{fold-append}
@@ -16,14 +15,10 @@ use Rattle.basket_read.specs.Text.{Tells}
 use Rattle.basket_csv.specs.declared.baskets.Baskets.{Baskets}
 use Rattle.basket_csv.specs.Baskets.{HasRead}
 use Rattle.basket_csv.specs.RecordCollector.{Start}
-use Rattle.basket_csv.specs.Csv.{field_in, is_text, names_of, fields_before, names_in, weight_of, weight_fault, basket_fault, all_names, basket_of, baskets_in}
+use Rattle.basket_csv.specs.Csv.{is_text, names_of, fields_before, names_in, weight_of, weight_fault, basket_fault, all_names, basket_of, baskets_in}
 use Rattle.basket_csv.specs.GatheredBaskets.{HasGathered}
-use Rattle.basket_csv.specs.Names.{with_name, in_order, number_in}
-use Rattle.basket_csv.proofs.NamesLemmas.{among, numbers_stay, all_among}
-
-pub no_text_first : (fields : List (List ℕ)) → is_utf8 (field_in fields 0) ≡ false → is_utf8 [] ≡ true → is_text fields ≡ false
-no_text_first [] e nothing = absurd (let both : true ≡ false = sym nothing ∙ e in cc)
-no_text_first (field ∷ fields) e nothing = and_left (is_utf8 field) (is_text fields) e
+use Rattle.basket_csv.specs.Names.{with_name, in_order, number_in, is_among, are_among}
+use Rattle.basket_csv.proofs.NamesLemmas.{numbers_stay, all_among}
 
 -- ---- one record more
 
@@ -36,19 +31,19 @@ names_more weighted known rows row =
     ap (λ ns. in_order (known ++ ns)) (all_names_more weighted rows row) ∙ ap in_order (sym (append_assoc known (all_names weighted rows) (names_in weighted row)))
     ∙ fold-append with_name [] (known ++ all_names weighted rows) (names_in weighted row)
 
-baskets_stay : (weighted : Bool) (names others : List (List ℕ)) (rows : List (List (List ℕ))) → list_all (among names) (all_names weighted rows) ≡ true
+baskets_stay : (weighted : Bool) (names others : List (List ℕ)) (rows : List (List (List ℕ))) → are_among names (all_names weighted rows) ≡ true
     → flat_map (basket_of weighted (fold with_name names others)) rows ≡ flat_map (basket_of weighted names) rows
 baskets_stay weighted names others [] e = refl
 baskets_stay weighted names others (row ∷ rows) e =
-    let h = and_parts (list_all (among names) (names_in weighted row)) (list_all (among names) (all_names weighted rows)) (sym (list_all-append (among names) (names_in weighted row) (all_names weighted rows)) ∙ e) in
+    let h = and_parts (are_among names (names_in weighted row)) (are_among names (all_names weighted rows)) (sym (list_all-append (is_among names) (names_in weighted row) (all_names weighted rows)) ∙ e) in
     ap (λ ns. basket_of_numbers ns (unwrap_or (weight_of weighted row) 1) ++ flat_map (basket_of weighted (fold with_name names others)) rows) (numbers_stay names others (names_in weighted row) h.0)
     ∙ ap (λ bs. basket_of weighted names row ++ bs) (baskets_stay weighted names others rows h.1)
 
 -- each of the names is among those in order with the known ones
-pub read_among : (known names : List (List ℕ)) → list_all (among (in_order (known ++ names))) names ≡ true
+pub read_among : (known names : List (List ℕ)) → list_all (is_among (in_order (known ++ names))) names ≡ true
 read_among known names =
-    let all = list_all (among (in_order (known ++ names))) in
-    (and_parts (all known) (all names) (sym (list_all-append (among (in_order (known ++ names))) known names) ∙ all_among [] (known ++ names))).1
+    let all = list_all (is_among (in_order (known ++ names))) in
+    (and_parts (all known) (all names) (sym (list_all-append (is_among (in_order (known ++ names))) known names) ∙ all_among [] (known ++ names))).1
 
 baskets_more : (weighted : Bool) (known : List (List ℕ)) (rows : List (List (List ℕ))) (row : List (List ℕ))
     → baskets_in weighted known (rows ++ row ∷ []) ≡ baskets_in weighted known rows ++ basket_of weighted (in_order (known ++ all_names weighted (rows ++ row ∷ []))) row
@@ -64,7 +59,7 @@ baskets_more weighted known rows row =
 abbrev pub FaultIs : {X : Type 0} → Result X ReadFault → Bool → ℕ → List (List ℕ) → Type 0
 FaultIs r weighted nth row = MatchResult r (λ _. basket_fault weighted nth row ≡ None) (λ fault. Tells fault (basket_fault weighted nth row))
 
--- how many fields stand before the names, as a number of the code's
+-- how many fields come before the names, as a number in the code
 pub before_names : (weighted : Bool) (first : ℕ) → first ≡ bool_byte weighted → first ≡ fields_before weighted
 before_names true first e = e
 before_names false first e = e
@@ -78,8 +73,8 @@ no_fault weighted nth row first weight (Ok x) f text whole w err =
     let is : is_text row ≡ true = whole ∙ ap (λ n. is_text (drop n row)) (sym f) ∙ sym text in
     ap (λ b. cond b (weight_fault nth (weight_of weighted row)) (Some (NotText nth))) is ∙ ap (weight_fault nth) (sym w)
 
--- a record was added: its basket stands behind those before
-pub added : {S H X : Type 0} (old new : Baskets S H) (start : Start) (rows : List (List (List ℕ))) (row : List (List ℕ)) (first weight : ℕ) (numbers : List ℕ) (r : Result X ReadFault)
+-- a record was added: its basket comes after those before
+pub added : {X : Type 0} (old new : Baskets) (start : Start) (rows : List (List (List ℕ))) (row : List (List ℕ)) (first weight : ℕ) (numbers : List ℕ) (r : Result X ReadFault)
     → first ≡ fields_before old.weighted → Some weight ≡ weight_of old.weighted row → new.weighted ≡ old.weighted
     → new.names ≡ fold with_name old.names (names_of (drop first row)) → numbers ≡ map (number_in new.names) (names_of (drop first row))
     → ((counting : Bool) (baskets : List Weighted) → HasGathered old.gathered counting baskets → OnOk r (HasGathered new.gathered counting (baskets ++ basket_of_numbers numbers weight)))

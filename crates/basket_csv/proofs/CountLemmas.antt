@@ -1,44 +1,24 @@
 -- The counted sets of records, one after another.
-use Rattle.std.proofs.Common.{◌≡◌, ◌≢◌, ℕ, ◌+◌, Bool, true, false, cond, ◌&&◌, List, [], ◌∷◌, ◌++◌, length, map, drop, fold, Option, Some, None, Result, Ok, Err, Vec, unwrap_or, refl, sym, ap, ◌∙◌, subst, arith}
-use Rattle.std.specs.List.{list_all}
-use Rattle.std.specs.Str.{is_utf8}
+use Rattle.std.proofs.Common.{◌≡◌, ℕ, ◌+◌, true, List, [], ◌∷◌, ◌++◌, length, map, drop, fold, Some, unwrap_or, refl, sym, ap, ◌∙◌, arith}
 use Rattle.std.proofs.lemmas.Bool.{and_parts}
 use Rattle.std.proofs.lemmas.List.Folds.{list_all-append}
 use Rattle.basket_sets.specs.Itemset.{rising}
 use Rattle.basket_read.specs.declared.counted_line.CountedLine.{CountedLine}
-use Rattle.basket_read.specs.declared.fault.ReadFault.{ReadFault}
-use Rattle.basket_read.specs.declared.fault.ReadFault.TheVariants.{Read, NotText}
-use Rattle.basket_read.specs.Text.{Tells}
 use Rattle.basket_csv.specs.declared.counts.Counts.{Counts}
 use Rattle.basket_csv.specs.RecordCollector.{Start}
-use Rattle.basket_csv.specs.Counts.{HasCounts, NamedCounts, count_of, count_fault, set_fault, line_of, lines_from, counts_if_faultless, say_counts}
-use Rattle.basket_csv.specs.Csv.{field_in, is_text, names_of, names_in, all_names, fault_from}
-use Rattle.basket_csv.specs.Names.{with_name, in_order, number_in}
-use Rattle.basket_csv.specs.Read.{AnswersCounts}
+use Rattle.basket_csv.specs.Counts.{HasCounts, count_of, line_of, lines_from}
+use Rattle.basket_csv.specs.Csv.{names_of, names_in, all_names}
+use Rattle.basket_csv.specs.Names.{with_name, in_order, number_in, is_among, are_among}
 use Rattle.basket_csv.proofs.BasketLemmas.{names_more, read_among}
-use Rattle.basket_csv.proofs.NamesLemmas.{among, numbers_stay}
-use Rattle.basket_csv.proofs.ReadLemmas.{not_found}
-
--- ---- the fault of a record
-
--- behind a first field that is text the others decide
-pub text_behind : (row : List (List ℕ)) → is_utf8 (field_in row 0) ≡ true → is_text row ≡ is_text (drop 1 row)
-text_behind [] e = refl
-text_behind (field ∷ fields) e = ap (λ b. b && is_text fields) e
-
-pub not_text : (nth : ℕ) (row : List (List ℕ)) → is_text row ≡ false → set_fault nth row ≡ Some (NotText nth)
-not_text nth row e = ap (λ b. cond b (count_fault nth (count_of row)) (Some (NotText nth))) e
-
-pub text_fault : (nth : ℕ) (row : List (List ℕ)) (count : Option ℕ) → is_text row ≡ true → count ≡ count_of row → set_fault nth row ≡ count_fault nth count
-text_fault nth row count e f = ap (λ b. cond b (count_fault nth (count_of row)) (Some (NotText nth))) e ∙ ap (count_fault nth) (sym f)
+use Rattle.basket_csv.proofs.NamesLemmas.{numbers_stay}
 
 -- ---- one record more
 
-lines_stay : (names others : List (List ℕ)) (nth : ℕ) (rows : List (List (List ℕ))) → list_all (among names) (all_names true rows) ≡ true
+lines_stay : (names others : List (List ℕ)) (nth : ℕ) (rows : List (List (List ℕ))) → are_among names (all_names true rows) ≡ true
     → lines_from (fold with_name names others) nth rows ≡ lines_from names nth rows
 lines_stay names others nth [] e = refl
 lines_stay names others nth (row ∷ rows) e =
-    let h = and_parts (list_all (among names) (names_in true row)) (list_all (among names) (all_names true rows)) (sym (list_all-append (among names) (names_in true row) (all_names true rows)) ∙ e) in
+    let h = and_parts (are_among names (names_in true row)) (are_among names (all_names true rows)) (sym (list_all-append (is_among names) (names_in true row) (all_names true rows)) ∙ e) in
     ap (λ ns. numbered (rising ns) (unwrap_or (count_of row) 0) nth ∷ lines_from (fold with_name names others) (nth + 1) rows) (numbers_stay names others (names_in true row) h.0)
     ∙ ap (λ ls. line_of names nth row ∷ ls) (lines_stay names others (nth + 1) rows h.1)
   where
@@ -60,8 +40,8 @@ lines_more known nth rows row =
     ∙ ap (λ ls. ls ++ line_of new (nth + length rows) row ∷ [])
     (ap (λ ns. lines_from ns nth rows) (names_more true known rows row) ∙ lines_stay (in_order (known ++ all_names true rows)) (names_in true row) nth rows (read_among known (all_names true rows)))
 
--- a record was added: its set stands behind those before
-pub counted : {S H : Type 0} (old new : Counts S H) (start : Start) (rows : List (List (List ℕ))) (row : List (List ℕ)) (line : CountedLine)
+-- a record was added: its set comes after those before
+pub counted : (old new : Counts) (start : Start) (rows : List (List (List ℕ))) (row : List (List ℕ)) (line : CountedLine)
     → start.first + length rows ≡ line.line → Some line.count ≡ count_of row
     → new.names ≡ fold with_name old.names (names_of (drop 1 row)) → line.set ≡ rising (map (number_in new.names) (names_of (drop 1 row)))
     → new.lines.items ≡ old.lines.items ++ line ∷ [] → HasCounts old start rows → HasCounts new start (rows ++ row ∷ [])
@@ -76,32 +56,3 @@ counted old new start rows row line at count names set lines h =
       names = all;
       lines = lines ∙ ap (λ ls. ls ++ line ∷ []) h.lines ∙ ap (λ l. lines_from (in_order (known ++ all_names true rows)) start.first rows ++ l ∷ []) same ∙ sym (lines_more known start.first rows row);
     }
-
--- ---- what records say as a whole
-
-pub faultless_counts : {A : Type 0} (answer : Result (Vec CountedLine A × List (List ℕ)) ReadFault) (found : Option ReadFault) (lines : List CountedLine) (names : List (List ℕ))
-    → found ≡ None → AnswersCounts answer (Ok (lines, names)) → AnswersCounts answer (counts_if_faultless found lines names)
-faultless_counts answer found lines names e h = subst (λ o. AnswersCounts answer (counts_if_faultless o lines names)) (sym e) h
-
-pub faulty_counts : {A : Type 0} (answer : Result (Vec CountedLine A × List (List ℕ)) ReadFault) (told fault : ReadFault) (found : Option ReadFault) (lines : List CountedLine) (names : List (List ℕ))
-    → answer ≡ Err told → told ≡ fault → Tells fault found → AnswersCounts answer (counts_if_faultless found lines names)
-faulty_counts answer told fault found lines names e f tells =
-    subst (λ o. AnswersCounts o (counts_if_faultless found lines names)) (sym (e ∙ ap Err f)) (λ some. ap (λ o. counts_if_faultless o lines names) (tells some))
-
-not_set : (nth : ℕ) (row : List (List ℕ)) → set_fault nth row ≢ Some Read
-not_set nth row e = at (is_text row) (count_of row) e
-  where
-    at : (b : Bool) (count : Option ℕ) → cond b (count_fault nth count) (Some (NotText nth)) ≢ Some Read
-    at true (Some count) e = absurd cc
-    at true None e = absurd cc
-    at false count e = absurd cc
-
-pub counts_not_read : (nth : ℕ) (known : List (List ℕ)) (rows : List (List (List ℕ))) → say_counts nth known rows ≢ Err Read
-counts_not_read nth known rows e = at (fault_from set_fault nth rows) _ _ (not_found set_fault not_set nth rows) e
-  where
-    at : (found : Option ReadFault) (lines : List CountedLine) (names : List (List ℕ)) → found ≢ Some Read → counts_if_faultless found lines names ≢ Err Read
-    at (Some fault) lines names none e = none (let same : fault ≡ Read = cc in ap Some same)
-    at None lines names none e = absurd cc
-
-pub counts_refuted : {P A : Type 0} (answer : Result (Vec CountedLine A × List (List ℕ)) ReadFault) (said : Result NamedCounts ReadFault) → AnswersCounts answer said → said ≢ Err Read → answer ≡ Err Read → P
-counts_refuted answer said h none e = absurd (none (subst (λ r. AnswersCounts r said) e h (λ m. absurd cc)))

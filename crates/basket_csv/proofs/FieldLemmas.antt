@@ -7,7 +7,7 @@ use Rattle.std.proofs.lemmas.Str.{IsCharBoundary-after_ascii, is_utf8-from_IsUtf
 use Rattle.std.proofs.lemmas.Bool.{false_from_ne_true}
 use Rattle.std.proofs.lemmas.Bool.Decides.{nat_tests}
 use Rattle.std.specs.List.{prefix_len, suffix_len, slice_range}
-use Rattle.basket_csv.specs.Field.{is_space, front_trimmed, trimmed}
+use Rattle.basket_csv.specs.Field.{is_space, start_trimmed, trimmed}
 
 space_is_ascii : (byte : ℕ) → is_space byte ≡ true → byte < 128
 space_is_ascii byte e = grind (arith, nat_tests)
@@ -34,7 +34,7 @@ pub trim_is : (text bytes rest rest_bytes trim : List ℕ) (start end : ℕ) →
     → rest_bytes ≡ rest → end ≡ length rest_bytes - suffix_len is_space rest_bytes → trim ≡ slice_range rest 0 end → trim ≡ trimmed text
 trim_is text bytes rest rest_bytes trim start end a b d e f g =
     let at_start : start ≡ prefix_len is_space text = b ∙ ap (prefix_len is_space) a in
-    let is_rest : rest ≡ front_trimmed text = d ∙ ap (λ n. drop n text) at_start in
-    let at_end : end ≡ length (front_trimmed text) - suffix_len is_space (front_trimmed text) = f ∙ ap (λ bs. length bs - suffix_len is_space bs) (e ∙ is_rest) in
+    let is_rest : rest ≡ start_trimmed text = d ∙ ap (λ n. drop n text) at_start in
+    let at_end : end ≡ length (start_trimmed text) - suffix_len is_space (start_trimmed text) = f ∙ ap (λ bs. length bs - suffix_len is_space bs) (e ∙ is_rest) in
     let cut : slice_range rest 0 end ≡ take end rest = ap (λ n. take n rest) (omega arith) in
-    g ∙ cut ∙ ap (λ bs. take end bs) is_rest ∙ ap (λ n. take n (front_trimmed text)) at_end
+    g ∙ cut ∙ ap (λ bs. take end bs) is_rest ∙ ap (λ n. take n (start_trimmed text)) at_end

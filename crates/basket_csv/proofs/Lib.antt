@@ -1,3 +1,4 @@
+mod OnLiterals
 mod NamesLemmas
 mod KeyLemmas
 mod RecentLemmas

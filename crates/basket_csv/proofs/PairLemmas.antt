@@ -1,28 +1,26 @@
 -- Pairs of an id and a name, one after another.
-use Rattle.std.proofs.Common.{◌≡◌, ℕ, zero, suc, ◌+◌, ◌≤◌, ◌<◌, Bool, true, false, cond, not, ◌&&◌, ◌||◌, List, [], ◌∷◌, ◌++◌, length, map, filter, fold, set, get_or, ltb, Some, None, Result, Ok, Err, refl, sym, ap, ◌∙◌, subst, append_assoc, arith}
-use Rattle.std.specs.List.{flat_map, list_all, list_any}
+use Rattle.std.proofs.Common.{◌≡◌, ℕ, zero, suc, ◌+◌, ◌≤◌, ◌<◌, Bool, true, false, cond, not, ◌||◌, List, [], ◌∷◌, ◌++◌, length, map, filter, fold, set, get_or, None, Result, refl, sym, ap, ◌∙◌, subst, append_assoc, arith}
+use Rattle.std.specs.List.{flat_map, list_any}
 use Rattle.std.specs.Result.{OnOk}
 use Rattle.std.specs.Str.{bytes_eq, is_utf8}
-use Rattle.std.proofs.lemmas.Bool.{and_parts, and_from, and_left, and_right}
+use Rattle.std.proofs.lemmas.Bool.{and_parts}
 use Rattle.std.proofs.lemmas.List.{length-map, map-append}
 use Rattle.std.proofs.lemmas.List.Elements.{filter-append}
-use Rattle.std.proofs.lemmas.List.Folds.{list_all-append, flat_map-map}
+use Rattle.std.proofs.lemmas.List.Folds.{flat_map-map}
 use Rattle.std.proofs.lemmas.List.Filters.{length-filter_both}
 use Rattle.std.proofs.lemmas.List.Sums.{fold-append}
-use Rattle.basket_sets.specs.declared.weighted.Weighted.{Weighted}
 use Rattle.basket_read.specs.declared.fault.ReadFault.{ReadFault}
-use Rattle.basket_read.specs.declared.fault.ReadFault.TheVariants.{NotText, ShortRecord}
-use Rattle.basket_read.specs.Fimi.{basket_of_numbers, if_light, is_nil}
-use Rattle.basket_csv.specs.Read.{Answers}
+use Rattle.basket_read.specs.Fimi.{basket_of_numbers, is_nil}
 use Rattle.basket_csv.specs.declared.pairs.Pairs.{Pairs}
-use Rattle.basket_csv.specs.Csv.{Named, field_in, is_text, pair_fault, pair_of, pairs_of, with_names, with_pair, gather, names_of_pairs}
+use Rattle.basket_csv.specs.Csv.{field_in, pair_fault, pair_of, pairs_of, with_pair, gather, names_of_pairs}
 use Rattle.basket_csv.specs.Field.{trimmed}
-use Rattle.basket_csv.specs.Names.{with_name, in_order, number_in}
+use Rattle.basket_csv.specs.Names.{with_name, in_order, number_in, are_among}
 use Rattle.basket_csv.specs.Row.{IsKnownPair}
-use Rattle.basket_csv.specs.Pairs.{HasPairs, added_at, numbers_of, groups_are_among}
-use Rattle.basket_csv.proofs.BasketLemmas.{no_text_first}
-use Rattle.basket_csv.proofs.RowLemmas.{known_some, nothing_is_text}
-use Rattle.basket_csv.proofs.NamesLemmas.{among, among_more, among_with, numbers_stay, number_stays}
+use Rattle.basket_csv.specs.Named.{NamedBasket, are_named}
+use Rattle.basket_csv.specs.Pairs.{HasPairs, added_at, numbers_of}
+use Rattle.basket_csv.proofs.NamedLemmas.{pairs_are_numbered}
+use Rattle.basket_csv.proofs.RowLemmas.{known_some}
+use Rattle.basket_csv.proofs.NamesLemmas.{consed, numbers_stay, number_stays}
 
 -- ---- a number that was added to a group
 
@@ -43,9 +41,8 @@ group_new f (group ∷ groups) (suc place) number new all n = ap (λ gs. f group
 abbrev Groups : Type 0
 Groups = List (List ℕ × List (List ℕ))
 
-consed : {A : Type 0} (b : Bool) (x y : A) (xs : List A) → cond b (x ∷ xs) (x ∷ xs ++ y ∷ []) ≡ x ∷ cond b xs (xs ++ y ∷ [])
-consed true x y xs = refl
-consed false x y xs = refl
+abbrev baskets_of : Groups → List NamedBasket
+baskets_of groups = map (λ group. (group.1, 1)) groups
 
 ids_more : (groups : Groups) (id name : List ℕ) → with_name (map (λ g. g.0) groups) id ≡ map (λ g. g.0) (with_pair groups (id, name))
 ids_more [] id name = refl
@@ -70,36 +67,11 @@ groups_more names (group ∷ groups) id name = at (bytes_eq id group.0) (groups_
         let next : 1 + number_in (map (λ g. g.0) groups) id ≡ suc (number_in (map (λ g. g.0) groups) id) = omega arith in
         ap (λ place. added_at (map (number_in names) group.1 ∷ numbers_of names groups) place (number_in names name)) next ∙ ap (λ gs. map (number_in names) group.1 ∷ gs) later
 
-groups_stay : (names : List (List ℕ)) (name : List ℕ) (groups : Groups) → groups_are_among names groups ≡ true → numbers_of (with_name names name) groups ≡ numbers_of names groups
+groups_stay : (names : List (List ℕ)) (name : List ℕ) (groups : Groups) → are_named names (baskets_of groups) ≡ true → numbers_of (with_name names name) groups ≡ numbers_of names groups
 groups_stay names name [] e = refl
 groups_stay names name (group ∷ groups) e =
-    let h = and_parts (list_all (among names) group.1) (groups_are_among names groups) e in
+    let h = and_parts (are_among names group.1) (are_named names (baskets_of groups)) e in
     ap (λ g. g ∷ numbers_of (with_name names name) groups) (numbers_stay names (name ∷ []) group.1 h.0) ∙ ap (λ gs. map (number_in names) group.1 ∷ gs) (groups_stay names name groups h.1)
-
-all_among_more : (names : List (List ℕ)) (name : List ℕ) (some : List (List ℕ)) → list_all (among names) some ≡ true → list_all (among (with_name names name)) some ≡ true
-all_among_more names name [] e = refl
-all_among_more names name (other ∷ some) e =
-    let h = and_parts (among names other) (list_all (among names) some) e in
-    and_from (among (with_name names name) other) (list_all (among (with_name names name)) some) (among_more names other name h.0) (all_among_more names name some h.1)
-
-among_goes_on : (names : List (List ℕ)) (name : List ℕ) (groups : Groups) → groups_are_among names groups ≡ true → groups_are_among (with_name names name) groups ≡ true
-among_goes_on names name [] e = refl
-among_goes_on names name (group ∷ groups) e =
-    let h = and_parts (list_all (among names) group.1) (groups_are_among names groups) e in
-    and_from (list_all (among (with_name names name)) group.1) (groups_are_among (with_name names name) groups) (all_among_more names name group.1 h.0) (among_goes_on names name groups h.1)
-
-among_with_pair : (names : List (List ℕ)) (groups : Groups) (id name : List ℕ) → among names name ≡ true → groups_are_among names groups ≡ true → groups_are_among names (with_pair groups (id, name)) ≡ true
-among_with_pair names [] id name is e = and_from (among names name && true) true (and_from (among names name) true is refl) refl
-among_with_pair names (group ∷ groups) id name is e =
-    let h = and_parts (list_all (among names) group.1) (groups_are_among names groups) e in
-    at (bytes_eq id group.0) h.0 h.1 (among_with_pair names groups id name is h.1)
-  where
-    at : (b : Bool) → list_all (among names) group.1 ≡ true → groups_are_among names groups ≡ true → groups_are_among names (with_pair groups (id, name)) ≡ true
-        → groups_are_among names (cond b ((group.0, group.1 ++ name ∷ []) ∷ groups) (group ∷ with_pair groups (id, name))) ≡ true
-    at true here behind later =
-        and_from (list_all (among names) (group.1 ++ name ∷ [])) (groups_are_among names groups)
-        (list_all-append (among names) group.1 (name ∷ []) ∙ and_from (list_all (among names) group.1) _ here (and_from (among names name) true is refl)) behind
-    at false here behind later = and_from (list_all (among names) group.1) (groups_are_among names (with_pair groups (id, name))) here later
 
 -- ---- what was read, with one pair more
 
@@ -111,7 +83,7 @@ names_more known pairs pair =
     let names = map (λ (p : List ℕ × List ℕ). p.1) pairs in
     ap (λ ns. in_order (known ++ ns)) (map-append (λ p. p.1) pairs (pair ∷ [])) ∙ ap in_order (sym (append_assoc known names (pair.1 ∷ []))) ∙ fold-append with_name [] (known ++ names) (pair.1 ∷ [])
 
-pub paired : {S H : Type 0} (old new : Pairs S H) (known : List (List ℕ)) (pairs : List (List ℕ × List ℕ)) (id name : List ℕ) (number place : ℕ)
+pub paired : (old new : Pairs) (known : List (List ℕ)) (pairs : List (List ℕ × List ℕ)) (id name : List ℕ) (number place : ℕ)
     → new.names ≡ with_name old.names name → number ≡ number_in new.names name
     → new.ids ≡ with_name old.ids id → place ≡ number_in new.ids id
     → map (λ group. group.items) new.groups.items ≡ added_at (map (λ group. group.items) old.groups.items) place number
@@ -125,15 +97,13 @@ paired old new known pairs id name number place a b c d e h =
     let ids_after : new.ids ≡ with_name ids id = c ∙ ap (λ is. with_name is id) h.ids in
     let at_place : place ≡ number_in ids id = d ∙ ap (λ is. number_in is id) ids_after ∙ number_stays ids id in
     let its_number : number ≡ number_in (with_name before name) name = b ∙ ap (λ ns. number_in ns name) after in
-    let stay : map (λ group. group.items) old.groups.items ≡ numbers_of (with_name before name) (gather pairs) = h.groups ∙ sym (groups_stay before name (gather pairs) h.among) in
+    let stay : map (λ group. group.items) old.groups.items ≡ numbers_of (with_name before name) (gather pairs) = h.groups ∙ sym (groups_stay before name (gather pairs) (pairs_are_numbered known pairs).1) in
     record {
       names = after ∙ sym names;
       ids = ids_after ∙ ids_more (gather pairs) id name ∙ ap (map (λ g. g.0)) (sym all);
       groups = e ∙ ap (λ gs. added_at gs place number) stay ∙ ap (λ p. added_at (numbers_of (with_name before name) (gather pairs)) p number) at_place
           ∙ ap (added_at (numbers_of (with_name before name) (gather pairs)) (number_in ids id)) its_number
           ∙ groups_more (with_name before name) (gather pairs) id name ∙ ap (λ gs. numbers_of (with_name before name) gs) (sym all) ∙ ap (λ ns. numbers_of ns (gather (pairs ++ (id, name) ∷ []))) (sym names);
-      among = ap (λ ns. groups_are_among ns (gather (pairs ++ (id, name) ∷ []))) names ∙ ap (groups_are_among (with_name before name)) all
-          ∙ among_with_pair (with_name before name) (gather pairs) id name (among_with before name) (among_goes_on before name (gather pairs) h.among);
     }
 
 pairs_more : (rows : List (List (List ℕ))) (row : List (List ℕ)) → is_nil (trimmed (field_in row 1)) ≡ false → pairs_of (rows ++ row ∷ []) ≡ pairs_of rows ++ pair_of row ∷ []
@@ -143,14 +113,14 @@ pairs_more rows row some =
     ∙ ap (λ b. pairs_of rows ++ cond (not b) (pair_of row ∷ []) []) some
 
 -- a record whose pair was added
-pub pair_added : {S H X : Type 0} (new : Pairs S H) (known : List (List ℕ)) (rows : List (List (List ℕ))) (row : List (List ℕ)) (id name : List ℕ) (r : Result X ReadFault)
+pub pair_added : {X : Type 0} (new : Pairs) (known : List (List ℕ)) (rows : List (List (List ℕ))) (row : List (List ℕ)) (id name : List ℕ) (r : Result X ReadFault)
     → id ≡ trimmed (field_in row 0) → name ≡ trimmed (field_in row 1) → is_nil (trimmed (field_in row 1)) ≡ false
     → OnOk r (HasPairs new known (pairs_of rows ++ (id, name) ∷ [])) → OnOk r (HasPairs new known (pairs_of (rows ++ row ∷ [])))
 pair_added new known rows row id name r a b some h =
     subst (λ pairs. OnOk r (HasPairs new known pairs)) (ap (λ i. pairs_of rows ++ (i, name) ∷ []) a ∙ ap (λ n. pairs_of rows ++ (trimmed (field_in row 0), n) ∷ []) b ∙ sym (pairs_more rows row some)) h
 
 -- a record of a known id and a known name, whose numbers were added
-pub known_paired : {S H : Type 0} (old new : Pairs S H) (known : List (List ℕ)) (rows : List (List (List ℕ))) (row : List (List ℕ)) (place number : ℕ)
+pub known_paired : (old new : Pairs) (known : List (List ℕ)) (rows : List (List (List ℕ))) (row : List (List ℕ)) (place number : ℕ)
     → new.names ≡ old.names → new.ids ≡ old.ids → map (λ group. group.items) new.groups.items ≡ added_at (map (λ group. group.items) old.groups.items) place number
     → IsKnownPair old.ids old.names row place number → HasPairs old known (pairs_of rows) → HasPairs new known (pairs_of (rows ++ row ∷ []))
 known_paired old new known rows row place number names same groups pair h =
@@ -172,37 +142,13 @@ pub all_baskets : {A : Type 0} (f : A → List ℕ) (groups : List A) (names : L
 all_baskets f groups names gathered e =
     sym (flat_map-map (λ numbers. basket_of_numbers numbers 1) f groups) ∙ ap (flat_map (λ numbers. basket_of_numbers numbers 1)) e ∙ flat_map-map (λ numbers. basket_of_numbers numbers 1) (λ group. map (number_in names) group.1) gathered
 
--- baskets that weigh too much are refused, and others are answered
-pub refused : (r : Result (List Weighted) ReadFault) (fault told : ReadFault) (baskets : List Weighted) (names : List (List ℕ)) (answer : Result Named ReadFault)
-    → r ≡ Err fault → r ≡ if_light baskets → answer ≡ Err told → told ≡ fault → Answers answer (with_names (if_light baskets) names)
-refused r fault told baskets names answer e light a t =
-    let said : with_names (if_light baskets) names ≡ Err fault = ap (λ l. with_names l names) (sym light ∙ e) in
-    subst (λ o. Answers o (with_names (if_light baskets) names)) (sym (a ∙ ap Err t)) (λ _. said)
-
-pub answered : (r : Result (List Weighted) ReadFault) (database baskets : List Weighted) (names : List (List ℕ)) → r ≡ Ok database → r ≡ if_light baskets → with_names (if_light baskets) names ≡ Ok (database, names)
-answered r database baskets names e light = ap (λ l. with_names l names) (sym light ∙ e)
-
--- ---- records that are text, and others
+-- ---- records of two fields
 
 pub no_fault : (nth : ℕ) (row : List (List ℕ)) → length row ≡ 2 → is_utf8 (field_in row 0) ≡ true → is_utf8 (field_in row 1) ≡ true → pair_fault nth row ≡ None
 no_fault nth [] two id name = absurd (omega (arith, two))
 no_fault nth (field ∷ []) two id name = absurd (omega (arith, two))
 no_fault nth (field ∷ other ∷ []) two id name = rw (id, name) refl
 no_fault nth (field ∷ other ∷ more ∷ fields) two id name = absurd (omega (arith, two))
-
-no_pair : (nth : ℕ) (row : List (List ℕ)) → is_text row ≡ false → pair_fault nth row ≡ Some (NotText nth)
-no_pair nth row e = ap (λ b. cond b (cond (ltb (length row) 2) (Some (ShortRecord nth)) None) (Some (NotText nth))) e
-
-pub first_is_no_text : (nth : ℕ) (row : List (List ℕ)) → is_utf8 (field_in row 0) ≡ false → pair_fault nth row ≡ Some (NotText nth)
-first_is_no_text nth row e = no_pair nth row (no_text_first row e nothing_is_text)
-
-pub second_is_no_text : (nth : ℕ) (row : List (List ℕ)) → is_utf8 (field_in row 1) ≡ false → pair_fault nth row ≡ Some (NotText nth)
-second_is_no_text nth row e = no_pair nth row (second row e)
-  where
-    second : (fields : List (List ℕ)) → is_utf8 (field_in fields 1) ≡ false → is_text fields ≡ false
-    second [] f = absurd (let both : true ≡ false = sym nothing_is_text ∙ f in cc)
-    second (field ∷ []) f = absurd (let both : true ≡ false = sym nothing_is_text ∙ f in cc)
-    second (field ∷ other ∷ fields) f = and_right (is_utf8 field) (is_text (other ∷ fields)) (and_left (is_utf8 other) (is_text fields) f)
 
 -- ---- how many groups there are
 
@@ -220,7 +166,7 @@ gathered_few groups [] = omega arith
 gathered_few groups (pair ∷ pairs) = omega (arith, gathered_few (with_pair groups pair) pairs, with_pair_few groups pair)
 
 -- there are no more groups than records
-pub few_groups : {S H : Type 0} (read : Pairs S H) (known : List (List ℕ)) (rows : List (List (List ℕ))) → HasPairs read known (pairs_of rows) → length read.groups.items ≤ length rows
+pub few_groups : (read : Pairs) (known : List (List ℕ)) (rows : List (List (List ℕ))) → HasPairs read known (pairs_of rows) → length read.groups.items ≤ length rows
 few_groups read known rows has =
     let names = names_of_pairs known (pairs_of rows) in
     let groups = gather (pairs_of rows) in

@@ -1,114 +1,55 @@
--- What records say as a whole.
-use Rattle.std.proofs.Common.{◌≡◌, ◌≢◌, ◌≤◌, ℕ, ◌+◌, Bool, true, false, cond, leb, ltb, List, [], ◌∷◌, ◌++◌, length, Option, Some, None, Result, Ok, Err, refl, sym, ap, ◌∙◌, subst}
-use Rattle.std.specs.Prelude.{IfOk}
-use Rattle.std.proofs.lemmas.Bool.{leb-true}
-use Rattle.basket_sets.specs.declared.weighted.Weighted.{Weighted}
-use Rattle.basket_sets.specs.Database.{MOST_WEIGHT}
-use Rattle.basket_sets.specs.Support.{total_of}
+-- What is found, and what is said.
+use Rattle.std.proofs.Common.{◌≡◌, ◌≤◌, ℕ, Bool, false, cond, List, length, Option, Some, None, Result, Ok, Err, refl, sym, ap, ◌∙◌, subst}
+use Rattle.std.specs.Prelude.{IfOk, IfSome, nat_lt}
+use Rattle.std.proofs.lemmas.Bool.{le-ltb}
 use Rattle.basket_read.specs.declared.fault.ReadFault.{ReadFault}
-use Rattle.basket_read.specs.declared.fault.ReadFault.TheVariants.{Read, NotText, ShortRecord, Heavy}
-use Rattle.basket_read.specs.Fimi.{or_else, if_light}
-use Rattle.basket_read.specs.Text.{Tells}
+use Rattle.basket_read.specs.declared.fault.ReadFault.TheVariants.{TooLong}
 use Rattle.basket_read.specs.declared.item_counts.ItemCounts.{ItemCounts}
-use Rattle.basket_read.specs.ItemCounts.{AreLightCounts, Counts}
-use Rattle.basket_csv.specs.Csv.{Named, is_text, weight_of, weight_fault, basket_fault, fault_from, with_names, if_faultless, baskets_in, all_names, say_baskets, pair_fault, pairs_of, baskets_of_pairs, names_of_pairs, say_pairs}
-use Rattle.basket_csv.specs.Names.{in_order}
-use Rattle.basket_csv.specs.Read.{Answers, AnswersItems}
+use Rattle.basket_read.specs.Fimi.{MOST_BYTES}
+use Rattle.basket_read.specs.ItemCounts.{AreLightCounts}
+use Rattle.basket_read.specs.Text.{Tells}
+use Rattle.basket_csv.specs.Baskets.{AreNamedCounts}
+use Rattle.basket_csv.specs.Csv.{Named, if_faultless}
+use Rattle.basket_csv.specs.Read.{AnswersBy, AnswersItems}
 
--- an answer where no record has a fault
-pub faultless_answer : (answer : Result Named ReadFault) (found : Option ReadFault) (baskets : List Weighted) (names : List (List ℕ))
-    → found ≡ None → Answers answer (with_names (if_light baskets) names) → Answers answer (if_faultless found baskets names)
-faultless_answer answer found baskets names e h = subst (λ o. Answers answer (if_faultless o baskets names)) (sym e) h
+module _ {X Y : Type 0} (finds : X → Result Y ReadFault → Type 0) (result : Result X ReadFault) where
+  -- no record has a fault
+  pub faultless : (found : Option ReadFault) (said : Result Y ReadFault) → found ≡ None → AnswersBy finds result said → AnswersBy finds result (if_faultless found said)
+  faultless found said e h = subst (λ o. AnswersBy finds result (if_faultless o said)) (sym e) h
 
--- an answer where one has
-pub faulty_answer : (answer : Result Named ReadFault) (told fault : ReadFault) (found : Option ReadFault) (baskets : List Weighted) (names : List (List ℕ))
-    → answer ≡ Err told → told ≡ fault → Tells fault found → Answers answer (if_faultless found baskets names)
-faulty_answer answer told fault found baskets names e f tells =
-    subst (λ o. Answers o (if_faultless found baskets names)) (sym (e ∙ ap Err f)) (λ some. ap (λ o. if_faultless o baskets names) (tells some))
+  -- one has
+  pub faulty : (returned fault : ReadFault) (found : Option ReadFault) (said : Result Y ReadFault) → result ≡ Err returned → returned ≡ fault → Tells fault found → AnswersBy finds result (if_faultless found said)
+  faulty returned fault found said e f tells =
+      subst (λ r. AnswersBy finds r (if_faultless found said)) (sym (e ∙ ap Err f)) (λ some. ap (λ o. if_faultless o said) (tells some))
 
--- the same, where the items of the baskets are counted
-pub faultless_items : (answer : Result (ItemCounts × List (List ℕ)) ReadFault) (found : Option ReadFault) (baskets : List Weighted) (names : List (List ℕ))
-    → found ≡ None → AnswersItems answer (with_names (if_light baskets) names) → AnswersItems answer (if_faultless found baskets names)
-faultless_items answer found baskets names e h = subst (λ o. AnswersItems answer (if_faultless o baskets names)) (sym e) h
+  -- all bytes of a reader were taken in, and they are not too many
+  pub exact : (left : Option (List ℕ)) (bytes items : List ℕ) (say : List ℕ → Result Y ReadFault) → bytes ≡ items → length items ≤ MOST_BYTES → IfSome left (λ all. all ≡ items)
+      → AnswersBy finds result (say bytes) → IfSome left (λ all. AnswersBy finds result (cond (nat_lt MOST_BYTES (length all)) (Err TooLong) (say all)))
+  exact None bytes items say same short taken h = tt
+  exact (Some all) bytes items say same short taken h =
+      let is : bytes ≡ all = same ∙ sym taken in
+      let few : length all ≤ MOST_BYTES = subst (λ bs. length bs ≤ MOST_BYTES) (sym taken) short in
+      rw (le-ltb MOST_BYTES (length all) few) (subst (λ bs. AnswersBy finds result (say bs)) is h)
 
-pub faulty_items : (answer : Result (ItemCounts × List (List ℕ)) ReadFault) (told fault : ReadFault) (found : Option ReadFault) (baskets : List Weighted) (names : List (List ℕ))
-    → answer ≡ Err told → told ≡ fault → Tells fault found → AnswersItems answer (if_faultless found baskets names)
-faulty_items answer told fault found baskets names e f tells =
-    subst (λ o. AnswersItems o (if_faultless found baskets names)) (sym (e ∙ ap Err f)) (λ some. ap (λ o. if_faultless o baskets names) (tells some))
+-- the fault of a first result is returned, and more is said of what is said there
+pub passed_on : {X Y Z W : Type 0} (finds : X → Result Y ReadFault → Type 0) (first : Z → Result W ReadFault → Type 0) (more : Result W ReadFault → Result Y ReadFault)
+    (result : Result X ReadFault) (inner : Result Z ReadFault) (returned fault : ReadFault) (said : Result W ReadFault)
+    → more (Err fault) ≡ Err fault → result ≡ Err returned → returned ≡ fault → inner ≡ Err fault → AnswersBy first inner said → AnswersBy finds result (more said)
+passed_on finds first more result inner returned fault said same e f is h =
+    subst (λ r. AnswersBy finds r (more said)) (sym (e ∙ ap Err f)) (λ other. ap more (subst (λ r. AnswersBy first r said) is h other) ∙ same)
 
-pub items_answered : (result : Result ItemCounts ReadFault) (counts : ItemCounts) (baskets : List Weighted) (names : List (List ℕ)) → result ≡ Ok counts → Counts result (if_light baskets)
-    → AnswersItems (Ok (counts, names)) (with_names (if_light baskets) names)
-items_answered result counts baskets names is h =
-    let (all, same, counted) = subst (λ r. Counts r (if_light baskets)) is h in (all, ap (λ l. with_names l names) same, counted)
+-- ---- counts of baskets
 
-pub items_refused : (result : Result ItemCounts ReadFault) (fault told : ReadFault) (baskets : List Weighted) (names : List (List ℕ)) (answer : Result (ItemCounts × List (List ℕ)) ReadFault)
-    → result ≡ Err fault → Counts result (if_light baskets) → answer ≡ Err told → told ≡ fault → AnswersItems answer (with_names (if_light baskets) names)
-items_refused result fault told baskets names answer is h a t =
-    subst (λ o. AnswersItems o (with_names (if_light baskets) names)) (sym (a ∙ ap Err t))
-    (λ other. ap (λ l. with_names l names) (subst (λ r. Counts r (if_light baskets)) is h other))
+pub items_found : (counting : Bool) (result : Result (ItemCounts × List (List ℕ)) ReadFault) (said : Result Named ReadFault) → AnswersBy (AreNamedCounts counting) result said → AnswersItems result said
+items_found counting (Ok found) said (baskets, is, counted) = (baskets, is, counted.0)
+items_found counting (Err fault) said h = h
 
--- counts that are answered are those of baskets that don't weigh too much
-light_baskets : (found : Option ReadFault) (baskets counted : List Weighted) (names counted_names : List (List ℕ)) → if_faultless found baskets names ≡ Ok (counted, counted_names) → total_of counted ≤ MOST_WEIGHT
-light_baskets (Some fault) baskets counted names counted_names e = absurd cc
-light_baskets None baskets counted names counted_names e = at (leb (total_of baskets) MOST_WEIGHT) refl e
-  where
-    at : (b : Bool) → leb (total_of baskets) MOST_WEIGHT ≡ b → with_names (cond b (Ok baskets) (Err Heavy)) names ≡ Ok (counted, counted_names) → total_of counted ≤ MOST_WEIGHT
-    at true is same = subst (λ bs. total_of bs ≤ MOST_WEIGHT) (let both : (baskets, names) ≡ (counted, counted_names) = cc in ap (λ (n : Named). n.0) both) (leb-true (total_of baskets) MOST_WEIGHT is)
-    at false is same = absurd cc
+pub light_items : (counting : Bool) (result : Result (ItemCounts × List (List ℕ)) ReadFault) (said : Result Named ReadFault) → AnswersBy (AreNamedCounts counting) result said → IfOk result (λ found. AreLightCounts found.0)
+light_items counting (Ok found) said (baskets, is, counted) = (baskets, counted.0, counted.1)
+light_items counting (Err fault) said h = tt
 
-pub light_items : (answer : Result (ItemCounts × List (List ℕ)) ReadFault) (found : Option ReadFault) (baskets : List Weighted) (names : List (List ℕ)) → AnswersItems answer (if_faultless found baskets names)
-    → IfOk answer (λ counted. AreLightCounts counted.0)
-light_items (Err fault) found baskets names h = tt
-light_items (Ok counted) found baskets names (all, same, counts) = (all, counts, light_baskets found baskets all names counted.1 same)
-
--- ---- no record has the fault of a reader
-
-not_later : (found later : Option ReadFault) → found ≢ Some Read → later ≢ Some Read → or_else found later ≢ Some Read
-not_later (Some fault) later here behind e = here e
-not_later None later here behind e = behind e
-
-pub not_found : (fault : ℕ → List (List ℕ) → Option ReadFault) → ((nth : ℕ) (row : List (List ℕ)) → fault nth row ≢ Some Read) → (nth : ℕ) (rows : List (List (List ℕ))) → fault_from fault nth rows ≢ Some Read
-not_found fault none nth [] e = absurd cc
-not_found fault none nth (row ∷ rows) e = not_later (fault nth row) (fault_from fault (nth + 1) rows) (none nth row) (not_found fault none (nth + 1) rows) e
-
-not_weight : (nth : ℕ) (weight : Option ℕ) → weight_fault nth weight ≢ Some Read
-not_weight nth (Some weight) e = absurd cc
-not_weight nth None e = absurd cc
-
-not_basket : (weighted : Bool) (nth : ℕ) (row : List (List ℕ)) → basket_fault weighted nth row ≢ Some Read
-not_basket weighted nth row e = at (is_text row) e
-  where
-    at : (b : Bool) → cond b (weight_fault nth (weight_of weighted row)) (Some (NotText nth)) ≢ Some Read
-    at true e = not_weight nth (weight_of weighted row) e
-    at false e = absurd cc
-
-light : (baskets : List Weighted) (names : List (List ℕ)) (b : Bool) → with_names (cond b (Ok baskets) (Err Heavy)) names ≢ Err Read
-light baskets names true e = absurd cc
-light baskets names false e = absurd cc
-
-pub not_answered : (found : Option ReadFault) (baskets : List Weighted) (names : List (List ℕ)) → found ≢ Some Read → if_faultless found baskets names ≢ Err Read
-not_answered (Some fault) baskets names none e = none (let same : fault ≡ Read = cc in ap Some same)
-not_answered None baskets names none e = light baskets names (leb (total_of baskets) MOST_WEIGHT) e
-
-pub baskets_not_read : (weighted : Bool) (nth : ℕ) (known : List (List ℕ)) (rows : List (List (List ℕ))) → say_baskets weighted nth known rows ≢ Err Read
-baskets_not_read weighted nth known rows e =
-    not_answered (fault_from (basket_fault weighted) nth rows) (baskets_in weighted known rows) (in_order (known ++ all_names weighted rows)) (not_found (basket_fault weighted) (not_basket weighted) nth rows) e
-
-not_pair : (nth : ℕ) (row : List (List ℕ)) → pair_fault nth row ≢ Some Read
-not_pair nth row e = at (is_text row) (ltb (length row) 2) e
-  where
-    at : (text short : Bool) → cond text (cond short (Some (ShortRecord nth)) None) (Some (NotText nth)) ≢ Some Read
-    at true true e = absurd cc
-    at true false e = absurd cc
-    at false short e = absurd cc
-
-pub pairs_not_read : (nth : ℕ) (known : List (List ℕ)) (rows : List (List (List ℕ))) → say_pairs nth known rows ≢ Err Read
-pairs_not_read nth known rows e =
-    not_answered (fault_from pair_fault nth rows) (baskets_of_pairs known (pairs_of rows)) (names_of_pairs known (pairs_of rows)) (not_found pair_fault not_pair nth rows) e
-
-pub items_refuted : {P : Type 0} (answer : Result (ItemCounts × List (List ℕ)) ReadFault) (said : Result Named ReadFault) → AnswersItems answer said → said ≢ Err Read → answer ≡ Err Read → P
-items_refuted answer said h none e = absurd (none (subst (λ r. AnswersItems r said) e h (λ m. absurd cc)))
-
--- an answer that is `Read` can't stand for one that is not
-pub read_refuted : {P : Type 0} (answer said : Result Named ReadFault) → Answers answer said → said ≢ Err Read → answer ≡ Err Read → P
-read_refuted answer said h none e = absurd (none (subst (λ r. Answers r said) e h (λ m. absurd cc)))
+pub all_kept : (result : Result (ItemCounts × List (List ℕ)) ReadFault) (counts : ItemCounts) (names : List (List ℕ)) (said : Result Named ReadFault)
+    → result ≡ Ok (counts, names) → AnswersBy (AreNamedCounts false) result said → said ≡ Ok (counts.rest, names)
+all_kept result counts names said e h =
+    let (baskets, is, gathered) = subst (λ r. AnswersBy (AreNamedCounts false) r said) e h in
+    is ∙ ap (λ all. Ok (all, names)) (sym (gathered.2 refl))

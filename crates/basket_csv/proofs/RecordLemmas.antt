@@ -12,7 +12,7 @@ use Rattle.csv.specs.declared.parser.Action.TheVariants as act
 use Rattle.csv.specs.declared.parser.Terminator.{Terminator}
 use Rattle.csv.specs.declared.parser.Terminator.TheVariants as term
 use Rattle.basket_read.specs.Fimi.{MOST_BYTES}
-use Rattle.basket_csv.specs.Csv.{behind_header}
+use Rattle.basket_csv.specs.Csv.{after_header}
 use Rattle.basket_csv.specs.Records.{MOST_RECORDS, config_of, records_of}
 
 -- a step that ends a record leaves a state at which the end of the text ends none
@@ -248,14 +248,14 @@ few_left r bytes begins e =
     omega (arith, few, same)
 
 -- a text that is not too long has no more records than that
-pub few_of_text : (separator : ℕ) (header : Bool) (bytes : List ℕ) → length bytes ≤ MOST_BYTES → length (behind_header header (records_of separator bytes)) ≤ MOST_RECORDS
+pub few_of_text : (separator : ℕ) (header : Bool) (bytes : List ℕ) → length bytes ≤ MOST_BYTES → length (after_header header (records_of separator bytes)) ≤ MOST_RECORDS
 few_of_text separator header bytes short =
     let few = few_records (config_of separator) (length (strip_bom bytes) + 1) st.StartRecord (strip_bom bytes) refl in
     let less = stripped bytes in
     let all : length (records_of separator bytes) ≤ MOST_RECORDS = omega (arith, few, less, short) in
     at header (records_of separator bytes) all
   where
-    at : (header : Bool) (rows : List (List (List ℕ))) → length rows ≤ MOST_RECORDS → length (behind_header header rows) ≤ MOST_RECORDS
+    at : (header : Bool) (rows : List (List (List ℕ))) → length rows ≤ MOST_RECORDS → length (after_header header rows) ≤ MOST_RECORDS
     at false rows few = few
     at true [] few = few
     at true (row ∷ rows) few = omega (arith, few)

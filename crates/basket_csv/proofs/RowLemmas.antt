@@ -2,14 +2,16 @@
 use Rattle.std.proofs.Common.{◌≡◌, ℕ, zero, suc, ◌+◌, ◌≤◌, ◌<◌, Bool, true, false, cond, not, ◌&&◌, List, [], ◌∷◌, ◌++◌, length, map, filter, drop, get_or, Option, Some, None, fold, eqb, Bor, refl, sym, ap, subst, ◌∙◌, append_assoc, arith}
 use Rattle.std.specs.Option.{IfSome, MatchOption, is_some}
 use Rattle.std.specs.Str.{is_utf8, chars}
-use Rattle.std.proofs.lemmas.Bool.{ne_eqb}
+use Rattle.std.proofs.lemmas.Bool.{and_left, and_right, ne_eqb}
 use Rattle.std.proofs.lemmas.List.{drop_all, at_drop_more}
 use Rattle.csv.specs.Records.{field_at}
+use Rattle.basket_read.specs.declared.fault.ReadFault.{ReadFault}
+use Rattle.basket_read.specs.declared.fault.ReadFault.TheVariants.{NotText}
 use Rattle.basket_read.specs.Fimi.{is_nil}
 use Rattle.basket_csv.specs.Field.{trimmed}
-use Rattle.basket_csv.specs.Names.{with_name, number_in, IsKnown}
+use Rattle.basket_csv.specs.Names.{with_name, number_in, IsKnown, is_among}
 use Rattle.basket_csv.specs.Row.{IsKnownField}
-use Rattle.basket_csv.proofs.NamesLemmas.{among, among_with, number_in_all}
+use Rattle.basket_csv.proofs.NamesLemmas.{among_with, number_in_all}
 use Rattle.basket_csv.specs.Csv.{field_in, is_text, names_of}
 
 -- ---- the field at a place
@@ -26,7 +28,7 @@ field_missing [] place e = refl
 field_missing (first ∷ fields) zero e = absurd cc
 field_missing (first ∷ fields) (suc place) e = field_missing fields place e
 
--- a field that is a known name as it stands
+-- a field that is a known name as it is
 pub known_field : (result : Option ℕ) (names : List (List ℕ)) (field found : List ℕ) → field ≡ found → trimmed found ≡ found → 0 < length found
     → IfSome result (IsKnown names found) → IfSome result (IsKnownField names field)
 known_field None names field found e is some h = tt
@@ -37,6 +39,14 @@ known_field (Some number) names field found e is some h =
 pub nothing_is_text : is_utf8 [] ≡ true
 unfolding is_utf8 chars
 nothing_is_text = refl
+
+pub no_text : (fields : List (List ℕ)) (place : ℕ) → is_utf8 (field_in fields place) ≡ false → is_text fields ≡ false
+no_text [] place e = absurd (let both : true ≡ false = sym nothing_is_text ∙ e in cc)
+no_text (field ∷ fields) zero e = and_left (is_utf8 field) (is_text fields) e
+no_text (field ∷ fields) (suc place) e = and_right (is_utf8 field) (is_text fields) (no_text fields place e)
+
+pub text_fault : (nth : ℕ) (fields : List (List ℕ)) (fault : Option ReadFault) (place : ℕ) → is_utf8 (field_in fields place) ≡ false → cond (is_text fields) fault (Some (NotText nth)) ≡ Some (NotText nth)
+text_fault nth fields fault place e = ap (λ b. cond b fault (Some (NotText nth))) (no_text fields place e)
 
 pub text_found : (text : Option (Bor (List ℕ))) (fields : List (List ℕ)) (place : ℕ) → MatchOption text (is_utf8 (field_in fields place) ≡ false) (λ t. (t.now ≡ field_in fields place) × (is_utf8 (field_in fields place) ≡ true))
     → is_some text ≡ true → is_utf8 (field_in fields place) ≡ true
@@ -108,7 +118,7 @@ module _ (fields : List (List ℕ)) (first place : ℕ) (before names : List (Li
       let rest = names_of (drop (place + 1) fields) in
       let same = names_go_on fields place below some in
       let later : all ≡ fold with_name new rest = h.names ∙ ap (fold with_name names) same ∙ ap (λ ns. fold with_name ns rest) (sym e) in
-      let is_among = ap (λ ns. among ns name) e ∙ among_with names name in
+      let is_among = ap (λ ns. is_among ns name) e ∙ among_with names name in
       let stays : number_in all name ≡ number = ap (λ ns. number_in ns name) later ∙ number_in_all new rest name is_among ∙ sym n in
       record {
         text = more_text;

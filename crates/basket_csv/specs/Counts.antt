@@ -1,18 +1,16 @@
 -- What the records of a CSV text say that have a set and its count each: counted sets of names, or their first fault.
-use Rattle.std.specs.Prelude.{◌≡◌, ℕ, ◌+◌, Bool, true, nat_lt, if◌then◌else◌, List, [], ◌∷◌, ◌++◌, length, map, drop, Option, Some, None, Result, Ok, Err, unwrap_or}
+use Rattle.std.specs.Prelude.{◌≡◌, ℕ, ◌+◌, Bool, true, if◌then◌else◌, List, [], ◌∷◌, ◌++◌, map, drop, Option, Some, None, Result, Ok, unwrap_or}
 use Rattle.basket_sets.specs.Database.{MOST_WEIGHT}
 use Rattle.basket_sets.specs.Itemset.{rising}
 use Rattle.basket_sets.specs.Number.{number_of}
 use Rattle.basket_read.specs.declared.counted_line.CountedLine.{CountedLine}
 use Rattle.basket_read.specs.declared.fault.ReadFault.{ReadFault}
-use Rattle.basket_read.specs.declared.fault.ReadFault.TheVariants.{TooLong, NotText, RecordCount}
-use Rattle.basket_read.specs.Fimi.{MOST_BYTES}
+use Rattle.basket_read.specs.declared.fault.ReadFault.TheVariants.{NotText, RecordCount}
 use Rattle.basket_csv.specs.declared.counts.Counts.{Counts}
 use Rattle.basket_csv.specs.RecordCollector.{Start}
-use Rattle.basket_csv.specs.Csv.{field_in, is_text, behind_header, first_number, fault_from, names_of, all_names}
+use Rattle.basket_csv.specs.Csv.{field_in, is_text, first_number, names_of, all_names, bytes_say}
 use Rattle.basket_csv.specs.Field.{trimmed}
 use Rattle.basket_csv.specs.Names.{in_order, number_in}
-use Rattle.basket_csv.specs.Records.{records_of}
 
 -- the count of a record: the number that its first field writes, from 0 to the greatest weight of a database
 abbrev pub count_of : List (List ℕ) → Option ℕ
@@ -39,22 +37,15 @@ lines_from names nth (row ∷ rows) = line_of names nth row ∷ lines_from names
 abbrev pub NamedCounts : Type 0
 NamedCounts = List CountedLine × List (List ℕ)
 
--- the counted sets with their names, unless there is a fault
-abbrev pub counts_if_faultless : Option ReadFault → List CountedLine → List (List ℕ) → Result NamedCounts ReadFault
-counts_if_faultless (Some fault) lines names = Err fault
-counts_if_faultless None lines names = Ok (lines, names)
-
--- what records say that have a set and its count each, where some names are known
-abbrev pub say_counts : ℕ → List (List ℕ) → List (List (List ℕ)) → Result NamedCounts ReadFault
-say_counts nth known rows =
-    counts_if_faultless (fault_from set_fault nth rows) (lines_from (in_order (known ++ all_names true rows)) nth rows) (in_order (known ++ all_names true rows))
+-- what records without a fault say, of which the first has this number, if some names are known
+abbrev pub counts_said : ℕ → List (List ℕ) → List (List (List ℕ)) → Result NamedCounts ReadFault
+counts_said nth known rows = let names = in_order (known ++ all_names true rows) in Ok (lines_from names nth rows, names)
 
 -- what the bytes say
 abbrev pub named_counts_of : ℕ → Bool → List (List ℕ) → List ℕ → Result NamedCounts ReadFault
-named_counts_of separator header known bytes =
-    if nat_lt MOST_BYTES (length bytes) then Err TooLong else say_counts (first_number header) known (behind_header header (records_of separator bytes))
+named_counts_of separator header known bytes = bytes_say separator header set_fault (counts_said (first_number header) known) bytes
 
 -- what has been read: the names and the counted sets are those of these records
-pub record HasCounts {S H : Type 0} (counts : Counts S H) (start : Start) (rows : List (List (List ℕ))) : Type 0 where
+pub record HasCounts (counts : Counts) (start : Start) (rows : List (List (List ℕ))) : Type 0 where
   pub names : counts.names ≡ in_order (start.known ++ all_names true rows)
   pub lines : counts.lines.items ≡ lines_from (in_order (start.known ++ all_names true rows)) start.first rows

@@ -14,7 +14,7 @@ use Rattle.basket_csv.specs.Records.{records_of}
 
 -- ---- records
 
--- the field at a place, empty where the record has none
+-- the field at a place, empty if the record has none
 abbrev pub field_in : List (List ℕ) → ℕ → List ℕ
 field_in row place = slice_index_or row place []
 
@@ -22,18 +22,32 @@ field_in row place = slice_index_or row place []
 abbrev pub is_text : List (List ℕ) → Bool
 is_text row = list_all is_utf8 row
 
--- the records behind the header, where there is one
-abbrev pub behind_header : Bool → List (List (List ℕ)) → List (List (List ℕ))
-behind_header header rows = if header then drop 1 rows else rows
+-- the records after the header, if there is one
+abbrev pub after_header : Bool → List (List (List ℕ)) → List (List (List ℕ))
+after_header header rows = if header then drop 1 rows else rows
 
 -- the number of the first of these; the header is number 1
 abbrev pub first_number : Bool → ℕ
 first_number header = if header then 2 else 1
 
--- the fault of the first record that has one, where the first has this number
+-- the fault of the first record that has one, if the first has this number
 abbrev pub fault_from : (ℕ → List (List ℕ) → Option ReadFault) → ℕ → List (List (List ℕ)) → Option ReadFault
 fault_from fault nth [] = None
 fault_from fault nth (row ∷ rows) = or_else (fault nth row) (fault_from fault (nth + 1) rows)
+
+-- what is said, unless there is a fault
+abbrev pub if_faultless : {X : Type 0} → Option ReadFault → Result X ReadFault → Result X ReadFault
+if_faultless (Some fault) said = Err fault
+if_faultless None said = said
+
+-- what the records of some bytes say, by the fault of each and by what records without a fault say
+abbrev pub records_say : {X : Type 0} → ℕ → Bool → (ℕ → List (List ℕ) → Option ReadFault) → (List (List (List ℕ)) → Result X ReadFault) → List ℕ → Result X ReadFault
+records_say separator header fault said bytes =
+    let rows = after_header header (records_of separator bytes) in if_faultless (fault_from fault (first_number header) rows) (said rows)
+
+-- what the bytes of an input say
+abbrev pub bytes_say : {X : Type 0} → ℕ → Bool → (ℕ → List (List ℕ) → Option ReadFault) → (List (List (List ℕ)) → Result X ReadFault) → List ℕ → Result X ReadFault
+bytes_say separator header fault said bytes = if nat_lt MOST_BYTES (length bytes) then Err TooLong else records_say separator header fault said bytes
 
 -- ---- a basket in each record
 
@@ -41,7 +55,7 @@ fault_from fault nth (row ∷ rows) = or_else (fault nth row) (fault_from fault 
 abbrev pub names_of : List (List ℕ) → List (List ℕ)
 names_of fields = filter (λ name. not (is_nil name)) (map trimmed fields)
 
--- how many fields of a record stand before its names: that of the weight, where one is asked for
+-- how many fields of a record come before its names: that of the weight, if one is asked for
 abbrev pub fields_before : Bool → ℕ
 fields_before weighted = if weighted then 1 else 0
 
@@ -58,7 +72,7 @@ positive (Some number) = if nat_lt 0 number then Some number else None
 abbrev pub weight_written : List ℕ → Option ℕ
 weight_written text = positive (number_of MOST_NUMBER text)
 
--- the weight of a record: that in its first field, where one is asked for, else 1
+-- the weight of a record: that in its first field, if one is asked for, else 1
 abbrev pub weight_of : Bool → List (List ℕ) → Option ℕ
 weight_of weighted row = if weighted then weight_written (trimmed (field_in row 0)) else Some 1
 
@@ -93,20 +107,13 @@ abbrev pub with_names : Result (List Weighted) ReadFault → List (List ℕ) →
 with_names (Ok baskets) names = Ok (baskets, names)
 with_names (Err fault) names = Err fault
 
--- the baskets with their names, unless there is a fault
-abbrev pub if_faultless : Option ReadFault → List Weighted → List (List ℕ) → Result Named ReadFault
-if_faultless (Some fault) baskets names = Err fault
-if_faultless None baskets names = with_names (if_light baskets) names
+-- what records without a fault say, if each is a basket and some names are known
+abbrev pub baskets_said : Bool → List (List ℕ) → List (List (List ℕ)) → Result Named ReadFault
+baskets_said weighted known rows = with_names (if_light (baskets_in weighted known rows)) (in_order (known ++ all_names weighted rows))
 
--- what records say that have a basket each, where some names are known
-abbrev pub say_baskets : Bool → ℕ → List (List ℕ) → List (List (List ℕ)) → Result Named ReadFault
-say_baskets weighted nth known rows =
-    if_faultless (fault_from (basket_fault weighted) nth rows) (baskets_in weighted known rows) (in_order (known ++ all_names weighted rows))
-
--- what the bytes say, read with a separator, with or without a header and weights, where some names are known
+-- what the bytes say, read with a separator, with or without a header and weights, if some names are known
 abbrev pub baskets_of_csv : ℕ → Bool → Bool → List (List ℕ) → List ℕ → Result Named ReadFault
-baskets_of_csv separator header weighted known bytes =
-    if nat_lt MOST_BYTES (length bytes) then Err TooLong else say_baskets weighted (first_number header) known (behind_header header (records_of separator bytes))
+baskets_of_csv separator header weighted known bytes = bytes_say separator header (basket_fault weighted) (baskets_said weighted known) bytes
 
 -- ---- a basket's id and a name in each record
 
@@ -122,7 +129,7 @@ pair_of row = (trimmed (field_in row 0), trimmed (field_in row 1))
 abbrev pub pairs_of : List (List (List ℕ)) → List (List ℕ × List ℕ)
 pairs_of rows = filter (λ pair. not (is_nil pair.1)) (map pair_of rows)
 
--- some ids, each with its names, and one pair more: the name joins those of its id, which stands last where it is new
+-- some ids, each with its names, and one pair more: the name joins those of its id, which comes last if it is new
 abbrev pub with_pair : List (List ℕ × List (List ℕ)) → List ℕ × List ℕ → List (List ℕ × List (List ℕ))
 with_pair [] pair = (pair.0, pair.1 ∷ []) ∷ []
 with_pair (group ∷ groups) pair = if bytes_eq pair.0 group.0 then (group.0, group.1 ++ pair.1 ∷ []) ∷ groups else group ∷ with_pair groups pair
@@ -139,11 +146,10 @@ names_of_pairs known pairs = in_order (known ++ map (λ pair. pair.1) pairs)
 abbrev pub baskets_of_pairs : List (List ℕ) → List (List ℕ × List ℕ) → List Weighted
 baskets_of_pairs known pairs = flat_map (λ group. basket_of_numbers (map (number_in (names_of_pairs known pairs)) group.1) 1) (gather pairs)
 
--- what records say that have an id and a name each, where some names are known
-abbrev pub say_pairs : ℕ → List (List ℕ) → List (List (List ℕ)) → Result Named ReadFault
-say_pairs nth known rows = if_faultless (fault_from pair_fault nth rows) (baskets_of_pairs known (pairs_of rows)) (names_of_pairs known (pairs_of rows))
+-- what pairs say, if some names are known
+abbrev pub pairs_said : List (List ℕ) → List (List ℕ × List ℕ) → Result Named ReadFault
+pairs_said known pairs = with_names (if_light (baskets_of_pairs known pairs)) (names_of_pairs known pairs)
 
 -- what the bytes say
 abbrev pub pairs_of_csv : ℕ → Bool → List (List ℕ) → List ℕ → Result Named ReadFault
-pairs_of_csv separator header known bytes =
-    if nat_lt MOST_BYTES (length bytes) then Err TooLong else say_pairs (first_number header) known (behind_header header (records_of separator bytes))
+pairs_of_csv separator header known bytes = bytes_say separator header pair_fault (λ rows. pairs_said known (pairs_of rows)) bytes

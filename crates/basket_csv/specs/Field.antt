@@ -6,9 +6,9 @@ use Rattle.std.specs.List.{prefix_len, suffix_len}
 abbrev pub is_space : ℕ → Bool
 is_space byte = byte == 32 || byte == 9
 
--- a field without the spaces and tabs at its front
-abbrev pub front_trimmed : List ℕ → List ℕ
-front_trimmed field = drop (prefix_len is_space field) field
+-- a field without the spaces and tabs at its start
+abbrev pub start_trimmed : List ℕ → List ℕ
+start_trimmed field = drop (prefix_len is_space field) field
 
 -- a field without those at its end
 abbrev pub end_trimmed : List ℕ → List ℕ
@@ -16,4 +16,4 @@ end_trimmed field = take (length field - suffix_len is_space field) field
 
 -- a field without those at its two ends
 abbrev pub trimmed : List ℕ → List ℕ
-trimmed field = end_trimmed (front_trimmed field)
+trimmed field = end_trimmed (start_trimmed field)

@@ -1,7 +1,12 @@
 -- Baskets that are gathered one after another.
-use Rattle.std.specs.Prelude.{◌≡◌, Bool, false, List, [], ◌++◌}
+use Rattle.std.specs.Prelude.{◌≡◌, ◌≤◌, Bool, false, List, [], ◌++◌, Result, Ok}
 use Rattle.basket_sets.specs.declared.weighted.Weighted.{Weighted}
 use Rattle.basket_sets.specs.ItemTable.{HasCounted}
+use Rattle.basket_sets.specs.Database.{MOST_WEIGHT}
+use Rattle.basket_sets.specs.Support.{total_of}
+use Rattle.basket_read.specs.declared.fault.ReadFault.{ReadFault}
+use Rattle.basket_read.specs.declared.item_counts.ItemCounts.{ItemCounts}
+use Rattle.basket_read.specs.ItemCounts.{AreCountsOf}
 use Rattle.basket_read.specs.Text.{HasBaskets}
 use Rattle.basket_csv.specs.declared.gathered.GatheredBaskets.{GatheredBaskets}
 
@@ -12,3 +17,11 @@ pub record HasGathered (gathered : GatheredBaskets) (counting : Bool) (baskets :
   pub uncounted : counting ≡ false → past ≡ []
   pub counted : HasCounted gathered.table past
   pub kept : HasBaskets gathered.heavy (past ++ gathered.baskets) baskets
+
+-- these are the counts of some baskets, which a database may have, and all are kept unless baskets are counted
+abbrev pub AreGathered : Bool → ItemCounts → List Weighted → Type 0
+AreGathered counting counts baskets = AreCountsOf counts baskets × (total_of baskets ≤ MOST_WEIGHT) × (counting ≡ false → counts.rest ≡ baskets)
+
+-- the same, and these baskets are what is said
+abbrev pub Gathers : Bool → List Weighted → ItemCounts → Result (List Weighted) ReadFault → Type 0
+Gathers counting baskets counts said = (said ≡ Ok baskets) × AreGathered counting counts baskets

@@ -12,6 +12,6 @@ name_with len front back =
     else if nat_le 2 len then take (len - 2) (to_le_bytes w16 front) ++ to_le_bytes w16 back
     else take len (front ∷ [])
 
--- a key tells this name from all others, if the name is not too long
+-- a key distinguishes this name from all others, if the name is not too long
 abbrev pub IsKeyOf : Key → List ℕ → Type 0
 IsKeyOf key name = key.len ≤ WHOLE → name_with key.len key.front key.back ≡ name

@@ -1,32 +1,23 @@
 -- Baskets of names, whose supports need no numbers.
 use Rattle.std.specs.Prelude.{◌≡◌, ℕ, ◌+◌, IsTrue, Bool, false, if◌then◌else◌, List, [], ◌∷◌, ◌++◌, map, unwrap_or}
-use Rattle.std.specs.List.{list_all, list_any, flat_map, sum_by}
-use Rattle.std.specs.Str.{bytes_eq}
+use Rattle.std.specs.List.{list_all, flat_map, sum_by}
 use Rattle.basket_sets.specs.declared.weighted.Weighted.{Weighted}
 use Rattle.basket_sets.specs.Itemset.{rising}
 use Rattle.basket_sets.specs.Support.{support_of}
 use Rattle.basket_read.specs.Fimi.{basket_of_numbers}
 use Rattle.basket_csv.specs.Csv.{names_in, weight_of, all_names, baskets_in, gather, names_of_pairs, baskets_of_pairs}
-use Rattle.basket_csv.specs.Names.{in_order, number_in}
+use Rattle.basket_csv.specs.Names.{are_among, in_order, number_in}
 
 -- some names and a weight
 abbrev pub NamedBasket : Type 0
 NamedBasket = List (List ℕ) × ℕ
-
--- whether a name is among some names
-abbrev pub is_among : List (List ℕ) → List ℕ → Bool
-is_among names name = list_any (bytes_eq name) names
-
--- whether each name of a set is among some names
-abbrev pub are_among : List (List ℕ) → List (List ℕ) → Bool
-are_among names set = list_all (is_among names) set
 
 -- whether a basket of these names has a name, and has each name of a set
 abbrev pub has_all : List (List ℕ) → List (List ℕ) → Bool
 has_all [] set = false
 has_all (name ∷ names) set = are_among (name ∷ names) set
 
--- what a basket adds to the support of a set: its weight where it has a name and all those of the set, else nothing
+-- what a basket adds to the support of a set: its weight if it has a name and all those of the set, else nothing
 abbrev pub named_weight_at : List (List ℕ) → NamedBasket → ℕ
 named_weight_at set basket = if has_all basket.0 set then basket.1 else 0
 
@@ -69,7 +60,7 @@ BasketsAreNumbered = (weighted : Bool) (known : List (List ℕ)) (rows : List (L
     let names = in_order (known ++ all_names weighted rows) in
     (baskets_in weighted known rows ≡ numbered names (named_baskets weighted rows)) × IsTrue (are_named names (named_baskets weighted rows))
 
--- so it is with pairs
+-- the same of pairs
 abbrev pub PairsAreNumbered : Type 0
 PairsAreNumbered = (known : List (List ℕ)) (pairs : List (List ℕ × List ℕ)) →
     let names = names_of_pairs known pairs in
@@ -80,7 +71,7 @@ abbrev pub BasketSupportIsByNames : Type 0
 BasketSupportIsByNames = (weighted : Bool) (known : List (List ℕ)) (rows : List (List (List ℕ))) (set : List (List ℕ)) → IsTrue (are_among (known ++ all_names weighted rows) set)
     → support_of (baskets_in weighted known rows) (numbered_set (in_order (known ++ all_names weighted rows)) set) ≡ named_support (named_baskets weighted rows) set
 
--- so it is with pairs
+-- the same of pairs
 abbrev pub PairSupportIsByNames : Type 0
 PairSupportIsByNames = (known : List (List ℕ)) (pairs : List (List ℕ × List ℕ)) (set : List (List ℕ)) → IsTrue (are_among (known ++ map (λ pair. pair.1) pairs) set)
     → support_of (baskets_of_pairs known pairs) (numbered_set (names_of_pairs known pairs) set) ≡ named_support (named_pairs pairs) set

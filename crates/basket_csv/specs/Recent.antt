@@ -8,7 +8,7 @@ use Rattle.basket_csv.specs.declared.recent.RecentName.{RecentName}
 use Rattle.basket_csv.specs.Key.{name_with}
 use Rattle.basket_csv.specs.Names.{IsKnown}
 
--- a name that a key tells from all others is among the names, and has this number
+-- if a key distinguishes its name from all others, the name is among the names and has this number
 abbrev pub IsNumberAt : List (List ℕ) → Key → ℕ → Type 0
 IsNumberAt names key number = key.len ≤ WHOLE → IsKnown names (name_with key.len key.front key.back) number
 

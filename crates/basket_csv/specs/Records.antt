@@ -15,7 +15,7 @@ config_of separator = record default_config { delimiter = separator }
 abbrev pub records_of : ℕ → List ℕ → List (List (List ℕ))
 records_of separator bytes = records (config_of separator) (strip_bom bytes)
 
--- the bytes that are not read yet, where they are known
+-- the bytes that are not read yet, if they are known
 abbrev pub known_left : Records → Option (List ℕ)
 known_left r = source_of (λ s. Some s.now) r.reader
 
@@ -36,7 +36,7 @@ record_read r = fields_of r.row
 abbrev pub MOST_RECORDS : ℕ
 MOST_RECORDS = 2147483648
 
--- a reader of records of any lengths that stands between two of them, of a text that is not too long
+-- a reader of records of any lengths is between two of them, and its text is not too long
 pub record IsReading (r : Records) : Type 0 where
   pub flexible : is_flexible r.reader ≡ true
   pub trim : reader_trim r.reader ≡ trim.None

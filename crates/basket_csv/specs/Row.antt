@@ -4,13 +4,13 @@ use Rattle.basket_csv.specs.Csv.{field_in}
 use Rattle.basket_csv.specs.Field.{trimmed}
 use Rattle.basket_csv.specs.Names.{IsKnown}
 
--- a field is a known name as it stands, and this is the name's number
+-- a field is a known name as it is, and this is the name's number
 pub record IsKnownField (names : List (List ℕ)) (field : List ℕ) (number : ℕ) : Type 0 where
   pub known : IsKnown names field number
   pub trimmed : trimmed field ≡ field
   pub some : 0 < length field
 
--- the two fields of a record are a known id and a known name as they stand, and these are their numbers
+-- the two fields of a record are a known id and a known name as they are, and these are their numbers
 pub record IsKnownPair (ids names fields : List (List ℕ)) (place number : ℕ) : Type 0 where
   pub two : length fields ≡ 2
   pub id : IsKnownField ids (field_in fields 0) place

@@ -1,28 +1,32 @@
 //! Records that have a basket each.
-ghost use Rattle.std.specs.Prelude.{◌≡◌, ◌≤◌, List, ℕ, [], ◌++◌, length, drop, MatchResult, IfOk, IfErr, IfSome, false};
+ghost use Rattle.std.specs.Prelude.{◌≡◌, ◌≤◌, [], drop, MatchResult, IfOk, IfErr, IfSome, false};
 ghost use Rattle.csv.specs.Records.{fields_of};
-ghost use Rattle.basket_read.specs.Fimi.{if_light, MOST_BYTES};
 ghost use Rattle.basket_csv.specs.RecordCollector.{Start};
-ghost use Rattle.basket_csv.specs.Csv.{is_text, weight_of, fields_before, basket_fault, baskets_in, all_names, with_names, say_baskets, behind_header, first_number};
-ghost use Rattle.basket_csv.specs.Names.{in_order};
-ghost use Rattle.basket_csv.specs.Read.{Answers, AnswersItems};
-ghost use Rattle.basket_csv.specs.Records.{records_of};
-ghost use Rattle.basket_csv.specs.Baskets.{HasRead};
+ghost use Rattle.basket_csv.specs.Csv.{Named, is_text, weight_of, weight_written, fields_before, basket_fault, baskets_said};
+ghost use Rattle.basket_csv.specs.Baskets.{AreNamedCounts, HasRead};
 
-use crate::collector::{RecordCollector, add_all};
-use crate::dialect::Dialect;
+use crate::collector::RecordCollector;
 use crate::field::trim;
 use crate::gathered::GatheredBaskets;
 use crate::names::{Names, Numbering};
 use crate::row::{number_names, text_at};
-use crate::weight::weight_in;
+use crate::seed::Seed;
 use basket_read::{ItemCounts, ReadFault};
-use basket_sets::Database;
+use basket_sets::parse_number;
 use csv::ByteRecord;
 use std::alloc::Global;
-use std::hash::BuildHasher;
+
+/// The weight that a text writes: digits of a value from 1 on.
+fn weight_in(text: &[u8]) -> Option<u32>
+    ensures read { result ≡ weight_written text.now }
+    ensures some { IfSome result (λ weight. 1 ≤ weight) }
+{
+    let weight = parse_number(text, u64::from(u32::MAX))?;
+    (weight > 0).then_some(weight as u32)
+}
 
 /// The weight of a record, if it has one: that in its first field, if one is asked for, else 1.
+#[tactic(auto, using(crate::proofs::RowLemmas::no_text))]
 fn weight_of(weighted: bool, nth: u32, row: &ByteRecord) -> Result<Option<u32>, ReadFault>
     ensures weight { MatchResult result
         (λ weight. (weight ≡ weight_of weighted (fields_of row.now)) × (is_text (fields_of row.now) ≡ is_text (drop (fields_before weighted) (fields_of row.now))))
@@ -40,16 +44,45 @@ fn weight_of(weighted: bool, nth: u32, row: &ByteRecord) -> Result<Option<u32>, 
 
 /// What has been read of such records.
 #[derive(Drop)]
-pub struct Baskets<S: BuildHasher> {
+pub struct Baskets {
     weighted: bool,
-    names: Numbering<S>,
+    names: Numbering,
     gathered: GatheredBaskets,
     /// The numbers of the names of one record.
     numbers: Vec<u32>,
 }
 
-impl<S: BuildHasher> RecordCollector for Baskets<S> {
+impl Baskets {
+    /// Nothing is read yet, and some names are known.
+    pub fn new(
+        alloc: Global,
+        seed: Seed,
+        weighted: bool,
+        known: Names,
+        counting: bool,
+    ) -> Result<Self, ReadFault>
+        ensures read { (start : Start) → start.weighted ≡ weighted → start.known ≡ known → start.counting ≡ counting → IfOk result (λ baskets. HasRead baskets start []) }
+        ensures err { IfErr result (λ fault. fault ≡ ReadFault.Memory) }
+    {
+        Ok(Baskets {
+            weighted,
+            names: Numbering::of(alloc, seed, known)?,
+            gathered: GatheredBaskets::new(alloc, counting),
+            numbers: Vec::new(alloc),
+        })
+    }
+}
+
+impl RecordCollector for Baskets {
+    type Found = ItemCounts;
+
+    ghost Said = { Named };
+
     ghost fault_of = { λ start. basket_fault start.weighted };
+
+    ghost said_of = { λ start. baskets_said start.weighted start.known };
+
+    ghost finds = { λ start. AreNamedCounts start.counting };
 
     ghost has_read = { λ baskets start rows. HasRead baskets start rows };
 
@@ -64,87 +97,14 @@ impl<S: BuildHasher> RecordCollector for Baskets<S> {
             None => Err(ReadFault::Weight { nth }),
         }
     }
-}
 
-impl<S: BuildHasher + Drop> Baskets<S> {
-    /// Nothing is read yet, and some names are known.
-    pub fn new(
-        alloc: Global,
-        hasher: S,
-        weighted: bool,
-        known: Names,
-        counting: bool,
-    ) -> Result<Self, ReadFault>
-        ensures read { (start : Start) → start.weighted ≡ weighted → start.known ≡ known → start.counting ≡ counting → IfOk result (λ baskets. HasRead baskets start []) }
-        ensures err { IfErr result (λ fault. fault ≡ ReadFault.Memory) }
-    {
-        Ok(Baskets {
-            weighted,
-            names: Numbering::of(alloc, hasher, known)?,
-            gathered: GatheredBaskets::new(alloc, counting),
-            numbers: Vec::new(alloc),
-        })
-    }
-
-    /// All baskets with their names, if the baskets don't weigh too much and were to be kept.
-    pub fn finish(self) -> Result<(Database, Names), ReadFault>
-        ensures { (start : Start) (rows : List (List (List ℕ))) → start.counting ≡ false → HasRead self start rows →
-            Answers result (with_names (if_light (baskets_in start.weighted start.known rows)) (in_order (start.known ++ all_names start.weighted rows))) }
-    {
+    fn finish(self) -> Result<(ItemCounts, Names), ReadFault> {
         let Baskets {
             names,
             gathered,
             ..
         } = self;
-        let baskets = gathered.finish()?;
-        Ok((baskets, names.into_names()?))
-    }
-
-    /// The counts of all baskets with the names, if the baskets don't weigh too much.
-    pub fn finish_counts(self) -> Result<(ItemCounts, Names), ReadFault>
-        ensures { (start : Start) (rows : List (List (List ℕ))) → HasRead self start rows →
-            AnswersItems result (with_names (if_light (baskets_in start.weighted start.known rows)) (in_order (start.known ++ all_names start.weighted rows))) }
-    {
-        let Baskets {
-            names,
-            gathered,
-            ..
-        } = self;
-        let counts = gathered.finish_counts()?;
+        let counts = gathered.finish()?;
         Ok((counts, names.into_names()?))
     }
-}
-
-/// What the bytes say, where each record is a basket.
-pub fn say_baskets<S: BuildHasher + Drop>(
-    alloc: Global,
-    bytes: &[u8],
-    dialect: Dialect,
-    weighted: bool,
-    known: Names,
-    hasher: S,
-) -> Result<(Database, Names), ReadFault>
-    requires { length bytes.now ≤ MOST_BYTES }
-    ensures { Answers result (say_baskets weighted (first_number dialect.header) known (behind_header dialect.header (records_of dialect.separator bytes.now))) }
-{
-    let mut baskets = Baskets::new(alloc, hasher, weighted, known, false)?;
-    add_all(alloc, bytes, dialect, &mut baskets)?;
-    baskets.finish()
-}
-
-/// The counts of the items in what the bytes say, where each record is a basket.
-pub fn say_items<S: BuildHasher + Drop>(
-    alloc: Global,
-    bytes: &[u8],
-    dialect: Dialect,
-    weighted: bool,
-    known: Names,
-    hasher: S,
-) -> Result<(ItemCounts, Names), ReadFault>
-    requires { length bytes.now ≤ MOST_BYTES }
-    ensures { AnswersItems result (say_baskets weighted (first_number dialect.header) known (behind_header dialect.header (records_of dialect.separator bytes.now))) }
-{
-    let mut baskets = Baskets::new(alloc, hasher, weighted, known, true)?;
-    add_all(alloc, bytes, dialect, &mut baskets)?;
-    baskets.finish_counts()
 }

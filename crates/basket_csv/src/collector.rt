@@ -1,14 +1,17 @@
 //! Adding the records of a text, one after another.
-ghost use Rattle.std.specs.Prelude.{◌≡◌, ◌≤◌, ◌+◌, List, ℕ, [], ◌∷◌, ◌++◌, length, Option, None, MatchResult, OnOk};
+ghost use Rattle.std.specs.Prelude.{◌≡◌, ◌≢◌, ◌≤◌, ◌+◌, List, ℕ, [], ◌∷◌, ◌++◌, length, Option, None, Result, MatchResult, OnOk, IfErr};
 ghost use Rattle.csv.specs.Records.{fields_of};
 ghost use Rattle.basket_read.specs.declared.fault.ReadFault.{ReadFault};
+ghost use Rattle.basket_read.specs.declared.fault.ReadFault.TheVariants.{Read};
 ghost use Rattle.basket_read.specs.Fimi.{MOST_BYTES};
 ghost use Rattle.basket_read.specs.Text.{Tells};
 ghost use Rattle.basket_csv.specs.RecordCollector.{Start};
-ghost use Rattle.basket_csv.specs.Csv.{fault_from, behind_header, first_number};
+ghost use Rattle.basket_csv.specs.Csv.{fault_from, after_header, first_number, records_say};
+ghost use Rattle.basket_csv.specs.Read.{AnswersBy};
 ghost use Rattle.basket_csv.specs.Records.{MOST_RECORDS, records_of, records_left, records_taken, IsReading};
 
 use crate::dialect::Dialect;
+use crate::names::Names;
 use crate::records::Records;
 use basket_read::ReadFault;
 use csv::ByteRecord;
@@ -17,8 +20,20 @@ use std::alloc::Global;
 /// What records are added to. After a faulty record, or if memory runs out, all that was added is
 /// lost.
 pub trait RecordCollector {
+    /// What the records are read as, beside the names.
+    type Found;
+
+    // What is defined of records.
+    ghost Said: { Type 0 };
+
     // The fault of a record with this number.
     ghost fault_of: { Start → ℕ → List (List ℕ) → Option ReadFault };
+
+    // What records without a fault say.
+    ghost said_of: { Start → List (List (List ℕ)) → Result Said ReadFault };
+
+    // What is found, with the names, fits what is said.
+    ghost finds: { Start → Self.Found × List (List ℕ) → Result Said ReadFault → Type 0 };
 
     // These are the records that were added.
     ghost has_read: { Self → Start → List (List (List ℕ)) → Type 0 };
@@ -30,11 +45,35 @@ pub trait RecordCollector {
         ensures fault { (start : Start) (rows : List (List (List ℕ))) → has_read self.old start rows →
             MatchResult result (λ _. fault_of start nth (fields_of row.now) ≡ None) (λ fault. Tells fault (fault_of start nth (fields_of row.now))) }
         ensures read { (start : Start) (rows : List (List (List ℕ))) → start.first + length rows ≡ nth → has_read self.old start rows →
-            OnOk result (has_read self.new start (rows ++ fields_of row.now ∷ [])) };
+            OnOk result (has_read self.new start (rows ++ fields_of row.now ∷ [])) }
+        ensures not_read { IfErr result (λ fault. fault ≢ Read) };
+
+    /// What the records say, none of which has a fault.
+    fn finish(self) -> Result<(Self::Found, Names), ReadFault>
+        requires { (start : Start) × (rows : List (List (List ℕ))) × (length rows ≤ MOST_RECORDS) × has_read self start rows }
+        ensures said { (start : Start) (rows : List (List (List ℕ))) → has_read self start rows → AnswersBy (finds start) result (said_of start rows) }
+        ensures not_read { IfErr result (λ fault. fault ≢ Read) };
+}
+
+/// What the records of the bytes say, except the header.
+pub fn say<C: RecordCollector + Drop>(
+    alloc: Global,
+    bytes: &[u8],
+    dialect: Dialect,
+    mut collector: C,
+) -> Result<(C::Found, Names), ReadFault>
+    requires short { length bytes.now ≤ MOST_BYTES }
+    requires read { (start : Start) × (start.first ≡ first_number dialect.header) × C.has_read collector start [] }
+    ensures said { (start : Start) → start.first ≡ first_number dialect.header → C.has_read collector start [] →
+        AnswersBy (C.finds start) result (records_say dialect.separator dialect.header (C.fault_of start) (C.said_of start) bytes.now) }
+    ensures not_read { IfErr result (λ fault. fault ≢ Read) }
+{
+    add_all(alloc, bytes, dialect, &mut collector)?;
+    collector.finish()
 }
 
 /// Adds all records of the bytes except the header, up to the first with a fault.
-pub fn add_all<C: RecordCollector>(
+fn add_all<C: RecordCollector>(
     alloc: Global,
     bytes: &[u8],
     dialect: Dialect,
@@ -43,10 +82,11 @@ pub fn add_all<C: RecordCollector>(
     requires short { length bytes.now ≤ MOST_BYTES }
     requires read { (start : Start) × (start.first ≡ first_number dialect.header) × C.has_read collector.old start [] }
     ensures fault { (start : Start) → start.first ≡ first_number dialect.header → C.has_read collector.old start [] →
-        let found = fault_from (C.fault_of start) (first_number dialect.header) (behind_header dialect.header (records_of dialect.separator bytes.now)) in
+        let found = fault_from (C.fault_of start) (first_number dialect.header) (after_header dialect.header (records_of dialect.separator bytes.now)) in
         MatchResult result (λ _. found ≡ None) (λ fault. Tells fault found) }
     ensures read { (start : Start) → start.first ≡ first_number dialect.header → C.has_read collector.old start [] →
-        OnOk result (C.has_read collector.new start (behind_header dialect.header (records_of dialect.separator bytes.now))) }
+        OnOk result (C.has_read collector.new start (after_header dialect.header (records_of dialect.separator bytes.now))) }
+    ensures not_read { IfErr result (λ fault. fault ≢ Read) }
 {
     let mut records = Records::new(alloc, bytes, dialect.separator);
     if !records.pass_header(dialect.header)? {
@@ -67,6 +107,7 @@ fn add_left<C: RecordCollector>(
         MatchResult result (λ _. found ≡ None) (λ fault. Tells fault found) }
     ensures read { (start : Start) (rows : List (List (List ℕ))) → start.first + length rows ≡ records_taken records.old + 1 → C.has_read collector.old start rows →
         OnOk result (C.has_read collector.new start (rows ++ records_left records.old)) }
+    ensures not_read { IfErr result (λ fault. fault ≢ Read) }
 {
     'rows: while records.advance()? {
         collector.add(records.taken(), records.row())?;

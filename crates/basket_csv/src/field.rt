@@ -15,7 +15,7 @@ fn is_space(byte: u8) -> bool
 
 /// How many leading spaces and tabs there are.
 #[inline]
-fn front_spaces(bytes: &[u8]) -> usize
+fn leading_spaces(bytes: &[u8]) -> usize
     ensures value { result ≡ prefix_len is_space bytes.now }
     ensures within { result ≤ length bytes.now }
     ensures space { 0 < result → is_space (slice_index bytes.now (result - 1)) ≡ true }
@@ -28,7 +28,7 @@ fn front_spaces(bytes: &[u8]) -> usize
     bytes.len()
 }
 
-/// Where the spaces and tabs at the end begin.
+/// How many bytes there are before the spaces and tabs at the end.
 #[inline]
 fn end_spaces(bytes: &[u8]) -> usize
     ensures value { result ≡ length bytes.now - suffix_len is_space bytes.now }
@@ -47,7 +47,7 @@ fn end_spaces(bytes: &[u8]) -> usize
 pub fn trim(text: &str) -> &str
     ensures { result.now ≡ trimmed text.now }
 {
-    let rest = &text[front_spaces(text.as_bytes())..];
+    let rest = &text[leading_spaces(text.as_bytes())..];
     &rest[..end_spaces(rest.as_bytes())]
 }
 

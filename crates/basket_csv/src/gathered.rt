@@ -5,8 +5,8 @@ ghost use Rattle.basket_sets.specs.declared.weighted.Weighted.{Weighted};
 ghost use Rattle.basket_sets.specs.ItemTable.{HasCounted};
 ghost use Rattle.basket_sets.specs.Support.{total_of};
 ghost use Rattle.basket_read.specs.Fimi.{basket_of_numbers, if_light};
-ghost use Rattle.basket_read.specs.ItemCounts.{Counts};
-ghost use Rattle.basket_csv.specs.GatheredBaskets.{HasGathered};
+ghost use Rattle.basket_csv.specs.GatheredBaskets.{Gathers, HasGathered};
+ghost use Rattle.basket_csv.specs.Read.{AnswersBy};
 
 use basket_read::{ItemCounts, ReadFault};
 use basket_sets::{Database, ItemTable, Itemset};
@@ -46,6 +46,7 @@ impl GatheredBaskets {
     }
 
     /// Adds the basket of the numbers, which may come in any order and repeat, unless there is none.
+    #[tactic(auto, using(crate::proofs::GatheredLemmas::rising_nonempty))]
     pub fn add(&mut self, numbers: &[u32], weight: u32) -> Result<(), ReadFault>
         requires weighs { 1 ≤ weight }
         requires few { self.old.heavy ≡ false → length self.old.baskets < MOST_BASKETS }
@@ -90,21 +91,11 @@ impl GatheredBaskets {
         Ok(())
     }
 
-    /// All baskets, if they don't weigh too much and were to be kept.
-    pub fn finish(self) -> Result<Database, ReadFault>
-        ensures { (baskets : List Weighted) → HasGathered self false baskets → result ≡ if_light baskets }
-    {
-        let GatheredBaskets { baskets, heavy, .. } = self;
-        if heavy {
-            Err(ReadFault::Heavy)
-        } else {
-            Ok(baskets)
-        }
-    }
-
-    /// The counts of all baskets, if they don't weigh too much.
-    pub fn finish_counts(self) -> Result<ItemCounts, ReadFault>
-        ensures { (counting : Bool) (baskets : List Weighted) → HasGathered self counting baskets → Counts result (if_light baskets) }
+    /// All baskets, if they don't weigh too much: the counts of those that are past, and the others.
+    pub fn finish(self) -> Result<ItemCounts, ReadFault>
+        ensures baskets { (counting : Bool) (baskets : List Weighted) → HasGathered self counting baskets →
+            AnswersBy (Gathers counting baskets) result (if_light baskets) }
+        ensures err { IfErr result (λ fault. fault ≡ ReadFault.Heavy) }
     {
         let GatheredBaskets {
             baskets,

@@ -6,20 +6,20 @@ ghost use Rattle.basket_csv.specs.Names.{number_in, with_name, IsKnown};
 use crate::key::Key;
 use crate::names::Numbering;
 use crate::recent::{FREE, RecentName};
+use crate::seed::Seed;
 use basket_read::ReadFault;
 use std::alloc::Global;
-use std::hash::BuildHasher;
 use std::marker::Model;
 
 /// The ids so far, by which new ones are numbered. If one can't be numbered, all are lost.
 #[derive(Drop)]
-pub struct Ids<S: BuildHasher> {
-    numbering: Numbering<S>,
+pub struct Ids {
+    numbering: Numbering,
     /// The id that was numbered last, which most records have again.
     last: RecentName,
 }
 
-impl<S: BuildHasher> Model for Ids<S> {
+impl Model for Ids {
     ghost use Rattle.std.specs.Prelude.{ℕ, List};
     ghost use Rattle.basket_csv.specs.Recent.{HasKnown};
 
@@ -30,12 +30,12 @@ impl<S: BuildHasher> Model for Ids<S> {
     ghost invariant = { λ ids. HasKnown ids.numbering ids.last };
 }
 
-impl<S: BuildHasher> Ids<S> {
-    pub fn new(alloc: Global, hasher: S) -> Self
+impl Ids {
+    pub fn new(alloc: Global, seed: Seed) -> Self
         ensures { result ≡ [] }
     {
         Ids {
-            numbering: Numbering::new(alloc, hasher),
+            numbering: Numbering::new(alloc, seed),
             last: FREE,
         }
     }

@@ -18,7 +18,7 @@ mod read;
 mod recent;
 mod records;
 mod row;
-mod weight;
+mod seed;
 pub mod worked;
 
 pub use dialect::Dialect;

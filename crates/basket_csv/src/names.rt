@@ -6,10 +6,10 @@ ghost use Rattle.basket_csv.specs.Recent.{IsNumberAt};
 
 use crate::key::Key;
 use crate::recent::Recent;
+use crate::seed::Seed;
 use basket_read::ReadFault;
 use indexmap::IndexSet;
 use std::alloc::{AllocError, Global};
-use std::hash::BuildHasher;
 use std::marker::Model;
 
 /// The names of items. An item's number is the place of its name, from 0.
@@ -60,13 +60,13 @@ impl Names {
 
 /// The names so far, by which new ones are numbered. If one can't be numbered, all are lost.
 #[derive(Drop)]
-pub struct Numbering<S: BuildHasher> {
+pub struct Numbering {
     alloc: Global,
-    names: IndexSet<String, S>,
+    names: IndexSet<String, Seed>,
     recent: Recent,
 }
 
-impl<S: BuildHasher> Model for Numbering<S> {
+impl Model for Numbering {
     ghost use Rattle.std.specs.Prelude.{ℕ, List, map};
     ghost use Rattle.std.specs.String.{string_bytes};
     ghost use Rattle.basket_csv.specs.Recent.{KeepsKnown};
@@ -78,13 +78,13 @@ impl<S: BuildHasher> Model for Numbering<S> {
     ghost invariant = { λ n. KeepsKnown (map string_bytes n.names.keys) n.recent };
 }
 
-impl<S: BuildHasher> Numbering<S> {
-    pub fn new(alloc: Global, hasher: S) -> Self
+impl Numbering {
+    pub fn new(alloc: Global, seed: Seed) -> Self
         ensures { result ≡ [] }
     {
         Numbering {
             alloc,
-            names: IndexSet::with_hasher(alloc, hasher),
+            names: IndexSet::with_hasher(alloc, seed),
             recent: Recent::new(alloc),
         }
     }
@@ -150,15 +150,13 @@ impl<S: BuildHasher> Numbering<S> {
         let (place, _) = self.names.insert_full(String::from_str(self.alloc, name)?)?;
         Ok(place)
     }
-}
 
-impl<S: BuildHasher + Drop> Numbering<S> {
     /// The numbering of these names, each of which counts once.
-    pub fn of(alloc: Global, hasher: S, known: Names) -> Result<Self, ReadFault>
+    pub fn of(alloc: Global, seed: Seed, known: Names) -> Result<Self, ReadFault>
         ensures names { IfOk result (λ numbering. numbering ≡ in_order known) }
         ensures err { IfErr result (λ fault. fault ≡ ReadFault.Memory) }
     {
-        let mut names = IndexSet::with_hasher(alloc, hasher);
+        let mut names = IndexSet::with_hasher(alloc, seed);
         for name in known.names {
             names.insert_full(name)?;
         }

@@ -1,29 +1,26 @@
 //! Records that have a basket's id and a name each.
-ghost use Rattle.std.specs.Prelude.{◌≡◌, ◌≤◌, List, ℕ, [], ◌∷◌, ◌++◌, length, map, false, None, OnOk, IfOk, IfErr, IfSome};
+ghost use Rattle.std.specs.Prelude.{◌≡◌, ◌≤◌, List, ℕ, [], ◌∷◌, ◌++◌, length, map, false, None, Ok, OnOk, IfOk, IfErr, IfSome};
 ghost use Rattle.std.specs.List.{flat_map};
 ghost use Rattle.csv.specs.Records.{fields_of};
-ghost use Rattle.basket_read.specs.Fimi.{basket_of_numbers, if_light, MOST_BYTES};
+ghost use Rattle.basket_read.specs.Fimi.{basket_of_numbers};
 ghost use Rattle.basket_sets.specs.Database.{MOST_BASKETS};
-ghost use Rattle.basket_csv.specs.Csv.{pair_fault, pairs_of, baskets_of_pairs, names_of_pairs, with_names, say_pairs, behind_header, first_number};
+ghost use Rattle.basket_csv.specs.Csv.{Named, pair_fault, pairs_of, pairs_said};
 ghost use Rattle.basket_csv.specs.GatheredBaskets.{HasGathered};
-ghost use Rattle.basket_csv.specs.Read.{Answers};
-ghost use Rattle.basket_csv.specs.Records.{records_of};
 ghost use Rattle.basket_csv.specs.Row.{IsKnownPair};
 ghost use Rattle.basket_csv.specs.Pairs.{HasPairs, added_at};
 
-use crate::collector::{RecordCollector, add_all};
-use crate::dialect::Dialect;
+use crate::collector::RecordCollector;
 use crate::field::{is_name, trim};
 use crate::gathered::GatheredBaskets;
 use crate::ids::Ids;
 use crate::names::{Names, Numbering};
 use crate::row::{is_text_from, known_number, text_at};
+use crate::seed::Seed;
 use basket_read::ReadFault;
 use basket_sets::{Database, INLINE_ITEMS};
 use csv::ByteRecord;
 use smallvec::SmallVec;
 use std::alloc::{AllocError, Global};
-use std::hash::BuildHasher;
 
 /// The numbers of the names of an id. Most have few, which need no allocation.
 type Group = SmallVec<u32, { INLINE_ITEMS }>;
@@ -62,29 +59,27 @@ fn gathered_from(alloc: Global, groups: &[Group]) -> Result<GatheredBaskets, Rea
 
 /// What has been read of such records: the numbers of the names of each id.
 #[derive(Drop)]
-pub struct Pairs<S: BuildHasher> {
+pub struct Pairs {
     alloc: Global,
-    names: Numbering<S>,
-    ids: Ids<S>,
+    names: Numbering,
+    ids: Ids,
     groups: Vec<Group>,
 }
 
-impl<S: BuildHasher + Copy + Drop> Pairs<S> {
+impl Pairs {
     /// Nothing is read yet, and some names are known.
-    pub fn new(alloc: Global, hasher: S, known: Names) -> Result<Self, ReadFault>
+    pub fn new(alloc: Global, seed: Seed, known: Names) -> Result<Self, ReadFault>
         ensures read { IfOk result (λ pairs. HasPairs pairs known []) }
         ensures err { IfErr result (λ fault. fault ≡ ReadFault.Memory) }
     {
         Ok(Pairs {
             alloc,
-            names: Numbering::of(alloc, hasher, known)?,
-            ids: Ids::new(alloc, hasher),
+            names: Numbering::of(alloc, seed, known)?,
+            ids: Ids::new(alloc, seed),
             groups: Vec::new(alloc),
         })
     }
-}
 
-impl<S: BuildHasher> Pairs<S> {
     /// Adds a name to the basket with an id.
     fn add_pair(&mut self, id: &str, name: &str) -> Result<(), ReadFault>
         ensures read { (known : List (List ℕ)) (pairs : List (List ℕ × List ℕ)) → HasPairs self.old known pairs → OnOk result (HasPairs self.new known (pairs ++ (id.now, name.now) ∷ [])) }
@@ -113,8 +108,16 @@ impl<S: BuildHasher> Pairs<S> {
     }
 }
 
-impl<S: BuildHasher> RecordCollector for Pairs<S> {
+impl RecordCollector for Pairs {
+    type Found = Database;
+
+    ghost Said = { Named };
+
     ghost fault_of = { λ start. pair_fault };
+
+    ghost said_of = { λ start rows. pairs_said start.known (pairs_of rows) };
+
+    ghost finds = { λ start found said. said ≡ Ok found };
 
     ghost has_read = { λ pairs start rows. HasPairs pairs start.known (pairs_of rows) };
 
@@ -141,15 +144,9 @@ impl<S: BuildHasher> RecordCollector for Pairs<S> {
         }
         self.add_pair(trim(id), name)
     }
-}
 
-impl<S: BuildHasher + Drop> Pairs<S> {
     /// A basket for each id, with the names of all its records.
-    pub fn finish(self) -> Result<(Database, Names), ReadFault>
-        requires few { length self.groups.items ≤ MOST_BASKETS }
-        ensures { (known : List (List ℕ)) (pairs : List (List ℕ × List ℕ)) → HasPairs self known pairs →
-            Answers result (with_names (if_light (baskets_of_pairs known pairs)) (names_of_pairs known pairs)) }
-    {
+    fn finish(self) -> Result<(Database, Names), ReadFault> {
         let Pairs {
             alloc,
             names,
@@ -159,22 +156,6 @@ impl<S: BuildHasher + Drop> Pairs<S> {
         // The memory of the groups is used for the baskets.
         drop(ids);
         let baskets = gathered_from(alloc, &groups)?.finish()?;
-        Ok((baskets, names.into_names()?))
+        Ok((baskets.rest, names.into_names()?))
     }
-}
-
-/// What the bytes say, where each record is a pair of a basket's id and a name.
-pub fn say_pairs<S: BuildHasher + Copy + Drop>(
-    alloc: Global,
-    bytes: &[u8],
-    dialect: Dialect,
-    known: Names,
-    hasher: S,
-) -> Result<(Database, Names), ReadFault>
-    requires { length bytes.now ≤ MOST_BYTES }
-    ensures { Answers result (say_pairs (first_number dialect.header) known (behind_header dialect.header (records_of dialect.separator bytes.now))) }
-{
-    let mut pairs = Pairs::new(alloc, hasher, known)?;
-    add_all(alloc, bytes, dialect, &mut pairs)?;
-    pairs.finish()
 }

@@ -1,4 +1,4 @@
-//! Reading a CSV input, over random keys or a fixed seed.
+//! Reading a CSV input.
 ghost use Rattle.std.specs.Prelude.{◌≡◌, true, false, IfOk, IfSome, Err};
 ghost use Rattle.basket_read.specs.declared.fault.ReadFault.TheVariants.{Read};
 ghost use Rattle.basket_csv.specs.Counts.{named_counts_of};
@@ -6,20 +6,21 @@ ghost use Rattle.basket_csv.specs.Csv.{baskets_of_csv, pairs_of_csv};
 ghost use Rattle.basket_csv.specs.Read.{Answers, AnswersCounts, AnswersItems};
 ghost use Rattle.basket_read.specs.ItemCounts.{AreLightCounts};
 
-use crate::baskets::{say_baskets, say_items};
-use crate::counts::say_counts;
+use crate::baskets::Baskets;
+use crate::collector::say;
+use crate::counts::Counts;
 use crate::dialect::Dialect;
 use crate::input::take_in;
 use crate::names::Names;
-use crate::pairs::say_pairs;
+use crate::pairs::Pairs;
+use crate::seed::Seed;
 use basket_read::{CountedLine, ItemCounts, ReadFault};
 use basket_sets::Database;
 use basket_stream::Source;
 use std::alloc::Global;
-use std::hash::{BuildHasherDefault, FoldHasher, RandomState};
 use std::random::RandomSource;
 
-/// Reads a CSV input to its end, where each record is a basket of names: its fields, without the
+/// Reads a CSV input to its end. Each record is a basket of names: its fields, without the
 /// spaces and tabs at their ends and without the empty ones. With `weight` the first field of each
 /// record except the header is the basket's weight. The known names keep their numbers, and new
 /// ones are numbered after them.
@@ -39,14 +40,9 @@ pub fn read_baskets<R: RandomSource, S: Source>(
     ensures read_is_failed { result ≡ Err Read → S.has_failed reader.new ≡ true }
 {
     let bytes = take_in(alloc, reader)?;
-    match RandomState::new(rt) {
-        Ok(keys) => say_baskets(alloc, &bytes, dialect, weight, known, keys),
-        // The order of the names is the same.
-        Err(_) => {
-            let seed = BuildHasherDefault::<FoldHasher>::new();
-            say_baskets(alloc, &bytes, dialect, weight, known, seed)
-        }
-    }
+    let baskets = Baskets::new(alloc, Seed::new(rt), weight, known, false)?;
+    let (counts, names) = say(alloc, &bytes, dialect, baskets)?;
+    Ok((counts.rest, names))
 }
 
 /// Reads a CSV input to its end, as `read_baskets` does, and counts the items of its baskets.
@@ -67,17 +63,11 @@ pub fn count_baskets<R: RandomSource, S: Source>(
     ensures read_is_failed { result ≡ Err Read → S.has_failed reader.new ≡ true }
 {
     let bytes = take_in(alloc, reader)?;
-    match RandomState::new(rt) {
-        Ok(keys) => say_items(alloc, &bytes, dialect, weight, known, keys),
-        // The order of the names is the same.
-        Err(_) => {
-            let seed = BuildHasherDefault::<FoldHasher>::new();
-            say_items(alloc, &bytes, dialect, weight, known, seed)
-        }
-    }
+    let baskets = Baskets::new(alloc, Seed::new(rt), weight, known, true)?;
+    say(alloc, &bytes, dialect, baskets)
 }
 
-/// Reads a CSV input to its end, where each record is a pair: the id of a basket and a name in it,
+/// Reads a CSV input to its end. Each record is a pair: the id of a basket and a name in it,
 /// both without the spaces and tabs at their ends. A record without a name is ignored. The known
 /// names keep their numbers, and new ones are numbered after them.
 pub fn read_single<R: RandomSource, S: Source>(
@@ -95,17 +85,11 @@ pub fn read_single<R: RandomSource, S: Source>(
     ensures read_is_failed { result ≡ Err Read → S.has_failed reader.new ≡ true }
 {
     let bytes = take_in(alloc, reader)?;
-    match RandomState::new(rt) {
-        Ok(keys) => say_pairs(alloc, &bytes, dialect, known, keys),
-        // The order of the names is the same.
-        Err(_) => {
-            let seed = BuildHasherDefault::<FoldHasher>::new();
-            say_pairs(alloc, &bytes, dialect, known, seed)
-        }
-    }
+    let pairs = Pairs::new(alloc, Seed::new(rt), known)?;
+    say(alloc, &bytes, dialect, pairs)
 }
 
-/// Reads a CSV input to its end, where each record is a count and a set of names: its first field
+/// Reads a CSV input to its end. Each record is a count and a set of names: its first field
 /// is the count, and the others are the names, without the spaces and tabs at their ends and
 /// without the empty ones. The known names keep their numbers, and new ones are numbered after
 /// them. A set's line is the number of its record; the header, if there is one, is number 1.
@@ -124,12 +108,6 @@ pub fn read_named_counts<R: RandomSource, S: Source>(
     ensures read_is_failed { result ≡ Err Read → S.has_failed reader.new ≡ true }
 {
     let bytes = take_in(alloc, reader)?;
-    match RandomState::new(rt) {
-        Ok(keys) => say_counts(alloc, &bytes, dialect, known, keys),
-        // The order of the names is the same.
-        Err(_) => {
-            let seed = BuildHasherDefault::<FoldHasher>::new();
-            say_counts(alloc, &bytes, dialect, known, seed)
-        }
-    }
+    let counts = Counts::new(alloc, Seed::new(rt), known)?;
+    say(alloc, &bytes, dialect, counts)
 }

@@ -2,7 +2,7 @@
 ghost use Rattle.std.specs.Prelude.{◌≡◌, ◌≤◌, ◌+◌, ℕ, [], ◌∷◌, length, true, false, if◌then◌else◌, IfOk, IfErr};
 ghost use Rattle.csv.specs.Records.{fields_of};
 ghost use Rattle.basket_read.specs.Fimi.{MOST_BYTES};
-ghost use Rattle.basket_csv.specs.Csv.{behind_header, first_number};
+ghost use Rattle.basket_csv.specs.Csv.{after_header, first_number};
 ghost use Rattle.basket_csv.specs.Records.{records_of, records_left, records_taken, record_read, IsReading};
 
 use basket_read::ReadFault;
@@ -63,7 +63,7 @@ impl<'a> Records<'a> {
         requires reading { IsReading self.old }
         requires fresh { records_taken self.old ≡ 0 }
         ensures reading { IfOk result (λ more. more ≡ true → IsReading self.new) }
-        ensures left { IfOk result (λ more. behind_header header (records_left self.old) ≡ (if more then records_left self.new else [])) }
+        ensures left { IfOk result (λ more. after_header header (records_left self.old) ≡ (if more then records_left self.new else [])) }
         ensures number { IfOk result (λ more. more ≡ true → records_taken self.new + 1 ≡ first_number header) }
         ensures err { IfErr result (λ fault. fault ≡ ReadFault.Memory) }
     {

@@ -11,7 +11,6 @@ use crate::key::Key;
 use crate::names::Numbering;
 use basket_read::ReadFault;
 use csv::ByteRecord;
-use std::hash::BuildHasher;
 
 /// The text of a field, if it is UTF-8. It is empty if there is no such field.
 #[inline]
@@ -28,11 +27,7 @@ pub fn text_at(row: &ByteRecord, place: usize) -> Option<&str>
 /// The number of the name in a field, if the field is the name and no more, and it was found
 /// recently.
 #[inline]
-pub fn known_number<S: BuildHasher>(
-    row: &ByteRecord,
-    place: usize,
-    names: &Numbering<S>,
-) -> Option<u32>
+pub fn known_number(row: &ByteRecord, place: usize, names: &Numbering) -> Option<u32>
     ensures { IfSome result (IsKnownField names.now (field_in (fields_of row.now) place)) }
 {
     let field = row.get(place)?;
@@ -57,10 +52,10 @@ pub fn is_text_from(row: &ByteRecord, first: usize) -> bool
 
 /// Numbers the names in the fields from a place on. If one of these is not UTF-8, or after an
 /// `Err`, `names` and `numbers` are lost.
-pub fn number_names<S: BuildHasher>(
+pub fn number_names(
     row: &ByteRecord,
     first: usize,
-    names: &mut Numbering<S>,
+    names: &mut Numbering,
     numbers: &mut Vec<u32>,
 ) -> Result<bool, ReadFault>
     ensures text { IfOk result (λ is. is ≡ is_text (drop first (fields_of row.now))) }

@@ -1,4 +1,6 @@
 //! Worked inputs, proved by computing what the definition returns.
+#![tactic(auto, unfolding(crate::proofs::OnLiterals::on_literals))]
+
 ghost use Rattle.std.specs.Prelude.{◌≡◌, [], ◌∷◌, Ok, Err, true, false, codes};
 ghost use Rattle.basket_sets.specs.Database.{weighted};
 ghost use Rattle.basket_csv.specs.Counts.{named_counts_of};

@@ -1,26 +1,30 @@
-use Rattle.std.proofs.Common.{◌++◌}
-use Rattle.basket_csv.specs.Csv.{all_names, basket_fault, baskets_in, behind_header, fault_from, first_number, say_baskets}
-use Rattle.basket_csv.specs.Names.{in_order}
-use Rattle.basket_csv.specs.Records.{records_of}
-use Rattle.basket_csv.proofs.ReadLemmas.{baskets_not_read, items_refuted, light_items}
+use Rattle.std.proofs.Common.{◌≡◌, ◌≢◌, Ok, List, true, refl}
+use Rattle.basket_sets.specs.declared.weighted.Weighted.{Weighted}
+use Rattle.basket_read.specs.ItemCounts.{AreCountsOf}
+use Rattle.std.proofs.lemmas.Result.{IfErr-at_err}
+use Rattle.basket_read.specs.declared.fault.ReadFault.TheVariants.{Read}
+use Rattle.basket_csv.specs.RecordCollector.{Start}
+use Rattle.basket_csv.specs.Csv.{basket_fault, baskets_said, first_number, records_say}
+use Rattle.basket_csv.proofs.ReadLemmas.{exact, items_found, light_items}
 use Rattle.basket_csv.proofs.read.count_baskets.Goals as goal
 
-pub returns-in-Ok-clause-light : goal.returns-in-Ok-clause-light
-returns-in-Ok-clause-light g c =
-    let rows = behind_header c.args.dialect.header (records_of c.args.dialect.separator c.deref.result.now) in
-    light_items c.say_items.result (fault_from (basket_fault c.args.weight) (first_number c.args.dialect.header) rows) (baskets_in c.args.weight c.args.known rows) (in_order (c.args.known ++ all_names c.args.weight rows)) c.say_items.ensures
+pub say-requires-clause-read : goal.say-requires-clause-read
+say-requires-clause-read g c =
+    let start : Start = record { first = first_number c.args.dialect.header; weighted = c.args.weight; known = c.args.known; counting = true } in
+    (start, refl, c.in_ok-baskets.ensures.read start refl refl refl)
+
+pub returns-clause-exact : goal.returns-clause-exact
+returns-clause-exact g c = λ working.
+    let start : Start = record { first = first_number c.args.dialect.header; weighted = c.args.weight; known = c.args.known; counting = true } in
+    let say = records_say c.args.dialect.separator c.args.dialect.header (basket_fault c.args.weight) (baskets_said c.args.weight c.args.known) in
+    exact (λ found said. (baskets : List Weighted) × (said ≡ Ok (baskets, found.1)) × AreCountsOf found.0 baskets) c.say.result (g.S.Source.left c.args.reader.now) c.deref.result.now c.in_ok-bytes.bytes.items say c.deref.ensures.value c.in_ok-bytes.ensures.1 c.in_ok-bytes.ensures.2
+    (items_found true c.say.result (say c.deref.result.now) (c.say.ensures.said start refl (c.in_ok-baskets.ensures.read start refl refl refl)))
 
 pub returns-clause-light : goal.returns-clause-light
 returns-clause-light g c =
-    let rows = behind_header c.args.dialect.header (records_of c.args.dialect.separator c.deref-in-Err.result.now) in
-    light_items c.say_items-in-Err.result (fault_from (basket_fault c.args.weight) (first_number c.args.dialect.header) rows) (baskets_in c.args.weight c.args.known rows) (in_order (c.args.known ++ all_names c.args.weight rows)) c.say_items-in-Err.ensures
-
-pub returns-in-Ok-clause-read_is_failed : goal.returns-in-Ok-clause-read_is_failed
-returns-in-Ok-clause-read_is_failed g c =
-    let rows = behind_header c.args.dialect.header (records_of c.args.dialect.separator c.deref.result.now) in
-    items_refuted c.say_items.result (say_baskets c.args.weight (first_number c.args.dialect.header) c.args.known rows) c.say_items.ensures (baskets_not_read c.args.weight (first_number c.args.dialect.header) c.args.known rows)
+    let start : Start = record { first = first_number c.args.dialect.header; weighted = c.args.weight; known = c.args.known; counting = true } in
+    let say = records_say c.args.dialect.separator c.args.dialect.header (basket_fault c.args.weight) (baskets_said c.args.weight c.args.known) in
+    light_items true c.say.result (say c.deref.result.now) (c.say.ensures.said start refl (c.in_ok-baskets.ensures.read start refl refl refl))
 
 pub returns-clause-read_is_failed : goal.returns-clause-read_is_failed
-returns-clause-read_is_failed g c =
-    let rows = behind_header c.args.dialect.header (records_of c.args.dialect.separator c.deref-in-Err.result.now) in
-    items_refuted c.say_items-in-Err.result (say_baskets c.args.weight (first_number c.args.dialect.header) c.args.known rows) c.say_items-in-Err.ensures (baskets_not_read c.args.weight (first_number c.args.dialect.header) c.args.known rows)
+returns-clause-read_is_failed g c = λ e. absurd (IfErr-at_err (λ fault. fault ≢ Read) e c.say.ensures.not_read refl)

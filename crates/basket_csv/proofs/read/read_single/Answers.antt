@@ -1,14 +1,22 @@
-use Rattle.basket_csv.specs.Csv.{behind_header, first_number, say_pairs}
-use Rattle.basket_csv.specs.Records.{records_of}
-use Rattle.basket_csv.proofs.ReadLemmas.{pairs_not_read, read_refuted}
+use Rattle.std.proofs.Common.{◌≡◌, ◌≢◌, Ok, false, refl}
+use Rattle.std.proofs.lemmas.Result.{IfErr-at_err}
+use Rattle.basket_read.specs.declared.fault.ReadFault.TheVariants.{Read}
+use Rattle.basket_csv.specs.RecordCollector.{Start}
+use Rattle.basket_csv.specs.Csv.{first_number, pair_fault, pairs_of, pairs_said, records_say}
+use Rattle.basket_csv.proofs.ReadLemmas.{exact}
 use Rattle.basket_csv.proofs.read.read_single.Goals as goal
 
-pub returns-in-Ok-clause-read_is_failed : goal.returns-in-Ok-clause-read_is_failed
-returns-in-Ok-clause-read_is_failed g c =
-    let rows = behind_header c.args.dialect.header (records_of c.args.dialect.separator c.deref.result.now) in
-    read_refuted c.say_pairs.result (say_pairs (first_number c.args.dialect.header) c.args.known rows) c.say_pairs.ensures (pairs_not_read (first_number c.args.dialect.header) c.args.known rows)
+pub say-requires-clause-read : goal.say-requires-clause-read
+say-requires-clause-read g c =
+    let start : Start = record { first = first_number c.args.dialect.header; weighted = false; known = c.args.known; counting = false } in
+    (start, refl, c.in_ok-pairs.ensures.read)
+
+pub returns-clause-exact : goal.returns-clause-exact
+returns-clause-exact g c = λ working.
+    let start : Start = record { first = first_number c.args.dialect.header; weighted = false; known = c.args.known; counting = false } in
+    let say = records_say c.args.dialect.separator c.args.dialect.header pair_fault (λ rows. pairs_said c.args.known (pairs_of rows)) in
+    exact (λ found said. said ≡ Ok found) c.say.result (g.S.Source.left c.args.reader.now) c.deref.result.now c.in_ok-bytes.bytes.items say c.deref.ensures.value c.in_ok-bytes.ensures.1 c.in_ok-bytes.ensures.2
+    (c.say.ensures.said start refl c.in_ok-pairs.ensures.read)
 
 pub returns-clause-read_is_failed : goal.returns-clause-read_is_failed
-returns-clause-read_is_failed g c =
-    let rows = behind_header c.args.dialect.header (records_of c.args.dialect.separator c.deref-in-Err.result.now) in
-    read_refuted c.say_pairs-in-Err.result (say_pairs (first_number c.args.dialect.header) c.args.known rows) c.say_pairs-in-Err.ensures (pairs_not_read (first_number c.args.dialect.header) c.args.known rows)
+returns-clause-read_is_failed g c = λ e. absurd (IfErr-at_err (λ fault. fault ≢ Read) e c.say.ensures.not_read refl)

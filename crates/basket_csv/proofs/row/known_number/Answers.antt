@@ -5,7 +5,7 @@ use Rattle.basket_csv.proofs.RowLemmas.{field_found, known_field}
 use Rattle.basket_csv.proofs.row.known_number.Goals as goal
 
 pub returns-then-is_name : goal.returns-then-is_name
-returns-then-is_name g c =
+returns-then-is_name c =
     let fields = fields_of c.args.row.now in
     let field = c.in_ok-field.field.now in
     known_field c.recent_number.result c.args.names.now (field_in fields c.args.place) field (field_found fields c.args.place field c.in_ok-field.ensures.value)

@@ -7,7 +7,7 @@ use Rattle.basket_csv.proofs.BasketLemmas.{FaultIs, added, no_fault, before_name
 use Rattle.basket_csv.proofs.baskets.BasketsRecordCollector.add.Goals as goal
 
 pub returns-in-Some-clause-fault : goal.returns-in-Some-clause-fault
-returns-in-Some-clause-fault g c = λ start rows h.
+returns-in-Some-clause-fault c = λ start rows h.
     let weighted = c.args.self.now.weighted in
     subst (λ b. FaultIs c.add.result b c.args.nth (fields_of c.args.row.now)) h.weighted
     (no_fault weighted c.args.nth (fields_of c.args.row.now) c.from-first.result c.in-Some.weight c.add.result
@@ -15,7 +15,7 @@ returns-in-Some-clause-fault g c = λ start rows h.
     (sym c.in-Some.is ∙ c.in_ok-weight.ensures.weight.0) c.add.ensures.err)
 
 pub returns-in-Some-clause-read : goal.returns-in-Some-clause-read
-returns-in-Some-clause-read g c = λ start rows _ h.
+returns-in-Some-clause-read c = λ start rows _ h.
     let old = c.args.self.now in
     added old (record { weighted = old.weighted; names = c.number_names.new.names; gathered = c.add.new.self; numbers = c.number_names.new.numbers }) start rows (fields_of c.args.row.now)
     c.from-first.result c.in-Some.weight c.deref.result.now c.add.result
@@ -24,7 +24,7 @@ returns-in-Some-clause-read g c = λ start rows _ h.
     (c.deref.ensures.value ∙ c.in_ok-number_names.ensures.numbers c.if-not-branch.false) c.add.ensures.baskets h
 
 pub add-requires-clause-few : goal.add-requires-clause-few
-add-requires-clause-few g c = λ light.
+add-requires-clause-few c = λ light.
     let (start, rows, nth, read) = c.requires.read in
     let each = one_each (basket_of start.weighted (in_order (start.known ++ all_names start.weighted rows))) (λ row. one_basket _ _) rows in
     omega (arith, kept_few _ _ _ read.gathered light, each, nth, c.requires.few)

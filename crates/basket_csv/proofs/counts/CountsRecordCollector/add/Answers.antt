@@ -4,16 +4,15 @@ use Rattle.basket_sets.specs.Database.{MOST_WEIGHT}
 use Rattle.basket_sets.specs.Itemset.{rising}
 use Rattle.basket_sets.specs.Number.{number_of}
 use Rattle.basket_csv.specs.Field.{trimmed}
-use Rattle.basket_csv.proofs.BasketLemmas.{no_text_first}
-use Rattle.basket_csv.proofs.CountLemmas.{not_text, counted}
-use Rattle.basket_csv.proofs.RowLemmas.{nothing_is_text}
+use Rattle.basket_csv.proofs.CountLemmas.{counted}
+use Rattle.basket_csv.proofs.RowLemmas.{text_fault}
 use Rattle.basket_csv.proofs.counts.CountsRecordCollector.add.Goals as goal
 
 pub returns-in_default-clause-fault : goal.returns-in_default-clause-fault
-returns-in_default-clause-fault g c = λ start rows h _. not_text c.args.nth (fields_of c.args.row.now) (no_text_first (fields_of c.args.row.now) c.in_default.ensures nothing_is_text)
+returns-in_default-clause-fault c = λ start rows h _. text_fault c.args.nth (fields_of c.args.row.now) _ 0 c.in_default.ensures
 
 pub returns-clause-read : goal.returns-clause-read
-returns-clause-read g c = λ start rows at h.
+returns-clause-read c = λ start rows at h.
     let old = c.args.self.now in
     let text = c.as_bytes.ensures.value ∙ c.trim.ensures ∙ ap trimmed c.in-Some.ensures.0 in
     counted old (record { alloc = old.alloc; names = c.number_names.new.names; lines = c.push.new.self; numbers = c.number_names.new.numbers }) start rows (fields_of c.args.row.now)

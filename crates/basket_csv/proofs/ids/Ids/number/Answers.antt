@@ -5,7 +5,7 @@ use Rattle.basket_csv.proofs.RecentLemmas.{numbered_known}
 use Rattle.basket_csv.proofs.ids.Ids.number.Goals as goal
 
 pub invariant_of-self-2 : goal.invariant_of-self-2
-invariant_of-self-2 g c =
+invariant_of-self-2 c =
     let new = c.number.new.self in
     let number = c.in_ok-number.number in
     let known = numbered_known c.self.inside.numbering new c.args.id.now number c.utf8.id c.in_ok-number.ensures.names c.in_ok-number.ensures.number in

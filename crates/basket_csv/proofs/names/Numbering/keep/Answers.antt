@@ -3,5 +3,5 @@ use Rattle.basket_csv.specs.Recent.{IsNumberAt}
 use Rattle.basket_csv.proofs.names.Numbering.keep.Goals as goal
 
 pub invariant_of-self-2 : goal.invariant_of-self-2
-invariant_of-self-2 g c =
+invariant_of-self-2 c =
     c.keep.ensures _ (subst (λ names. IsNumberAt names c.args.key.now c.args.number) (sym c.self.view_is) c.requires) (c.make_room.ensures _ c.self.invariant)

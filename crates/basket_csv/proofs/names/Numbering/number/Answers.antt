@@ -4,7 +4,7 @@ use Rattle.basket_csv.proofs.RecentLemmas.{numbered_known}
 use Rattle.basket_csv.proofs.names.Numbering.number.Goals as goal
 
 pub keep-requires : goal.keep-requires
-keep-requires g c = λ whole.
+keep-requires c = λ whole.
     let new = c.place.new.self in
     let is_name = c.of-key.ensures whole ∙ c.as_bytes.ensures.value in
     let known = numbered_known c.args.self.now new c.args.name.now c.in-Ok.number c.utf8.name c.in_ok-place.ensures.names (c.in-Ok.ensures.1 ∙ c.in_ok-place.ensures.number) in

@@ -6,10 +6,10 @@ use Rattle.basket_csv.proofs.NamesLemmas.{inserted}
 use Rattle.basket_csv.proofs.names.Numbering.of.Goals as goal
 
 pub invariant_of-result : goal.invariant_of-result
-invariant_of-result g c = c.new.ensures (map string_bytes c.loop-name.names.keys)
+invariant_of-result c = c.new.ensures (map string_bytes c.loop-name.names.keys)
 
 pub loop-name-preserved : goal.loop-name-preserved
-loop-name-preserved g c =
+loop-name-preserved c =
     let keys = c.loop-name.names.keys in
     let rest = map string_bytes (into_iter_items c.next.new.self) in
     let step = c.in-Some.ensures.steps.0 in

@@ -5,8 +5,8 @@ use Rattle.basket_csv.specs.Names.{in_order, with_name}
 use Rattle.basket_csv.proofs.names.Numbering.of.Given as goal
 
 abbrev pub invariant-loop-name : goal.invariant-loop-name
-invariant-loop-name g l = record {
-  can : (goal.iterator-loop-name g).can_next l.name-iterator;
-  ends : (goal.iterator-loop-name g).is_finite l.name-iterator;
+invariant-loop-name l = record {
+  can : (goal.iterator-loop-name).can_next l.name-iterator;
+  ends : (goal.iterator-loop-name).is_finite l.name-iterator;
   whole : fold with_name (map string_bytes l.names.keys) (map string_bytes (into_iter_items l.name-iterator)) ≡ in_order l.fn.known;
 }

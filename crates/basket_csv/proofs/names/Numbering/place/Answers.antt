@@ -5,24 +5,19 @@ use Rattle.basket_csv.proofs.NamesLemmas.{known_place, new_place}
 use Rattle.basket_csv.proofs.RecentLemmas.{kept_more}
 use Rattle.basket_csv.proofs.names.Numbering.place.Goals as goal
 
-pub returns-in-Some-clause-names : goal.returns-in-Some-clause-names
-returns-in-Some-clause-names g c = (known_place c.self.inside.names.keys c.args.self.now c.args.name.now c.in-Some.place (sym c.self.view_is) (sym c.in-Some.ensures.index)).0
+pub returns-in-Some : goal.returns-in-Some
+returns-in-Some c =
+    let (stay, place) = known_place c.self.inside.names.keys c.args.self.now c.args.name.now c.in-Some.place (sym c.self.view_is) (sym c.in-Some.ensures.index) in
+    record { names = stay; number = place; err = tt }
 
-pub returns-in-Some-clause-number : goal.returns-in-Some-clause-number
-returns-in-Some-clause-number g c = (known_place c.self.inside.names.keys c.args.self.now c.args.name.now c.in-Some.place (sym c.self.view_is) (sym c.in-Some.ensures.index)).1
-
-pub returns-clause-names : goal.returns-clause-names
-returns-clause-names g c =
-    (new_place c.self.inside.names.keys c.insert_full.new.self.keys c.in_ok-from_str.field-0 c.args.self.now c.args.name.now c.in_ok-place.place
-    (sym c.self.view_is) c.in_ok-from_str.ensures.ok c.in_ok-place.ensures.keys c.in_ok-place.ensures.index).0
-
-pub returns-clause-number : goal.returns-clause-number
-returns-clause-number g c =
-    (new_place c.self.inside.names.keys c.insert_full.new.self.keys c.in_ok-from_str.field-0 c.args.self.now c.args.name.now c.in_ok-place.place
-    (sym c.self.view_is) c.in_ok-from_str.ensures.ok c.in_ok-place.ensures.keys c.in_ok-place.ensures.index).1
+pub returns : goal.returns
+returns c =
+    let (more, place) = new_place c.self.inside.names.keys c.insert_full.new.self.keys c.in_ok-from_str.field-0 c.args.self.now c.args.name.now c.in_ok-place.place
+    (sym c.self.view_is) c.in_ok-from_str.ensures.ok c.in_ok-place.ensures.keys c.in_ok-place.ensures.index in
+    record { names = more; number = place; err = tt }
 
 pub invariant_of-self-2 : goal.invariant_of-self-2
-invariant_of-self-2 g c =
+invariant_of-self-2 c =
     let keys = c.self.inside.names.keys in
     let more = new_place keys c.insert_full.new.self.keys c.in_ok-from_str.field-0 (map string_bytes keys) c.args.name.now c.in_ok-place.place
     refl c.in_ok-from_str.ensures.ok c.in_ok-place.ensures.keys c.in_ok-place.ensures.index in

@@ -8,7 +8,7 @@ use Rattle.basket_csv.proofs.NamesLemmas.{place_if_same}
 use Rattle.basket_csv.proofs.names.Numbering.recent_number.Goals as goal
 
 pub returns : goal.returns
-returns g c =
+returns c =
     let names = c.args.self.now in
     let name = c.args.name.now in
     let keys = c.as_slice.result.now in
@@ -22,7 +22,7 @@ returns g c =
     (sym c.self.view_is) c.as_slice.ensures.unique (ap (λ l. slice_get l number) (sym c.as_slice.ensures.keys) ∙ at) (subst IsUtf8 text c.as_str.utf8) equal)
 
 pub returns-then-is_whole : goal.returns-then-is_whole
-returns-then-is_whole g c =
+returns-then-is_whole c =
     let number = c.in_ok-number.number in
     let whole = c.is_whole.ensures.0 c.if-is_whole.true in
     let known = c.in_ok-number.ensures _ c.self.invariant whole in

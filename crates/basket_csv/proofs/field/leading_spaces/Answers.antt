@@ -1,7 +1,7 @@
 use Rattle.std.proofs.Common.{sym, arith}
 use Rattle.std.proofs.lemmas.List.Sums.{prefix_len_is}
 use Rattle.basket_csv.specs.Field.{is_space}
-use Rattle.basket_csv.proofs.field.front_spaces.Goals as goal
+use Rattle.basket_csv.proofs.field.leading_spaces.Goals as goal
 
 pub returns-then-not-is_space-clause-value : goal.returns-then-not-is_space-clause-value
 returns-then-not-is_space-clause-value c =

@@ -1,8 +1,0 @@
-use Rattle.std.proofs.Common.{refl}
-use Rattle.csv.specs.Records.{fields_of}
-use Rattle.basket_csv.proofs.BasketLemmas.{no_text_first}
-use Rattle.basket_csv.proofs.RowLemmas.{nothing_is_text}
-use Rattle.basket_csv.proofs.baskets.weight_of.Goals as goal
-
-pub returns-in-None-clause-weight : goal.returns-in-None-clause-weight
-returns-in-None-clause-weight c = (refl, no_text_first (fields_of c.args.row.now) c.in-None.ensures nothing_is_text)
