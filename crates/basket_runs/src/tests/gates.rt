@@ -185,7 +185,7 @@ fn pairs_of_neighbours(alloc: Global) -> Result<Vec<u8>, AllocError> {
 }
 
 #[test]
-fn two_workers_count_the_pairs_of_many_items_over_four_ranges(rt: HostRuntime) -> Result<(), Fail> {
+fn two_workers_count_the_pairs_of_many_items_over_two_ranges(rt: HostRuntime) -> Result<(), Fail> {
     let text = pairs_of_neighbours(rt.alloc())?;
     let plan = plan("2")?.with_miner(Miner::Apriori).with_pieces(65_536);
     let gate = SecondPhase {
@@ -194,7 +194,7 @@ fn two_workers_count_the_pairs_of_many_items_over_four_ranges(rt: HostRuntime) -
     };
     let found = found_by_two(&rt, rt.alloc(), &text, &plan, &gate)?;
     assert_eq!(rt; found, Some(300));
-    assert_eq!(rt; gate.times.load(Ordering::SeqCst), 4);
-    assert_eq!(rt; gate.greatest_piece.load(Ordering::SeqCst), 3);
+    assert_eq!(rt; gate.times.load(Ordering::SeqCst), 2);
+    assert_eq!(rt; gate.greatest_piece.load(Ordering::SeqCst), 1);
     Ok(())
 }
