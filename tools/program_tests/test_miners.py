@@ -7,6 +7,7 @@ which gave the same bytes, and the other makes closed and maximal itemsets and r
 
 import hashlib
 import itertools
+import random
 import unittest
 from collections import Counter
 from fractions import Fraction
@@ -285,6 +286,37 @@ class Counts(unittest.TestCase):
                 ended = run(
                     ["items", "--min", "1", "--workers", "2"], inputs.fimi(baskets)
                 )
+                self.assertEqual(
+                    (ended.out.decode(), ended.said, ended.status), (wanted, "", 0)
+                )
+
+    def test_itemsets_of_many_unlike_baskets_are_counted_as_python_counts_them(
+        self,
+    ) -> None:
+        # So many that four workers sort and merge a quarter of them each.
+        source = random.Random(5)
+        baskets = [
+            sorted(source.sample(range(1, 101), 1 + place % 3))
+            for place in range(60_000)
+        ]
+        counts = Counter(
+            items
+            for basket in baskets
+            for size in range(1, len(basket) + 1)
+            for items in itertools.combinations(basket, size)
+        )
+        frequent = sorted(
+            (items for items, count in counts.items() if count >= 3),
+            key=lambda items: (len(items), items),
+        )
+        wanted = "".join(
+            f"{' '.join(map(str, items))} ({counts[items]})\n" for items in frequent
+        )
+        given = inputs.fimi(baskets)
+        for miner, workers in itertools.product(MINERS, ("1", "4")):
+            with self.subTest(miner=miner, workers=workers):
+                words = ["sets", "--min", "3", "--miner", miner, "--workers", workers]
+                ended = run(words, given)
                 self.assertEqual(
                     (ended.out.decode(), ended.said, ended.status), (wanted, "", 0)
                 )
