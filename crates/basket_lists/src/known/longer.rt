@@ -74,17 +74,18 @@ impl KnownItems {
         requires { IsRising (digits self.now.item_bits size number) }
         ensures { IfSome result (IsBetween self.now.item_bits size number place) }
     {
+        let bits = self.item_bits();
         let mut rest = number;
         let mut above = 0;
         while above < size {
-            let last = low_bits(rest, self.item_bits);
+            let last = low_bits(rest, bits);
             if last == place {
                 return None;
             }
             if last < place {
                 return Some(above);
             }
-            rest >>= self.item_bits;
+            rest >>= bits;
             above += 1;
         }
         Some(above)
