@@ -17,3 +17,4 @@ mod BranchLemmas
 mod ShiftLemmas
 mod WordPathLemmas
 mod RankSumLemmas
+mod FewLemmas

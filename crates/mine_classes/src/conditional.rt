@@ -1,8 +1,8 @@
 //! The conditional database of a rank.
-ghost use Rattle.std.specs.Prelude.{◌≡◌, ◌≤◌, ◌<◌, IfOk, map};
+ghost use Rattle.std.specs.Prelude.{◌≡◌, ◌≤◌, ◌<◌, IfOk, length, map};
 ghost use Rattle.mine_baskets.specs.ListBaskets.{AreRankBaskets, HaveSameWeights};
 ghost use Rattle.mine_classes.specs.Conditional.{conditional_baskets};
-ghost use Rattle.mine_classes.specs.Pairs.{pairs_of};
+ghost use Rattle.mine_classes.specs.Pairs.{first_support, pairs_of};
 ghost use Rattle.mine_classes.specs.Paths.{IsConditional};
 
 use crate::rank_places::RankPlaces;
@@ -52,10 +52,45 @@ impl Runs {
         ensures below { IfOk result (λ below. IsConditional self.now.baskets least rank (conditional_baskets below)) }
         ensures places { places.new ≡ places.old }
     {
-        let kept = ranks_of(alloc, pairs)?;
         let (ranks, paths) = self.of_rank(rank);
+        if pairs.len() <= 1 {
+            let below = self.below_few(alloc, rank, least, pairs)?;
+            return Ok(Conditional::Words(below));
+        }
+        let kept = ranks_of(alloc, pairs)?;
         let below = places.coded(alloc, &kept, ranks, paths)?;
         Ok(below)
+    }
+
+    /// The conditional database of a rank with at most one pair. Its baskets have one rank or none, so
+    /// their weights are known and no path is looked at.
+    fn below_few(
+        &self,
+        alloc: Global,
+        rank: u32,
+        least: u64,
+        pairs: &[(u32, u64)],
+    ) -> Result<WordBaskets, AllocError>
+        requires rank { rank < self.now.ranks }
+        requires ranked { AreRankBaskets self.now }
+        requires pairs { pairs.now ≡ pairs_of self.now.baskets least rank }
+        requires few { length pairs.now ≤ 1 }
+        ensures { IfOk result (IsConditional self.now.baskets least rank) }
+    {
+        let with = first_support(pairs);
+        let without = self.support(rank) - with;
+        let below = WordBaskets::of_one_rank(alloc, pairs.len() as u32, with, without)?;
+        Ok(below)
+    }
+}
+
+/// The support of the first pair, or 0.
+fn first_support(pairs: &[(u32, u64)]) -> u64
+    ensures { result ≡ first_support pairs.now }
+{
+    match pairs.first() {
+        Some((_, support)) => *support,
+        None => 0,
     }
 }
 

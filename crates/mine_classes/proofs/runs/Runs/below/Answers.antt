@@ -37,10 +37,10 @@ returns-clause-below c =
     let ranks = c.of_rank.result.0.now in
     let runs = c.of_rank.result.1.now in
     let kept = c.deref.ensures.value ∙ firsts baskets c.args.least c.args.rank c.args.pairs.now c.in_ok-kept.kept.items c.requires.pairs c.in_ok-kept.ensures in
-    let others = (conditional_baskets c.in_ok-below.below).baskets in
-    let same = subst (λ l. HaveSameWeights (map (coded_place l) (baskets_at ranks runs)) others) kept c.in_ok-below.ensures.weights in
+    let others = (conditional_baskets c.in_ok-below-2.below).baskets in
+    let same = subst (λ l. HaveSameWeights (map (coded_place l) (baskets_at ranks runs)) others) kept c.in_ok-below-2.ensures.weights in
     record {
-      ranks = c.in_ok-below.ensures.ranks ∙ ap length kept;
-      ranked = c.in_ok-below.ensures.ranked;
+      ranks = c.in_ok-below-2.ensures.ranks ∙ ap length kept;
+      ranked = c.in_ok-below-2.ensures.ranked;
       weights = conditional_weights baskets c.args.least c.args.rank ranks runs c.of_rank.ensures.runs others same;
     }
