@@ -114,6 +114,11 @@ impl KnownItems {
         })
     }
 
+    /// How many items are known.
+    pub fn len(&self) -> usize {
+        self.items.len()
+    }
+
     /// The greatest item, or 0.
     pub fn greatest(&self) -> u32 {
         self.items.last().copied().unwrap_or(0)

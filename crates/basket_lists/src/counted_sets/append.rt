@@ -7,12 +7,17 @@ use crate::packed::Packed;
 use crate::plain::PlainSets;
 use std::alloc::{AllocError, Global};
 
+/// So many items are compared in the time in which one set is added by itself.
+const ITEMS_COMPARED: usize = 512;
+
 impl CountedSets {
-    /// Adds the sets of another list.
+    /// Adds the sets of another list: as words if both lists know the same items. Many items aren't
+    /// compared for a few sets.
     pub fn append(&mut self, alloc: Global, other: CountedSets) -> Result<(), AllocError>
         ensures { OnOk result (self.new ≡ self.old ++ other) }
     {
-        if self.known.is_same(&other.known) {
+        let few = self.known.len() / ITEMS_COMPARED;
+        if other.len() >= few && self.known.is_same(&other.known) {
             return append_words(&mut self.words, &mut self.plain, &other.words, &other.plain);
         }
         self.append_each(alloc, &other)
