@@ -1,8 +1,9 @@
 -- What a read of blocks answers.
-use Rattle.std.proofs.Common.{◌≡◌, ◌≢◌, ◌≤◌, ℕ, Bool, true, false, List, [], ◌∷◌, ◌++◌, cond, Option, Some, None, Result, Ok, Err, append-nil, refl, sym, ap, ◌∙◌, subst, append_assoc, leb, ltb, take, length}
+use Rattle.std.proofs.Common.{◌≡◌, ◌≢◌, ◌≤◌, ℕ, Bool, true, false, List, [], ◌∷◌, ◌++◌, cond, Option, Some, None, Result, Ok, Err, append-nil, refl, sym, ap, ◌∙◌, subst, leb, ltb, take, length}
 use Rattle.std.proofs.lemmas.Bool.{leb-true}
 use Rattle.std.specs.Prelude.{IfErr, IfOk, IfSome, IsErr, unwrap_or}
 use Rattle.std.specs.Io.KnownBytes.{Consumes, IsAtEnd, Keeps}
+use Rattle.std.proofs.KnownBytes.{Keeps-refl}
 use Rattle.basket_sets.specs.declared.weighted.Weighted.{Weighted}
 use Rattle.basket_sets.specs.Number.{is_digit}
 use Rattle.basket_sets.specs.Support.{total_of}
@@ -53,16 +54,6 @@ not_answered bytes e = at (fault_in bytes) (baskets_of (text_of bytes)) (leb (to
 
 -- ---- the bytes that a reader gave
 
-pub consumes_more : (old between new : Option (List ℕ)) (a b : List ℕ) → Consumes old between a → Consumes between new b → Consumes old new (a ++ b)
-consumes_more None between new a b p q = tt
-consumes_more (Some all) None new a b p q = absurd p
-consumes_more (Some all) (Some rest) None a b p q = absurd q
-consumes_more (Some all) (Some rest) (Some left) a b p q = p ∙ ap (λ l. a ++ l) q ∙ sym (append_assoc a b left)
-
-pub consumes_none : (old : Option (List ℕ)) → Consumes old old []
-consumes_none None = tt
-consumes_none (Some all) = refl
-
 -- a fault in the bytes that a reader gave is that of all its bytes
 refused_answer : (old new : Option (List ℕ)) (given : List ℕ) (fault : ReadFault) → Consumes old new given → Tells fault (settled_fault given)
     → IfSome old (λ bytes. Answers (Err fault) (fimi_of bytes))
@@ -85,10 +76,6 @@ fails_after None now new given fault p kept is = tt
 fails_after (Some all) None new given fault p kept is = absurd p
 fails_after (Some all) (Some rest) None given fault p kept is = absurd kept
 fails_after (Some all) (Some rest) (Some left) given fault p kept is = (given, p ∙ ap (λ l. given ++ l) (sym kept), is)
-
-pub keeps_all : (left : Option (List ℕ)) → Keeps left left
-keeps_all None = tt
-keeps_all (Some rest) = refl
 
 -- the baskets that an input says are light
 light_answer : (found : Option ReadFault) (all baskets : List Weighted) → answer_of found all ≡ Ok baskets → total_of baskets ≤ MOST_WEIGHT
@@ -114,7 +101,7 @@ pub stops_fault : (old new : Option (List ℕ)) (failed : Bool) (given : List �
     → Stops old new failed fault
 stops_fault old new failed given fault p told = record {
   exact = λ _. refused_answer old new given fault p told;
-  fails = λ _. fails_after old new new given fault p (keeps_all new) (told_fault given fault told);
+  fails = λ _. fails_after old new new given fault p (Keeps-refl new) (told_fault given fault told);
   read_is_failed = λ e. absurd (not_settled given (subst (λ f. Tells f (settled_fault given)) e told (λ m. absurd cc)));
 }
 

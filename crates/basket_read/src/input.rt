@@ -14,7 +14,7 @@ use std::mem;
 use std::thread::Threads;
 
 /// The greatest number of bytes of an input.
-const MAX_BYTES: u32 = 4_294_967_295;
+pub(crate) const MAX_BYTES: u32 = 4_294_967_295;
 
 /// The bytes of the byte order mark.
 const MARK: [u8; 3] = [0xEF, 0xBB, 0xBF];

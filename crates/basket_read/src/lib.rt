@@ -1,7 +1,9 @@
 //! Readers of baskets that return exactly the baskets of an input, or its first fault.
 #![tactic(auto)]
 
+mod batches;
 mod byte_class;
+mod bytes;
 mod counted_line;
 mod fault;
 mod input;
@@ -18,6 +20,7 @@ mod text;
 pub mod worked;
 
 pub use byte_class::{ByteClass, class_of};
+pub use bytes::take_in;
 pub use counted_line::CountedLine;
 pub use fault::ReadFault;
 pub use item_counts::ItemCounts;

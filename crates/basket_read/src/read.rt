@@ -1,10 +1,10 @@
 //! Reading a FIMI input block by block.
 ghost use Rattle.std.specs.Prelude.{◌≡◌, ◌≤◌, false};
 ghost use Rattle.basket_read.specs.Fimi.{fimi_of};
-ghost use Rattle.basket_read.specs.Read.{CountsAs, Reads, ReadsAs};
+ghost use Rattle.basket_read.specs.Read.{CountsAs, ReadsAs};
 
+use crate::batches::{Alone, read_batches};
 use crate::fault::ReadFault;
-use crate::input::Input;
 use crate::item_counts::ItemCounts;
 use basket_sets::Database;
 use basket_stream::Source;
@@ -35,7 +35,7 @@ pub fn read_fimi_by<S: Source>(
     requires few { block ≤ MAX_BLOCK }
     ensures { ReadsAs fimi_of (S.left reader.old) (S.left reader.new) (S.has_failed reader.new) result }
 {
-    read_blocks(alloc, reader, block, false).map(ItemCounts::into_rest)
+    read_batches(&Alone, alloc, reader, block, false).map(ItemCounts::into_rest)
 }
 
 /// Reads a FIMI input to its end, in blocks of 65,536 bytes, and counts its items. The baskets of a
@@ -45,30 +45,5 @@ pub fn count_fimi<S: Source>(alloc: Global, reader: &mut S) -> Result<ItemCounts
     requires { S.has_failed reader.old ≡ false }
     ensures { CountsAs fimi_of (S.left reader.old) (S.left reader.new) (S.has_failed reader.new) result }
 {
-    read_blocks(alloc, reader, BLOCK, true)
-}
-
-/// Reads an input to its end, a block at a time, and may count the baskets of a block before the next is
-/// read.
-fn read_blocks<S: Source>(
-    alloc: Global,
-    reader: &mut S,
-    block: usize,
-    counting: bool,
-) -> Result<ItemCounts, ReadFault>
-    requires fresh { S.has_failed reader.old ≡ false }
-    requires some { 1 ≤ block }
-    requires few { block ≤ MAX_BLOCK }
-    ensures { Reads counting (S.left reader.old) (S.left reader.new) (S.has_failed reader.new) result }
-{
-    let mut bytes = vec![in alloc; 0u8; block]?;
-    let buffer = bytes.as_mut_slice();
-    let mut input = Input::new(alloc);
-    'reading: loop {
-        match reader.read(buffer) {
-            Ok(0) => return input.finish(),
-            Ok(count) => input.take(&buffer[..count], counting)?,
-            Err(_) => return Err(input.fault_so_far().unwrap_or(ReadFault::Read)),
-        }
-    }
+    read_batches(&Alone, alloc, reader, BLOCK, true)
 }
