@@ -6,6 +6,7 @@ mod byte_class;
 mod bytes;
 mod counted_line;
 mod fault;
+mod feeder;
 mod input;
 mod item_counts;
 pub mod laws;

@@ -3,8 +3,9 @@ ghost use Rattle.std.specs.Prelude.{◌≡◌, ◌≤◌, false};
 ghost use Rattle.basket_read.specs.Fimi.{fimi_of};
 ghost use Rattle.basket_read.specs.Read.{CountsAs, ReadsAs};
 
-use crate::batches::{Alone, read_batches};
+use crate::batches::read_batches;
 use crate::fault::ReadFault;
+use crate::feeder::Alone;
 use crate::item_counts::ItemCounts;
 use basket_sets::Database;
 use basket_stream::Source;

@@ -3,8 +3,9 @@ ghost use Rattle.std.specs.Prelude.{◌≡◌, false};
 ghost use Rattle.basket_read.specs.Fimi.{fimi_of};
 ghost use Rattle.basket_read.specs.Read.{CountsAs, ReadsAs};
 
-use crate::batches::{Workers, read_batches};
+use crate::batches::read_batches;
 use crate::fault::ReadFault;
+use crate::feeder::Workers;
 use crate::item_counts::ItemCounts;
 use crate::read::{count_fimi, read_fimi};
 use basket_sets::Database;
@@ -32,8 +33,8 @@ pub fn read_fimi_shared<R: Threads + Sync, S: Source>(
     if workers < 2 {
         return read_fimi(alloc, reader);
     }
-    let taker = Workers { rt, count: workers };
-    read_batches(&taker, alloc, reader, BATCH, false).map(ItemCounts::into_rest)
+    let feeder = Workers { rt, count: workers };
+    read_batches(&feeder, alloc, reader, BATCH, false).map(ItemCounts::into_rest)
 }
 
 /// Reads a FIMI input to its end and counts its items, as `count_fimi` does, by this many workers.
@@ -49,6 +50,6 @@ pub fn count_fimi_shared<R: Threads + Sync, S: Source>(
     if workers < 2 {
         return count_fimi(alloc, reader);
     }
-    let taker = Workers { rt, count: workers };
-    read_batches(&taker, alloc, reader, COUNTING_BATCH, true)
+    let feeder = Workers { rt, count: workers };
+    read_batches(&feeder, alloc, reader, COUNTING_BATCH, true)
 }
