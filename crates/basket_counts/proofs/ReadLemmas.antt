@@ -1,5 +1,5 @@
 -- What a list of some bytes says.
-use Rattle.std.proofs.Common.{◌≡◌, ◌≢◌, ℕ, ◌<◌, ◌≤◌, Bool, true, false, cond, ltb, List, [], ◌∷◌, ◌++◌, length, take, Option, Some, None, Result, Ok, Err, sym, ap, ◌∙◌, subst, append-nil, inl, inr, arith}
+use Rattle.std.proofs.Common.{◌≡◌, ◌≢◌, ℕ, ◌<◌, ◌≤◌, Bool, true, false, cond, ltb, List, [], ◌∷◌, ◌++◌, length, take, Option, Some, None, Result, Ok, Err, refl, sym, ap, ◌∙◌, subst, append-nil, inl, inr, arith}
 use Rattle.std.specs.Prelude.{IfSome}
 use Rattle.std.proofs.lemmas.Bool.{cases_lt, lt-ltb, le-ltb}
 use Rattle.std.proofs.lemmas.List.{length-append, take_all, take-append-le}
@@ -12,33 +12,21 @@ use Rattle.basket_read.specs.Text.{Tells}
 use Rattle.basket_read.specs.Bytes.{AreTakenOf}
 use Rattle.basket_counts.specs.declared.listed_sets.ListedSets.{ListedSets}
 use Rattle.basket_counts.specs.Read.{Says}
-use Rattle.basket_counts.specs.Counts.{is_open, is_close, is_good, count_fault, digit_fault, fault_after, first_fault, fault_in, entries_of, sets_said, sets_of_bytes, counts_said, counts_of}
+use Rattle.basket_read.proofs.theory.Grammar as grammar
+use Rattle.basket_counts.specs.Counts.{is_open, is_close, is_line, fault_at, count_fault, digit_fault, first_fault, fault_in, entries_of, sets_said, sets_of_bytes, counts_said, counts_of}
 
 -- no text has the fault of a reader
-not_read : (heads : List (List ℕ)) (last : List ℕ) (line byte : ℕ) → digit_fault heads last line byte ≢ Read
-not_read [] last line byte e = absurd cc
-not_read (text ∷ others) last line byte e = at (cut_at is_close last).ended e
+pub not_found : (text : List ℕ) → first_fault text ≢ Some Read
+not_found text = grammar.other_fault is_line fault_at refl Read (λ before byte. let line = cut_at is_open (cut_at is_line_feed before).last in at line.ended line.last (line_after before) byte (is_digit byte)) [] text
   where
-    at : (ended : List (List ℕ)) → count_fault ended line byte ≢ Read
-    at [] e = absurd cc
-    at (count ∷ others) e = absurd cc
+    count : (ended : List (List ℕ)) (line byte : ℕ) → count_fault ended line byte ≢ Read
+    count [] line byte e = absurd cc
+    count (digits ∷ others) line byte e = absurd cc
 
-pub not_found : (before text : List ℕ) → fault_after before text ≢ Some Read
-not_found before [] e = absurd cc
-not_found before (byte ∷ text) e =
-    let line = cut_at is_open (cut_at is_line_feed before).last in
-    at (is_good (before ++ byte ∷ [])) (is_digit byte) (digit_fault line.ended line.last (line_after before) byte) (fault_after (before ++ byte ∷ []) text)
-    (not_read line.ended line.last (line_after before) byte) (not_found (before ++ byte ∷ []) text) e
-  where
-    fault_of : Option ReadFault → ReadFault → ReadFault
-    fault_of (Some fault) other = fault
-    fault_of None other = other
-
-    at : (good digit : Bool) (fault : ReadFault) (later : Option ReadFault) → fault ≢ Read → later ≢ Some Read
-        → cond good later (Some (cond digit fault (Byte (line_after before) byte))) ≢ Some Read
-    at true digit fault later told none e = none e
-    at false true fault later told none e = told (ap (λ o. fault_of o fault) e)
-    at false false fault later told none e = absurd cc
+    at : (heads : List (List ℕ)) (last : List ℕ) (line byte : ℕ) (digit : Bool) → cond digit (digit_fault heads last line byte) (Byte line byte) ≢ Read
+    at heads last line byte false e = absurd cc
+    at [] last line byte true e = absurd cc
+    at (text ∷ others) last line byte true e = count (cut_at is_close last).ended line byte e
 
 -- as many bytes as an input may have
 pub front : (bytes : List ℕ) (most : ℕ) → most ≤ MOST_BYTES → (most < length bytes → most ≡ MOST_BYTES) → take most bytes ≡ take MOST_BYTES bytes

@@ -1,5 +1,5 @@
 -- What a read of blocks answers.
-use Rattle.std.proofs.Common.{◌≡◌, ◌≢◌, ◌≤◌, ℕ, Bool, true, false, List, [], ◌∷◌, ◌++◌, cond, Option, Some, None, Result, Ok, Err, append-nil, refl, sym, ap, ◌∙◌, subst, leb, ltb, take, length}
+use Rattle.std.proofs.Common.{◌≡◌, ◌≢◌, ◌≤◌, ℕ, Bool, true, false, List, [], ◌++◌, cond, Option, Some, None, Result, Ok, Err, append-nil, refl, sym, ap, ◌∙◌, subst, leb, ltb, take, length}
 use Rattle.std.proofs.lemmas.Bool.{leb-true}
 use Rattle.std.specs.Prelude.{IfErr, IfOk, IfSome, IsErr, unwrap_or}
 use Rattle.std.specs.Io.KnownBytes.{Consumes, IsAtEnd, Keeps}
@@ -10,28 +10,26 @@ use Rattle.basket_sets.specs.Support.{total_of}
 use Rattle.basket_sets.specs.Database.{MOST_WEIGHT}
 use Rattle.basket_read.specs.declared.fault.ReadFault.{ReadFault}
 use Rattle.basket_read.specs.declared.fault.ReadFault.TheVariants.{Memory, Read, TooLong, Byte, Number, Heavy}
-use Rattle.basket_read.specs.Fimi.{is_good, line_after, fault_after, first_fault, or_else, fault_in, text_of, settled_fault, baskets_of, answer_of, fimi_of, MOST_BYTES}
+use Rattle.basket_read.specs.Fimi.{is_line, line_after, fault_at, first_fault, or_else, fault_in, text_of, settled_fault, baskets_of, answer_of, fimi_of, MOST_BYTES}
 use Rattle.basket_read.specs.ItemCounts.{AreLightCounts, Counts}
 use Rattle.basket_read.specs.Read.{CountsAs, FailsAfter, Reads, ReadsAs, Stops}
 use Rattle.basket_read.specs.Text.{Answers, CountsBehind, GoesOn, Tells}
 use Rattle.basket_read.specs.declared.item_counts.ItemCounts.{ItemCounts}
 use Rattle.basket_read.proofs.InputLemmas.{settled_stays, fault-settled}
 use Rattle.basket_read.proofs.PartsLemmas.{answer_told, AreKept}
+use Rattle.basket_read.proofs.theory.Grammar as grammar
 
 -- ---- no input has the fault of a reader
 
-not_found : (before text : List ℕ) → fault_after before text ≢ Some Read
-not_found before [] e = absurd cc
-not_found before (byte ∷ text) e = at (is_good (before ++ byte ∷ [])) (is_digit byte) (fault_after (before ++ byte ∷ []) text) (not_found (before ++ byte ∷ []) text) e
+not_found : (text : List ℕ) → first_fault text ≢ Some Read
+not_found text = grammar.other_fault is_line fault_at refl Read (λ before byte. at before byte (is_digit byte)) [] text
   where
-    at : (good digit : Bool) (later : Option ReadFault) → later ≢ Some Read
-        → cond good later (Some (cond digit (Number (line_after before)) (Byte (line_after before) byte))) ≢ Some Read
-    at true digit later none e = none e
-    at false true later none e = absurd cc
-    at false false later none e = absurd cc
+    at : (before : List ℕ) (byte : ℕ) (digit : Bool) → cond digit (Number (line_after before)) (Byte (line_after before) byte) ≢ Read
+    at before byte true e = absurd cc
+    at before byte false e = absurd cc
 
 not_in : (bytes : List ℕ) → fault_in bytes ≢ Some Read
-not_in bytes e = at (first_fault (text_of (take MOST_BYTES bytes))) (ltb MOST_BYTES (length bytes)) (not_found [] (text_of (take MOST_BYTES bytes))) e
+not_in bytes e = at (first_fault (text_of (take MOST_BYTES bytes))) (ltb MOST_BYTES (length bytes)) (not_found (text_of (take MOST_BYTES bytes))) e
   where
     at : (found : Option ReadFault) (long : Bool) → found ≢ Some Read → or_else found (cond long (Some TooLong) None) ≢ Some Read
     at (Some fault) long none e = none e
