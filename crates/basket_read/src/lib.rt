@@ -16,7 +16,6 @@ mod number;
 mod numbers;
 mod parts;
 mod read;
-mod shared;
 mod text;
 pub mod worked;
 
@@ -28,5 +27,6 @@ pub use item_counts::ItemCounts;
 pub use lines::middle_of;
 pub use numbers::Numbers;
 pub use parts::FimiParts;
-pub use read::{MAX_BLOCK, count_fimi, read_fimi, read_fimi_by};
-pub use shared::{count_fimi_shared, read_fimi_shared};
+pub use read::{
+    MAX_BLOCK, count_fimi, count_fimi_shared, read_fimi, read_fimi_by, read_fimi_shared,
+};
