@@ -2,7 +2,6 @@ mod LineLemmas
 mod TextLemmas
 mod ListedLemmas
 mod HalvesLemmas
-mod InputLemmas
 mod ReadLemmas
 mod GrammarLemmas
 pub mod WrittenLemmas

@@ -1,66 +1,80 @@
 -- What a list of some bytes says.
-use Rattle.std.proofs.Common.{◌≡◌, ◌≢◌, ℕ, Bool, true, false, cond, ltb, List, [], ◌∷◌, ◌++◌, length, take, Option, Some, None, Err, sym, ap, ◌∙◌, inl, inr}
+use Rattle.std.proofs.Common.{◌≡◌, ◌≢◌, ℕ, ◌<◌, ◌≤◌, Bool, true, false, cond, ltb, List, [], ◌∷◌, ◌++◌, length, take, Option, Some, None, Result, Ok, Err, refl, sym, ap, ◌∙◌, subst, append-nil, inl, inr, arith}
 use Rattle.std.specs.Prelude.{IfSome}
-use Rattle.std.proofs.lemmas.Bool.{cases_lt, lt-ltb, false≢true}
-use Rattle.std.proofs.lemmas.List.{take_all}
+use Rattle.std.proofs.lemmas.Bool.{cases_lt, lt-ltb, le-ltb}
+use Rattle.std.proofs.lemmas.List.{length-append, take_all, take-append-le}
 use Rattle.basket_sets.specs.Number.{is_digit}
 use Rattle.basket_read.specs.declared.fault.ReadFault.{ReadFault}
 use Rattle.basket_read.specs.declared.fault.ReadFault.TheVariants.{Memory, Read, TooLong, Byte}
 use Rattle.basket_read.specs.Cut.{cut_at}
 use Rattle.basket_read.specs.Fimi.{is_line_feed, line_after, or_else, text_of, MOST_BYTES}
 use Rattle.basket_read.specs.Text.{Tells}
-use Rattle.basket_counts.specs.Counts.{is_open, is_close, is_good, count_fault, digit_fault, fault_after, first_fault, fault_in, entries_of, sets_said, sets_of_bytes, counts_said, counts_of}
+use Rattle.basket_read.specs.Bytes.{AreTakenOf}
+use Rattle.basket_counts.specs.declared.listed_sets.ListedSets.{ListedSets}
+use Rattle.basket_counts.specs.Read.{Says}
+use Rattle.basket_read.proofs.theory.Grammar as grammar
+use Rattle.basket_counts.specs.Counts.{is_open, is_close, is_line, fault_at, count_fault, digit_fault, first_fault, fault_in, entries_of, sets_said, sets_of_bytes, counts_said, counts_of}
 
 -- no text has the fault of a reader
-not_read : (heads : List (List ℕ)) (last : List ℕ) (line byte : ℕ) → digit_fault heads last line byte ≢ Read
-not_read [] last line byte e = absurd cc
-not_read (text ∷ others) last line byte e = at (cut_at is_close last).ended e
+pub not_found : (text : List ℕ) → first_fault text ≢ Some Read
+not_found text = grammar.other_fault is_line fault_at refl Read (λ before byte. let line = cut_at is_open (cut_at is_line_feed before).last in at line.ended line.last (line_after before) byte (is_digit byte)) [] text
   where
-    at : (ended : List (List ℕ)) → count_fault ended line byte ≢ Read
-    at [] e = absurd cc
-    at (count ∷ others) e = absurd cc
+    count : (ended : List (List ℕ)) (line byte : ℕ) → count_fault ended line byte ≢ Read
+    count [] line byte e = absurd cc
+    count (digits ∷ others) line byte e = absurd cc
 
-pub not_found : (before text : List ℕ) → fault_after before text ≢ Some Read
-not_found before [] e = absurd cc
-not_found before (byte ∷ text) e =
-    let line = cut_at is_open (cut_at is_line_feed before).last in
-    at (is_good (before ++ byte ∷ [])) (is_digit byte) (digit_fault line.ended line.last (line_after before) byte) (fault_after (before ++ byte ∷ []) text)
-    (not_read line.ended line.last (line_after before) byte) (not_found (before ++ byte ∷ []) text) e
-  where
-    fault_of : Option ReadFault → ReadFault → ReadFault
-    fault_of (Some fault) other = fault
-    fault_of None other = other
+    at : (heads : List (List ℕ)) (last : List ℕ) (line byte : ℕ) (digit : Bool) → cond digit (digit_fault heads last line byte) (Byte line byte) ≢ Read
+    at heads last line byte false e = absurd cc
+    at [] last line byte true e = absurd cc
+    at (text ∷ others) last line byte true e = count (cut_at is_close last).ended line byte e
 
-    at : (good digit : Bool) (fault : ReadFault) (later : Option ReadFault) → fault ≢ Read → later ≢ Some Read
-        → cond good later (Some (cond digit fault (Byte (line_after before) byte))) ≢ Some Read
-    at true digit fault later told none e = none e
-    at false true fault later told none e = told (ap (λ o. fault_of o fault) e)
-    at false false fault later told none e = absurd cc
+-- as many bytes as an input may have
+pub front : (bytes : List ℕ) (most : ℕ) → most ≤ MOST_BYTES → (most < length bytes → most ≡ MOST_BYTES) → take most bytes ≡ take MOST_BYTES bytes
+front bytes most few all = elim (cases_lt most (length bytes)) [
+  | inl more ↦ ap (λ n. take n bytes) (all more)
+  | inr whole ↦ take_all most bytes whole ∙ sym (take_all MOST_BYTES bytes (omega arith))
+]
 
 -- a fault of as many bytes as an input may have is that of all
-pub faulty : (all bytes text : List ℕ) (fault : ReadFault) → bytes ≡ take MOST_BYTES all → text ≡ text_of bytes → Tells fault (first_fault text) → Tells fault (fault_in all)
-faulty all bytes text fault front is told no_memory =
-    ap (λ f. or_else f (cond (ltb MOST_BYTES (length all)) (Some TooLong) None)) (ap first_fault (sym (is ∙ ap text_of front)) ∙ told no_memory)
+pub faulty : (bytes text : List ℕ) (fault : ReadFault) → text ≡ text_of (take MOST_BYTES bytes) → Tells fault (first_fault text) → Tells fault (fault_in bytes)
+faulty bytes text fault is told no_memory =
+    ap (λ f. or_else f (cond (ltb MOST_BYTES (length bytes)) (Some TooLong) None)) (ap first_fault (sym is) ∙ told no_memory)
 
 -- bytes that are not too many, without a fault
-pub faultless : (all bytes text : List ℕ) (longer : Bool) → bytes ≡ take MOST_BYTES all → text ≡ text_of bytes → longer ≡ ltb MOST_BYTES (length all) → longer ≡ false
-    → first_fault text ≡ None → (fault_in all ≡ None) × (entries_of text ≡ entries_of (text_of all))
-faultless all bytes text longer front is long few none = (
-  (λ i. or_else ((ap first_fault (sym (is ∙ ap text_of front)) ∙ none) i) (cond ((sym long ∙ few) i) (Some TooLong) None)),
-  ap entries_of (is ∙ ap text_of (front ∙ whole)),
+pub faultless : (bytes text : List ℕ) → text ≡ text_of (take MOST_BYTES bytes) → length bytes ≤ MOST_BYTES → first_fault text ≡ None
+    → (fault_in bytes ≡ None) × (entries_of text ≡ entries_of (text_of bytes))
+faultless bytes text is few none = (
+  (λ i. or_else ((ap first_fault (sym is) ∙ none) i) (cond (le-ltb MOST_BYTES (length bytes) few i) (Some TooLong) None)),
+  ap entries_of (is ∙ ap text_of (take_all MOST_BYTES bytes few)),
 )
-  where
-    whole : take MOST_BYTES all ≡ all
-    whole = elim (cases_lt MOST_BYTES (length all)) [
-      | inl lt ↦ absurd (false≢true (sym few ∙ long ∙ lt-ltb MOST_BYTES (length all) lt))
-      | inr le ↦ take_all MOST_BYTES all le
-    ]
 
 -- bytes that are too many, without a fault before
-pub too_long : (all bytes text : List ℕ) (longer : Bool) → bytes ≡ take MOST_BYTES all → text ≡ text_of bytes → longer ≡ ltb MOST_BYTES (length all) → longer ≡ true → first_fault text ≡ None
-    → fault_in all ≡ Some TooLong
-too_long all bytes text longer front is long more none =
-    λ i. or_else ((ap first_fault (sym (is ∙ ap text_of front)) ∙ none) i) (cond ((sym long ∙ more) i) (Some TooLong) None)
+pub too_long : (bytes text : List ℕ) → text ≡ text_of (take MOST_BYTES bytes) → MOST_BYTES < length bytes → first_fault text ≡ None → fault_in bytes ≡ Some TooLong
+too_long bytes text is more none =
+    λ i. or_else ((ap first_fault (sym is) ∙ none) i) (cond (lt-ltb MOST_BYTES (length bytes) more i) (Some TooLong) None)
+
+-- too many bytes say what all say, since they have a fault
+pub of_all : (result : Result ListedSets ReadFault) (bytes all : List ℕ) → AreTakenOf bytes all → Says result bytes → Says result all
+of_all result bytes all (rest, e, whole) says = elim (cases_lt MOST_BYTES (length bytes)) [
+  | inl more ↦ subst (Says result) (sym e) (at result more says)
+  | inr few ↦ subst (Says result) (sym (e ∙ ap (λ l. bytes ++ l) (whole few) ∙ append-nil bytes)) says
+]
+  where
+    same : MOST_BYTES < length bytes → fault_in (bytes ++ rest) ≡ fault_in bytes
+    same more =
+        let sum = length-append bytes rest in
+        λ i. or_else (first_fault (text_of (take-append-le MOST_BYTES bytes rest (omega arith) i)))
+        (cond ((lt-ltb MOST_BYTES (length (bytes ++ rest)) (omega arith) ∙ sym (lt-ltb MOST_BYTES (length bytes) more)) i) (Some TooLong) None)
+
+    faulted : (found : Option ReadFault) → or_else found (Some TooLong) ≢ None
+    faulted (Some fault) e = absurd cc
+    faulted None e = absurd cc
+
+    at : (result : Result ListedSets ReadFault) → MOST_BYTES < length bytes → Says result bytes → Says result (bytes ++ rest)
+    at (Err fault) more told = λ no_memory. same more ∙ told no_memory
+    at (Ok listed) more (none, has) =
+        let found = first_fault (text_of (take MOST_BYTES bytes)) in
+        absurd (faulted found (ap (λ b. or_else found (cond b (Some TooLong) None)) (sym (lt-ltb MOST_BYTES (length bytes) more)) ∙ none))
 
 -- a fault of the bytes is the answer
 pub fault_told : (left : Option (List ℕ)) (fault : ReadFault) → IfSome left (λ bytes. Tells fault (fault_in bytes))

@@ -1,10 +1,12 @@
 -- Counted sets that are written are read back.
-use Rattle.std.proofs.Common.{◌≡◌, ℕ, ◌+◌, ◌^◌, ◌<◌, ◌≤◌, Bool, true, false, ◌&&◌, not, leb, eqb, List, [], ◌∷◌, ◌++◌, length, map, filter, take, drop, codes, decimal, suc, cond, Some, None, Ok, refl, sym, ap, ◌∙◌, append_assoc, arith, nat_eq}
+use Rattle.std.proofs.Common.{◌≡◌, ℕ, ◌+◌, ◌^◌, ◌<◌, ◌≤◌, Bool, true, false, ◌&&◌, not, leb, eqb, List, [], ◌∷◌, ◌++◌, length, map, filter, take, drop, codes, decimal, cond, Some, None, Ok, refl, sym, ap, ◌∙◌, append_assoc, arith, nat_eq}
 use Rattle.std.specs.Prelude.{All}
 use Rattle.std.specs.List.{list_all, flat_map}
 use Rattle.std.specs.Cmp.Lexicographic.{pointwise}
-use Rattle.std.proofs.lemmas.Bool.{and_parts, and_from, le-leb, le-ltb, leb-true, ne_eqb}
+use Rattle.std.proofs.lemmas.Bool.{and_parts, and_from, le-leb, le-ltb, leb-true, ne_eqb, not-true}
 use Rattle.std.proofs.lemmas.List.{append-nil, take_all}
+use Rattle.std.proofs.lemmas.List.Elements.{All-head, All-tail}
+use Rattle.std.proofs.lemmas.List.Folds.{list_all-append, list_all-map}
 use Rattle.basket_sets.specs.declared.counted.Counted.{Counted}
 use Rattle.basket_sets.specs.Database.{MOST_WEIGHT}
 use Rattle.basket_sets.specs.Number.{is_digit, value_of}
@@ -15,7 +17,7 @@ use Rattle.basket_read.specs.Cut.{Cut, cut_at}
 use Rattle.basket_read.specs.Fimi.{is_blank, is_line_feed, is_nil, is_number, are_numbers, numbers_of, text_of, or_else, MOST_NUMBER, MOST_BYTES}
 use Rattle.basket_counts.specs.Counts.{is_open, is_close, is_count, is_tail_of, is_tail, is_line_of, is_line, is_good, first_fault, fault_in, entry, count_before, entry_of_parts, entry_of, entries_from, entries_of, counted_before, counts_among, counts_said}
 use Rattle.basket_counts.specs.Laws.{items_text, set_line, IsWritten, lines_from, ListsAreReadBack}
-use Rattle.basket_read.proofs.theory.Cuts.{cut, cut_ended, cut_joined}
+use Rattle.basket_read.proofs.theory.Cuts.{cut, cut_ended, cut_on_by}
 use Rattle.basket_read.proofs.theory.Numbers.{within, digit_is_no_blank}
 use Rattle.basket_counts.proofs.GrammarLemmas.{good_is_faultless}
 
@@ -35,22 +37,11 @@ number_is n bound below small =
 abbrev free : (ℕ → Bool) → List ℕ → Bool
 free p xs = list_all (λ x. not (p x)) xs
 
-was_false : (b : Bool) → not b ≡ true → b ≡ false
-was_false true e = absurd cc
-was_false false e = refl
-
 cut_free : (p : ℕ → Bool) (xs ys : List ℕ) → free p ys ≡ true → cut_at p (xs ++ ys) ≡ cut (cut_at p xs).ended ((cut_at p xs).last ++ ys)
-cut_free p xs [] h = ap (cut_at p) (append-nil xs) ∙ ap (λ l. cut (cut_at p xs).ended l) (sym (append-nil (cut_at p xs).last))
-cut_free p xs (y ∷ ys) h =
-    let q = and_parts (not (p y)) (free p ys) h in
-    let joined = cut_joined p xs y (was_false (p y) q.0) in
-    ap (cut_at p) (sym (append_assoc xs (y ∷ []) ys)) ∙ cut_free p (xs ++ y ∷ []) ys q.1
-    ∙ ap (λ (k : Cut). cut k.ended (k.last ++ ys)) joined ∙ ap (λ l. cut (cut_at p xs).ended l) (append_assoc (cut_at p xs).last (y ∷ []) ys)
+cut_free p xs ys h = cut_on_by p (λ y. not (p y)) xs ys (λ y other. not-true (p y) other) h
 
 free-append : (p : ℕ → Bool) (xs ys : List ℕ) → free p xs ≡ true → free p ys ≡ true → free p (xs ++ ys) ≡ true
-free-append p [] ys h k = k
-free-append p (x ∷ xs) ys h k =
-    let q = and_parts (not (p x)) (free p xs) h in and_from (not (p x)) (free p (xs ++ ys)) q.0 (free-append p xs ys q.1 k)
+free-append p xs ys h k = list_all-append (λ x. not (p x)) xs ys ∙ and_from (free p xs) (free p ys) h k
 
 -- a class of bytes that digits and spaces are not in
 record Spares (p : ℕ → Bool) : Type 0 where
@@ -80,20 +71,9 @@ cut_texts p text sep s (x ∷ items) xs h e =
     ∙ cut_texts p text sep s items ((xs ++ text x) ++ sep ∷ []) q.1 (ap (λ (k : Cut). k.last) one)
     ∙ ap (λ (k : Cut). cut (k.ended ++ map text items) []) one ∙ ap (λ l. cut l []) (append_assoc ended (text x ∷ []) (map text items))
 
-all_head : {X : Type 0} (P : X → Type 0) (x : X) (xs : List X) → All P (x ∷ xs) → P x
-all_head P x xs h = h 0 x (omega arith)
-
-all_tail : {X : Type 0} (P : X → Type 0) (x : X) (xs : List X) → All P (x ∷ xs) → All P xs
-all_tail P x xs h = λ k d below. h (suc k) d (omega (arith, below))
-
 all_pass : {X : Type 0} (P : X → Type 0) (test : X → Bool) → ((x : X) → P x → test x ≡ true) → (xs : List X) → All P xs → list_all test xs ≡ true
 all_pass P test step [] h = refl
-all_pass P test step (x ∷ xs) h = and_from (test x) (list_all test xs) (step x (all_head P x xs h)) (all_pass P test step xs (all_tail P x xs h))
-
-all_map : {X Y : Type 0} (test : Y → Bool) (f : X → Y) (xs : List X) → list_all (λ x. test (f x)) xs ≡ true → list_all test (map f xs) ≡ true
-all_map test f [] h = refl
-all_map test f (x ∷ xs) h =
-    let q = and_parts (test (f x)) (list_all (λ x. test (f x)) xs) h in and_from (test (f x)) (list_all test (map f xs)) q.0 (all_map test f xs q.1)
+all_pass P test step (x ∷ xs) h = and_from (test x) (list_all test xs) (step x (All-head P x xs h)) (all_pass P test step xs (All-tail P x xs h))
 
 -- ---- the items of a set
 
@@ -106,9 +86,9 @@ item_numeral item h = numeral item (omega (arith, h))
 items_free : (p : ℕ → Bool) → Spares p → p 32 ≡ false → (items : List ℕ) → All IsItem items → free p (items_text items) ≡ true
 items_free p s e [] h = refl
 items_free p s e (item ∷ items) h =
-    let word = digits_free p s (decimal item) (item_numeral item (all_head IsItem item items h)).digits in
+    let word = digits_free p s (decimal item) (item_numeral item (All-head IsItem item items h)).digits in
     free-append p (decimal item ++ 32 ∷ []) (items_text items) (free-append p (decimal item) (32 ∷ []) word (and_from (not (p 32)) true (ap not e) refl))
-    (items_free p s e items (all_tail IsItem item items h))
+    (items_free p s e items (All-tail IsItem item items h))
 
 -- a text of these numbers, which may stand before a count
 record Says (items text : List ℕ) : Type 0 where
@@ -120,9 +100,9 @@ record Says (items text : List ℕ) : Type 0 where
 words_are : (items : List ℕ) → All IsItem items → map value_of (filter (λ word. not (is_nil word)) (map decimal items ++ [] ∷ [])) ≡ items
 words_are [] h = refl
 words_are (item ∷ items) h =
-    let n = item_numeral item (all_head IsItem item items h) in
+    let n = item_numeral item (All-head IsItem item items h) in
     let rest = filter (λ word. not (is_nil word)) (map decimal items ++ [] ∷ []) in
-    ap (λ b. map value_of (cond (not b) (decimal item ∷ rest) rest)) (not_nil (decimal item) n.some) ∙ (λ i. n.value i ∷ words_are items (all_tail IsItem item items h) i)
+    ap (λ b. map value_of (cond (not b) (decimal item ∷ rest) rest)) (not_nil (decimal item) n.some) ∙ (λ i. n.value i ∷ words_are items (All-tail IsItem item items h) i)
 
 blank_spares : Spares is_blank
 blank_spares = record { digit = digit_is_no_blank }
@@ -134,7 +114,7 @@ items_say items h =
     record {
       numbers = ap (λ (k : Cut). list_all is_number (k.ended ++ k.last ∷ [])) words ∙ all_push is_number (map decimal items) []
           ∙ and_from (list_all is_number (map decimal items)) true
-          (all_map is_number decimal items (all_pass IsItem (λ item. is_number (decimal item)) (λ item small. number_is item MOST_NUMBER small (omega (arith, small))) items h)) refl;
+          (list_all-map is_number decimal items ∙ all_pass IsItem (λ item. is_number (decimal item)) (λ item small. number_is item MOST_NUMBER small (omega (arith, small))) items h) refl;
       values = ap (λ (k : Cut). map value_of (filter (λ word. not (is_nil word)) (k.ended ++ k.last ∷ []))) words ∙ words_are items h;
       no_open = items_free is_open (spares 40 (omega arith)) refl items h;
       no_feed = items_free is_line_feed (spares 10 (omega arith)) refl items h;
@@ -211,13 +191,13 @@ text_cut sets written =
 text_good : (sets : List Counted) → All IsWritten sets → is_good (text sets) ≡ true
 text_good sets written =
     ap (λ (k : Cut). list_all is_line (k.ended ++ k.last ∷ [])) (text_cut sets written) ∙ all_push is_line (map body sets) []
-    ∙ and_from (list_all is_line (map body sets)) true (all_map is_line body sets (all_pass IsWritten (λ counted. is_line (body counted)) body_good sets written)) refl
+    ∙ and_from (list_all is_line (map body sets)) true (list_all-map is_line body sets ∙ all_pass IsWritten (λ counted. is_line (body counted)) body_good sets written) refl
 
 lines_say : (line : ℕ) (sets : List Counted) → All IsWritten sets → counts_among (entries_from line (map body sets ++ [] ∷ [])) ≡ Ok (lines_from line sets)
 lines_say line [] written = refl
 lines_say line (counted ∷ sets) written =
-    ap (λ l. counts_among (l ++ entries_from (line + 1) (map body sets ++ [] ∷ []))) (body_says counted (all_head IsWritten counted sets written) line)
-    ∙ ap (counted_before counted.set (Some counted.count) line) (lines_say (line + 1) sets (all_tail IsWritten counted sets written))
+    ap (λ l. counts_among (l ++ entries_from (line + 1) (map body sets ++ [] ∷ []))) (body_says counted (All-head IsWritten counted sets written) line)
+    ∙ ap (counted_before counted.set (Some counted.count) line) (lines_say (line + 1) sets (All-tail IsWritten counted sets written))
 
 -- a text that begins with a digit or a parenthesis has no mark
 plain : (word rest : List ℕ) → list_all is_digit word ≡ true → is_nil word ≡ false → text_of (word ++ rest) ≡ word ++ rest
@@ -230,7 +210,7 @@ plain (byte ∷ word) rest d some =
 items_plain : (items rest : List ℕ) → All IsItem items → text_of (items_text items ++ 40 ∷ rest) ≡ items_text items ++ 40 ∷ rest
 items_plain [] rest h = refl
 items_plain (item ∷ items) rest h =
-    let n = item_numeral item (all_head IsItem item items h) in
+    let n = item_numeral item (All-head IsItem item items h) in
     let same = first_item (decimal item) (items_text items) rest in
     ap text_of same ∙ plain (decimal item) (32 ∷ (items_text items ++ 40 ∷ rest)) n.digits (not_nil (decimal item) n.some) ∙ sym same
   where
@@ -244,7 +224,7 @@ text_plain : (sets : List Counted) → All IsWritten sets → text_of (text sets
 text_plain [] written = refl
 text_plain (counted ∷ sets) written =
     let same = first_count (items_text counted.set) (decimal counted.count) (text sets) in
-    ap text_of same ∙ items_plain counted.set (decimal counted.count ++ 41 ∷ 10 ∷ text sets) (all_head IsWritten counted sets written).items ∙ sym same
+    ap text_of same ∙ items_plain counted.set (decimal counted.count ++ 41 ∷ 10 ∷ text sets) (All-head IsWritten counted sets written).items ∙ sym same
 
 pub lists_are_read_back : ListsAreReadBack
 lists_are_read_back sets written few =

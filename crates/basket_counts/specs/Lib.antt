@@ -2,7 +2,6 @@ pub mod Counts
 pub mod Line
 pub mod ListedSets
 pub mod Text
-pub mod Input
 pub mod Read
 pub mod Laws
 pub mod Worked

@@ -27,28 +27,6 @@ pub fn listed_shared<R: Threads + Sync>(
         return listed_in(alloc, before, bytes);
     };
     let (front, rest) = bytes.split_at(end);
-    let (listed, later) = listed_halves(rt, alloc, before, front, rest, workers);
-    let mut listed = listed?;
-    let later = later?;
-    listed.append(later)?;
-    Ok(listed)
-}
-
-/// What `front` says, and what the rest says behind it.
-#[cycle(halves)]
-fn listed_halves<R: Threads + Sync>(
-    rt: &R,
-    alloc: Global,
-    before: u32,
-    front: &[u8],
-    rest: &[u8],
-    workers: u32,
-) -> (Result<ListedSets, ReadFault>, Result<ListedSets, ReadFault>)
-    requires few { before + length front.now + length rest.now ≤ MOST_BYTES }
-    requires several { 2 ≤ workers }
-    ensures front { SaysFrom (before + 1) front.now result.0 }
-    ensures rest { SaysFrom (before + length (cut_at is_line_feed front.now).ended + 1) rest.now result.1 }
-{
     let few = workers / 2;
     let others = workers - few;
     let (later, listed) = join(
@@ -62,7 +40,9 @@ fn listed_halves<R: Threads + Sync>(
             ensures { SaysFrom (before + 1) front.entry.now result }
         { listed_shared(rt, alloc, before, front, few) },
     );
-    (listed, later)
+    let mut listed = listed?;
+    listed.append(later?)?;
+    Ok(listed)
 }
 
 /// How many lines end in the bytes.

@@ -2,7 +2,6 @@
 #![tactic(auto)]
 
 mod halves;
-mod input;
 pub mod laws;
 mod line;
 mod listed_sets;

@@ -1,18 +1,23 @@
 //! Reading a list of counted sets.
-ghost use Rattle.std.specs.Prelude.{◌≡◌, ◌≢◌, ◌≤◌, ℕ, List, length, take, nat_lt, true, false, IfSome, Err};
+ghost use Rattle.std.specs.Prelude.{◌≡◌, ◌≢◌, true, false, IfSome, Err};
 ghost use Rattle.basket_read.specs.declared.fault.ReadFault.TheVariants.{Read};
-ghost use Rattle.basket_read.specs.Fimi.{MOST_BYTES};
+ghost use Rattle.basket_read.specs.Fimi.{text_of};
 ghost use Rattle.basket_counts.specs.Counts.{sets_of_bytes, counts_of};
 ghost use Rattle.basket_counts.specs.Read.{Says, Answers};
 
 use crate::halves::listed_shared;
-use crate::input::SetInput;
 use crate::listed_sets::ListedSets;
-use basket_read::{CountedLine, ReadFault};
+use basket_read::{CountedLine, ReadFault, take_in};
 use basket_sets::Itemset;
 use basket_stream::Source;
 use std::alloc::Global;
 use std::thread::Threads;
+
+/// The greatest number of bytes of an input.
+const MAX_BYTES: usize = 4_294_967_295;
+
+/// The byte order mark.
+const MARK: [u8; 3] = [0xEF, 0xBB, 0xBF];
 
 /// Reads a list of sets to its end, one set a line, by this many workers, and returns the sets in
 /// its order. Their counts may be there or not, and are ignored.
@@ -64,24 +69,34 @@ fn read_listed<R: Threads + Sync, S: Source>(
     ensures failed { S.has_failed reader.new ≡ true → result ≡ Err Read }
     ensures read_is_failed { result ≡ Err Read → S.has_failed reader.new ≡ true }
 {
-    let input = SetInput::take_in(alloc, reader)?;
-    listed_of(rt, alloc, &input, workers)
+    let bytes = take_in(alloc, reader)?;
+    listed_of(rt, alloc, &bytes, workers)
 }
 
 /// What the bytes of an input say, or their first fault.
 fn listed_of<R: Threads + Sync>(
     rt: &R,
     alloc: Global,
-    input: &SetInput,
+    bytes: &[u8],
     workers: u32,
 ) -> Result<ListedSets, ReadFault>
-    requires { length input.now.bytes.items ≤ MOST_BYTES }
-    ensures says { (all : List ℕ) → input.now.bytes.items ≡ take MOST_BYTES all → input.now.is_longer ≡ nat_lt MOST_BYTES (length all) → Says result all }
+    ensures says { Says result bytes.now }
     ensures not_read { result ≢ Err Read }
 {
-    let listed = listed_shared(rt, alloc, 0, input.text(), workers)?;
-    if input.is_longer {
+    let most = bytes.len().min(MAX_BYTES);
+    let listed = listed_shared(rt, alloc, 0, text_of(&bytes[..most]), workers)?;
+    if most < bytes.len() {
         return Err(ReadFault::TooLong);
     }
     Ok(listed)
+}
+
+/// The text of the bytes: what follows the mark if they begin with it.
+fn text_of(bytes: &[u8]) -> &[u8]
+    ensures { result.now ≡ text_of bytes.now }
+{
+    match bytes.strip_prefix(&MARK) {
+        Some(text) => text,
+        None => bytes,
+    }
 }

@@ -1,5 +1,5 @@
 -- What stands at the front of an input, and the faults of an input that goes on.
-use Rattle.std.proofs.Common.{◌≡◌, ◌≢◌, ℕ, ◌+◌, ◌-◌, ◌<◌, ◌≤◌, Bool, true, false, ◌&&◌, ◌||◌, not, eqb, ltb, List, [], ◌∷◌, ◌++◌, length, take, drop, cond, Option, Some, None, refl, sym, ap, ◌∙◌, subst, inl, inr, append_assoc, arith, suc, nat_eq, ◌⊎◌, get_or}
+use Rattle.std.proofs.Common.{◌≡◌, ◌≢◌, ℕ, ◌+◌, ◌-◌, ◌<◌, ◌≤◌, Bool, true, false, ◌&&◌, ◌||◌, not, eqb, ltb, List, [], ◌∷◌, ◌++◌, length, take, drop, cond, Option, Some, None, refl, sym, ap, ◌∙◌, subst, inl, inr, arith, suc, nat_eq, ◌⊎◌, get_or}
 use Rattle.std.specs.Cmp.Lexicographic.{pointwise, bytes_decides}
 use Rattle.std.specs.List.{starts_with}
 use Rattle.std.proofs.lemmas.Bool.{or_cases, cases_lt, ne_eqb, eqb-false, lt-ltb, le-ltb}
@@ -248,11 +248,6 @@ pub settled_in_piece : (bytes piece : List ℕ) (i : ℕ) (fault : ReadFault) �
 settled_in_piece bytes piece i fault below told no_memory =
     ap settled_fault (sym (take_rest bytes piece (i + 1)))
     ∙ settled_stays (bytes ++ take (i + 1) piece) (drop (i + 1) piece) fault (ap settled_fault (sym (take_next bytes piece i below)) ∙ told no_memory)
-
--- and that of its front
-pub settled_in_front : (bytes front rest piece : List ℕ) (fault : ReadFault) → front ++ rest ≡ piece → Tells fault (settled_fault (bytes ++ front)) → Tells fault (settled_fault (bytes ++ piece))
-settled_in_front bytes front rest piece fault whole told no_memory =
-    ap settled_fault (ap (λ l. bytes ++ l) (sym whole) ∙ sym (append_assoc bytes front rest)) ∙ settled_stays (bytes ++ front) rest fault (told no_memory)
 
 -- ---- whatever follows
 

@@ -1,36 +1,35 @@
 -- What a read of blocks answers.
-use Rattle.std.proofs.Common.{◌≡◌, ◌≢◌, ◌≤◌, ℕ, Bool, true, false, List, [], ◌∷◌, ◌++◌, cond, Option, Some, None, Result, Ok, Err, append-nil, refl, sym, ap, ◌∙◌, subst, append_assoc, leb, ltb, take, length}
+use Rattle.std.proofs.Common.{◌≡◌, ◌≢◌, ◌≤◌, ℕ, Bool, true, false, List, [], ◌++◌, cond, Option, Some, None, Result, Ok, Err, append-nil, refl, sym, ap, ◌∙◌, subst, leb, ltb, take, length}
 use Rattle.std.proofs.lemmas.Bool.{leb-true}
 use Rattle.std.specs.Prelude.{IfErr, IfOk, IfSome, IsErr, unwrap_or}
 use Rattle.std.specs.Io.KnownBytes.{Consumes, IsAtEnd, Keeps}
+use Rattle.std.proofs.KnownBytes.{Keeps-refl}
 use Rattle.basket_sets.specs.declared.weighted.Weighted.{Weighted}
 use Rattle.basket_sets.specs.Number.{is_digit}
 use Rattle.basket_sets.specs.Support.{total_of}
 use Rattle.basket_sets.specs.Database.{MOST_WEIGHT}
 use Rattle.basket_read.specs.declared.fault.ReadFault.{ReadFault}
 use Rattle.basket_read.specs.declared.fault.ReadFault.TheVariants.{Memory, Read, TooLong, Byte, Number, Heavy}
-use Rattle.basket_read.specs.Fimi.{is_good, line_after, fault_after, first_fault, or_else, fault_in, text_of, settled_fault, baskets_of, answer_of, fimi_of, MOST_BYTES}
+use Rattle.basket_read.specs.Fimi.{is_line, line_after, fault_at, first_fault, or_else, fault_in, text_of, settled_fault, baskets_of, answer_of, fimi_of, MOST_BYTES}
 use Rattle.basket_read.specs.ItemCounts.{AreLightCounts, Counts}
 use Rattle.basket_read.specs.Read.{CountsAs, FailsAfter, Reads, ReadsAs, Stops}
 use Rattle.basket_read.specs.Text.{Answers, CountsBehind, GoesOn, Tells}
 use Rattle.basket_read.specs.declared.item_counts.ItemCounts.{ItemCounts}
 use Rattle.basket_read.proofs.InputLemmas.{settled_stays, fault-settled}
 use Rattle.basket_read.proofs.PartsLemmas.{answer_told, AreKept}
+use Rattle.basket_read.proofs.theory.Grammar as grammar
 
 -- ---- no input has the fault of a reader
 
-not_found : (before text : List ℕ) → fault_after before text ≢ Some Read
-not_found before [] e = absurd cc
-not_found before (byte ∷ text) e = at (is_good (before ++ byte ∷ [])) (is_digit byte) (fault_after (before ++ byte ∷ []) text) (not_found (before ++ byte ∷ []) text) e
+not_found : (text : List ℕ) → first_fault text ≢ Some Read
+not_found text = grammar.other_fault is_line fault_at refl Read (λ before byte. at before byte (is_digit byte)) [] text
   where
-    at : (good digit : Bool) (later : Option ReadFault) → later ≢ Some Read
-        → cond good later (Some (cond digit (Number (line_after before)) (Byte (line_after before) byte))) ≢ Some Read
-    at true digit later none e = none e
-    at false true later none e = absurd cc
-    at false false later none e = absurd cc
+    at : (before : List ℕ) (byte : ℕ) (digit : Bool) → cond digit (Number (line_after before)) (Byte (line_after before) byte) ≢ Read
+    at before byte true e = absurd cc
+    at before byte false e = absurd cc
 
 not_in : (bytes : List ℕ) → fault_in bytes ≢ Some Read
-not_in bytes e = at (first_fault (text_of (take MOST_BYTES bytes))) (ltb MOST_BYTES (length bytes)) (not_found [] (text_of (take MOST_BYTES bytes))) e
+not_in bytes e = at (first_fault (text_of (take MOST_BYTES bytes))) (ltb MOST_BYTES (length bytes)) (not_found (text_of (take MOST_BYTES bytes))) e
   where
     at : (found : Option ReadFault) (long : Bool) → found ≢ Some Read → or_else found (cond long (Some TooLong) None) ≢ Some Read
     at (Some fault) long none e = none e
@@ -52,16 +51,6 @@ not_answered bytes e = at (fault_in bytes) (baskets_of (text_of bytes)) (leb (to
     at None baskets b f none e = light baskets (leb (total_of baskets) MOST_WEIGHT) e
 
 -- ---- the bytes that a reader gave
-
-pub consumes_more : (old between new : Option (List ℕ)) (a b : List ℕ) → Consumes old between a → Consumes between new b → Consumes old new (a ++ b)
-consumes_more None between new a b p q = tt
-consumes_more (Some all) None new a b p q = absurd p
-consumes_more (Some all) (Some rest) None a b p q = absurd q
-consumes_more (Some all) (Some rest) (Some left) a b p q = p ∙ ap (λ l. a ++ l) q ∙ sym (append_assoc a b left)
-
-pub consumes_none : (old : Option (List ℕ)) → Consumes old old []
-consumes_none None = tt
-consumes_none (Some all) = refl
 
 -- a fault in the bytes that a reader gave is that of all its bytes
 refused_answer : (old new : Option (List ℕ)) (given : List ℕ) (fault : ReadFault) → Consumes old new given → Tells fault (settled_fault given)
@@ -85,10 +74,6 @@ fails_after None now new given fault p kept is = tt
 fails_after (Some all) None new given fault p kept is = absurd p
 fails_after (Some all) (Some rest) None given fault p kept is = absurd kept
 fails_after (Some all) (Some rest) (Some left) given fault p kept is = (given, p ∙ ap (λ l. given ++ l) (sym kept), is)
-
-pub keeps_all : (left : Option (List ℕ)) → Keeps left left
-keeps_all None = tt
-keeps_all (Some rest) = refl
 
 -- the baskets that an input says are light
 light_answer : (found : Option ReadFault) (all baskets : List Weighted) → answer_of found all ≡ Ok baskets → total_of baskets ≤ MOST_WEIGHT
@@ -114,7 +99,7 @@ pub stops_fault : (old new : Option (List ℕ)) (failed : Bool) (given : List �
     → Stops old new failed fault
 stops_fault old new failed given fault p told = record {
   exact = λ _. refused_answer old new given fault p told;
-  fails = λ _. fails_after old new new given fault p (keeps_all new) (told_fault given fault told);
+  fails = λ _. fails_after old new new given fault p (Keeps-refl new) (told_fault given fault told);
   read_is_failed = λ e. absurd (not_settled given (subst (λ f. Tells f (settled_fault given)) e told (λ m. absurd cc)));
 }
 

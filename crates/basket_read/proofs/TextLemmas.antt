@@ -147,9 +147,3 @@ pub not_counting : {A : Type 0} (past : List Weighted) (result : Result A ReadFa
     → MatchResult result (λ _. GoesOn false past P) Q → MatchResult result (λ _. P past) Q
 not_counting past (Ok x) P Q h = uncounted past P h
 not_counting past (Err fault) P Q h = h
-
--- what is past goes on from what went on
-pub goes_further : {A : Type 0} (counting : Bool) (past now : List Weighted) (result : Result A ReadFault) (P : List Weighted → Type 0) (Q : ReadFault → Type 0) → (counting ≡ false → now ≡ past)
-    → MatchResult result (λ _. GoesOn counting now P) Q → MatchResult result (λ _. GoesOn counting past P) Q
-goes_further counting past now (Ok x) P Q off h = (h.0, λ f. h.1 f ∙ off f, h.2)
-goes_further counting past now (Err fault) P Q off h = h

@@ -6,6 +6,7 @@ pub mod Number
 pub mod Numbers
 pub mod Line
 pub mod Text
+pub mod Bytes
 pub mod ItemCounts
 pub mod Input
 pub mod Parts

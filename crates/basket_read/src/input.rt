@@ -6,15 +6,13 @@ ghost use Rattle.basket_sets.specs.declared.weighted.Weighted.{Weighted};
 ghost use Rattle.basket_read.specs.Input.{IsInputSoFar, IsSomeInput};
 
 use crate::fault::ReadFault;
+use crate::feeder::{Alone, Feeder};
 use crate::item_counts::ItemCounts;
-use crate::lines::{feed_part, feed_shared};
 use crate::text::Text;
 use std::alloc::Global;
-use std::mem;
-use std::thread::Threads;
 
 /// The greatest number of bytes of an input.
-const MAX_BYTES: u32 = 4_294_967_295;
+pub(crate) const MAX_BYTES: u32 = 4_294_967_295;
 
 /// The bytes of the byte order mark.
 const MARK: [u8; 3] = [0xEF, 0xBB, 0xBF];
@@ -59,14 +57,20 @@ impl Input {
     }
 
     /// Takes more of the input, up to its first fault, and may count its baskets.
-    pub fn take(&mut self, piece: &[u8], counting: bool) -> Result<(), ReadFault>
-        requires { IsSomeInput self.old }
+    pub fn take<F: Feeder>(
+        &mut self,
+        feeder: &F,
+        piece: &[u8],
+        counting: bool,
+    ) -> Result<(), ReadFault>
+        requires ready { F.is_ready feeder.now }
+        requires some { IsSomeInput self.old }
         ensures { (past : List Weighted) (bytes : List ℕ) → IsInputSoFar self.old past bytes →
             MatchResult result (λ _. GoesOn counting past (λ now. IsInputSoFar self.new now (bytes ++ piece.now))) (λ fault. Tells fault (settled_fault (bytes ++ piece.now))) }
     {
         for (place, byte) in piece.iter().enumerate() {
             if let Front::Decided = self.front {
-                return self.take_text(&piece[place..], counting);
+                return self.take_text(feeder, &piece[place..], counting);
             }
             self.take_byte(*byte)?;
         }
@@ -103,13 +107,19 @@ impl Input {
                 self.front = Front::Decided;
                 self.taken = 3;
             }
-            Front::Decided => return self.take_text(&[byte], false),
+            Front::Decided => return self.take_text(&Alone, &[byte], false),
         }
         Ok(())
     }
 
     /// Takes bytes after the beginning, as many as an input may have.
-    fn take_text(&mut self, piece: &[u8], counting: bool) -> Result<(), ReadFault>
+    fn take_text<F: Feeder>(
+        &mut self,
+        feeder: &F,
+        piece: &[u8],
+        counting: bool,
+    ) -> Result<(), ReadFault>
+        requires ready { F.is_ready feeder.now }
         requires some { IsSomeInput self.old }
         requires decided { self.old.front ≡ Front.Decided }
         ensures { (past : List Weighted) (bytes : List ℕ) → IsInputSoFar self.old past bytes →
@@ -120,50 +130,7 @@ impl Input {
             self.text.feed(&piece[..room], false)?;
             return Err(ReadFault::TooLong);
         }
-        feed_part(&mut self.text, piece, counting)?;
-        self.taken += piece.len() as u32;
-        Ok(())
-    }
-
-    /// Takes more of the input as `take` does, by this many workers.
-    pub fn take_shared<R: Threads + Sync>(
-        &mut self,
-        rt: &R,
-        piece: &[u8],
-        workers: u32,
-        counting: bool,
-    ) -> Result<(), ReadFault>
-        requires { IsSomeInput self.old }
-        ensures { (past : List Weighted) (bytes : List ℕ) → IsInputSoFar self.old past bytes →
-            MatchResult result (λ _. GoesOn counting past (λ now. IsInputSoFar self.new now (bytes ++ piece.now))) (λ fault. Tells fault (settled_fault (bytes ++ piece.now))) }
-    {
-        let (front, rest) = piece.split_at(piece.len().min(MARK.len()));
-        self.take(front, counting)?;
-        self.take_rest(rt, rest, workers, counting)
-    }
-
-    /// Takes more of the input once its beginning is mostly decided.
-    fn take_rest<R: Threads + Sync>(
-        &mut self,
-        rt: &R,
-        piece: &[u8],
-        workers: u32,
-        counting: bool,
-    ) -> Result<(), ReadFault>
-        requires { IsSomeInput self.old }
-        ensures { (past : List Weighted) (bytes : List ℕ) → IsInputSoFar self.old past bytes →
-            MatchResult result (λ _. GoesOn counting past (λ now. IsInputSoFar self.new now (bytes ++ piece.now))) (λ fault. Tells fault (settled_fault (bytes ++ piece.now))) }
-    {
-        let Front::Decided = self.front else {
-            return self.take(piece, counting);
-        };
-        if piece.len() > (MAX_BYTES - self.taken) as usize {
-            return self.take(piece, counting);
-        }
-        let empty = Text::new(self.text.alloc(), 0);
-        let before = mem::replace(&mut self.text, empty);
-        let text = feed_shared(rt, before, piece, workers, counting)?;
-        self.text = text;
+        feeder.feed(&mut self.text, piece, counting)?;
         self.taken += piece.len() as u32;
         Ok(())
     }

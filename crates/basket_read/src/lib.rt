@@ -1,9 +1,12 @@
 //! Readers of baskets that return exactly the baskets of an input, or its first fault.
 #![tactic(auto)]
 
+mod batches;
 mod byte_class;
+mod bytes;
 mod counted_line;
 mod fault;
+mod feeder;
 mod input;
 mod item_counts;
 pub mod laws;
@@ -13,16 +16,17 @@ mod number;
 mod numbers;
 mod parts;
 mod read;
-mod shared;
 mod text;
 pub mod worked;
 
 pub use byte_class::{ByteClass, class_of};
+pub use bytes::take_in;
 pub use counted_line::CountedLine;
 pub use fault::ReadFault;
 pub use item_counts::ItemCounts;
 pub use lines::middle_of;
 pub use numbers::Numbers;
 pub use parts::FimiParts;
-pub use read::{MAX_BLOCK, count_fimi, read_fimi, read_fimi_by};
-pub use shared::{count_fimi_shared, read_fimi_shared};
+pub use read::{
+    MAX_BLOCK, count_fimi, count_fimi_shared, read_fimi, read_fimi_by, read_fimi_shared,
+};

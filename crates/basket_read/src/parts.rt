@@ -7,6 +7,7 @@ ghost use Rattle.basket_read.specs.Text.{Tells, Answers};
 ghost use Rattle.basket_read.specs.Input.{IsSomeInput};
 
 use crate::fault::ReadFault;
+use crate::feeder::Alone;
 use crate::input::Input;
 use crate::item_counts::ItemCounts;
 use basket_sets::Database;
@@ -49,7 +50,7 @@ impl FimiParts {
         if let Some(fault) = self.refusal {
             return Err(fault);
         }
-        match self.input.take(piece, false) {
+        match self.input.take(&Alone, piece, false) {
             Ok(()) => Ok(()),
             Err(fault) => {
                 self.refusal = Some(fault);

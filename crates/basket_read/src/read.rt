@@ -1,20 +1,29 @@
-//! Reading a FIMI input block by block.
+//! Reading a FIMI input.
 ghost use Rattle.std.specs.Prelude.{◌≡◌, ◌≤◌, false};
 ghost use Rattle.basket_read.specs.Fimi.{fimi_of};
-ghost use Rattle.basket_read.specs.Read.{CountsAs, Reads, ReadsAs};
+ghost use Rattle.basket_read.specs.Read.{CountsAs, ReadsAs};
 
+use crate::batches::read_batches;
 use crate::fault::ReadFault;
-use crate::input::Input;
+use crate::feeder::{Alone, Workers};
 use crate::item_counts::ItemCounts;
 use basket_sets::Database;
 use basket_stream::Source;
 use std::alloc::Global;
+use std::thread::Threads;
 
 /// The greatest block.
 pub const MAX_BLOCK: usize = 1_048_576;
 
 /// The block of `read_fimi`.
 pub(crate) const BLOCK: usize = 65_536;
+
+/// How many bytes a batch has if its baskets are kept, since they take more than their text.
+const BATCH: usize = 2_097_152;
+
+/// How many bytes a batch has if its baskets are counted, since each batch has a table for each
+/// worker.
+const COUNTING_BATCH: usize = 8_388_608;
 
 /// Reads a FIMI input to its end, in blocks of 65,536 bytes.
 pub fn read_fimi<S: Source>(alloc: Global, reader: &mut S) -> Result<Database, ReadFault>
@@ -35,7 +44,7 @@ pub fn read_fimi_by<S: Source>(
     requires few { block ≤ MAX_BLOCK }
     ensures { ReadsAs fimi_of (S.left reader.old) (S.left reader.new) (S.has_failed reader.new) result }
 {
-    read_blocks(alloc, reader, block, false).map(ItemCounts::into_rest)
+    read_batches(&Alone, alloc, reader, block, false).map(ItemCounts::into_rest)
 }
 
 /// Reads a FIMI input to its end, in blocks of 65,536 bytes, and counts its items. The baskets of a
@@ -45,30 +54,39 @@ pub fn count_fimi<S: Source>(alloc: Global, reader: &mut S) -> Result<ItemCounts
     requires { S.has_failed reader.old ≡ false }
     ensures { CountsAs fimi_of (S.left reader.old) (S.left reader.new) (S.has_failed reader.new) result }
 {
-    read_blocks(alloc, reader, BLOCK, true)
+    read_batches(&Alone, alloc, reader, BLOCK, true)
 }
 
-/// Reads an input to its end, a block at a time, and may count the baskets of a block before the next is
-/// read.
-fn read_blocks<S: Source>(
+/// Reads a FIMI input to its end, as `read_fimi` does, by this many workers.
+pub fn read_fimi_shared<R: Threads + Sync, S: Source>(
+    rt: &R,
     alloc: Global,
     reader: &mut S,
-    block: usize,
-    counting: bool,
-) -> Result<ItemCounts, ReadFault>
-    requires fresh { S.has_failed reader.old ≡ false }
-    requires some { 1 ≤ block }
-    requires few { block ≤ MAX_BLOCK }
-    ensures { Reads counting (S.left reader.old) (S.left reader.new) (S.has_failed reader.new) result }
+    workers: u32,
+) -> Result<Database, ReadFault>
+    requires { S.has_failed reader.old ≡ false }
+    ensures { ReadsAs fimi_of (S.left reader.old) (S.left reader.new) (S.has_failed reader.new) result }
 {
-    let mut bytes = vec![in alloc; 0u8; block]?;
-    let buffer = bytes.as_mut_slice();
-    let mut input = Input::new(alloc);
-    'reading: loop {
-        match reader.read(buffer) {
-            Ok(0) => return input.finish(),
-            Ok(count) => input.take(&buffer[..count], counting)?,
-            Err(_) => return Err(input.fault_so_far().unwrap_or(ReadFault::Read)),
-        }
+    if workers < 2 {
+        return read_fimi(alloc, reader);
     }
+    let feeder = Workers { rt, count: workers };
+    read_batches(&feeder, alloc, reader, BATCH, false).map(ItemCounts::into_rest)
+}
+
+/// Reads a FIMI input to its end and counts its items, as `count_fimi` does, by this many workers.
+pub fn count_fimi_shared<R: Threads + Sync, S: Source>(
+    rt: &R,
+    alloc: Global,
+    reader: &mut S,
+    workers: u32,
+) -> Result<ItemCounts, ReadFault>
+    requires { S.has_failed reader.old ≡ false }
+    ensures { CountsAs fimi_of (S.left reader.old) (S.left reader.new) (S.has_failed reader.new) result }
+{
+    if workers < 2 {
+        return count_fimi(alloc, reader);
+    }
+    let feeder = Workers { rt, count: workers };
+    read_batches(&feeder, alloc, reader, COUNTING_BATCH, true)
 }

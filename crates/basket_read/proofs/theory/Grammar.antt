@@ -1,5 +1,5 @@
 -- Texts of lines: their first fault, and what a byte more does.
-use Rattle.std.proofs.Common.{◌≡◌, ℕ, Bool, true, false, ◌&&◌, List, [], ◌∷◌, ◌++◌, cond, Option, Some, None, refl, sym, ap, ◌∙◌, subst, inl, inr, append_assoc}
+use Rattle.std.proofs.Common.{◌≡◌, ◌≢◌, ℕ, Bool, true, false, ◌&&◌, List, [], ◌∷◌, ◌++◌, cond, Option, Some, None, refl, sym, ap, ◌∙◌, subst, inl, inr, append_assoc}
 use Rattle.std.specs.List.{list_all}
 use Rattle.std.proofs.lemmas.Bool.{cases_Bool, and_parts, and_from}
 use Rattle.std.proofs.lemmas.List.{append-nil}
@@ -71,6 +71,15 @@ module _ (is_line : List ℕ → Bool) (fault_at : List ℕ → ℕ → ReadFaul
   first_fault_push : (text : List ℕ) (byte : ℕ) (well : Bool) → after [] text ≡ None → good (text ++ byte ∷ []) ≡ well
       → after [] (text ++ byte ∷ []) ≡ cond well None (Some (fault_at text byte))
   first_fault_push text byte well e g = first_fault_behind text (byte ∷ []) e ∙ ap (λ b. found b None (fault_at text byte)) g
+
+  -- a fault that no byte has is that of no text
+  pub other_fault : (fault : ReadFault) → ((before : List ℕ) (byte : ℕ) → fault_at before byte ≢ fault) → (before text : List ℕ) → after before text ≢ Some fault
+  other_fault fault other before [] e = absurd cc
+  other_fault fault other before (byte ∷ text) e = at (good (before ++ byte ∷ [])) (after (before ++ byte ∷ []) text) (other_fault fault other (before ++ byte ∷ []) text) e
+    where
+      at : (well : Bool) (later : Option ReadFault) → later ≢ Some fault → found well later (fault_at before byte) ≢ Some fault
+      at true later none e = none e
+      at false later none e = other before byte cc
 
   -- ---- one more byte
 

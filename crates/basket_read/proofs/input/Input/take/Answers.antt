@@ -10,10 +10,10 @@ use Rattle.basket_read.proofs.InputLemmas.{some_after, settled_in_piece}
 use Rattle.basket_read.proofs.input.Input.take.Goals as goal
 
 pub take_text-requires-clause-some : goal.take_text-requires-clause-some
-take_text-requires-clause-some c = some_after c.args.self.now c.loop-place.self (take c.loop-place.place c.args.piece.now) c.requires c.loop-place.invariant
+take_text-requires-clause-some g c = some_after c.args.self.now c.loop-place.self (take c.loop-place.place c.args.piece.now) c.requires.some c.loop-place.invariant
 
 pub returns-in-Decided : goal.returns-in-Decided
-returns-in-Decided c = λ past bytes r.
+returns-in-Decided g c = λ past bytes r.
     subst (λ l. MatchResult c.take_text.result (λ _. GoesOn c.args.counting past (λ now. IsInputSoFar c.take_text.new.self now l)) (λ fault. Tells fault (settled_fault l)))
     (ap (λ l. (bytes ++ take c.loop-place.place c.args.piece.now) ++ l)
     (take_all (length c.args.piece.now - c.loop-place.place) (drop c.loop-place.place c.args.piece.now) (omega (arith, length-drop c.loop-place.place c.args.piece.now)))
@@ -21,10 +21,10 @@ returns-in-Decided c = λ past bytes r.
     (c.take_text.ensures past (bytes ++ take c.loop-place.place c.args.piece.now) (c.loop-place.invariant past bytes r))
 
 pub take_byte-requires : goal.take_byte-requires
-take_byte-requires c = some_after c.args.self.now c.loop-place.self (take c.loop-place.place c.args.piece.now) c.requires c.loop-place.invariant
+take_byte-requires g c = some_after c.args.self.now c.loop-place.self (take c.loop-place.place c.args.piece.now) c.requires.some c.loop-place.invariant
 
 pub returns-in_err-take_byte : goal.returns-in_err-take_byte
-returns-in_err-take_byte c = λ past bytes r.
+returns-in_err-take_byte g c = λ past bytes r.
     let p = err_from_is_err_and c.from_residual.result c.from_residual.ensures.1 in
     rw (p.1, p.2) (settled_in_piece bytes c.args.piece.now c.loop-place.place c.in_err-take_byte.field-0.0 c.loop-place-test.true
     (c.in_err-take_byte.ensures past (bytes ++ take c.loop-place.place c.args.piece.now) (c.loop-place.invariant past bytes r)))

@@ -1,6 +1,6 @@
 use Rattle.std.proofs.Common.{◌≡◌, ◌≤◌, ◌-◌, length, take, false}
 use Rattle.std.specs.Io.KnownBytes.{Consumes}
-use Rattle.basket_read.proofs.shared.fill.Given as goal
+use Rattle.basket_read.proofs.bytes.fill.Given as goal
 
 abbrev pub invariant-loop-filled : goal.invariant-loop-filled
 invariant-loop-filled g l = record {

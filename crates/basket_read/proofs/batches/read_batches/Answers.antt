@@ -3,48 +3,49 @@ use Rattle.std.proofs.lemmas.List.{length-take}
 use Rattle.std.proofs.lemmas.Result.{err_from_is_err_and}
 use Rattle.std.specs.Io.KnownBytes.{Consumes}
 use Rattle.basket_read.specs.declared.fault.ReadFault.TheVariants.{Read}
-use Rattle.basket_read.proofs.ReadLemmas.{consumes_more, consumes_none, ended, keeps_all, stopped, stops_failed, stops_fault}
-use Rattle.basket_read.proofs.shared.read_batches.Goals as goal
+use Rattle.std.proofs.KnownBytes.{Consumes-nil, Consumes-trans, Keeps-refl}
+use Rattle.basket_read.proofs.ReadLemmas.{ended, stopped, stops_failed, stops_fault}
+use Rattle.basket_read.proofs.batches.read_batches.Goals as goal
 
 -- a batch stands behind what was given before
 taken_in : (old between new : Option (List ℕ)) (given batch items : List ℕ) (count : ℕ) → batch ≡ items → Consumes old between given → Consumes between new (take count items)
     → Consumes old new (given ++ take count batch)
-taken_in old between new given batch items count same p q = consumes_more old between new given (take count batch) p (subst (λ l. Consumes between new (take count l)) (sym same) q)
+taken_in old between new given batch items count same p q = Consumes-trans old between new given (take count batch) p (subst (λ l. Consumes between new (take count l)) (sym same) q)
 
-pub returns-in_err-take_shared : goal.returns-in_err-take_shared
-returns-in_err-take_shared g c =
+pub returns-in_err-take : goal.returns-in_err-take
+returns-in_err-take g c =
     let read = c.reading.invariant.read in
-    let p = err_from_is_err_and c.from_residual-in_err-take_shared.result c.from_residual-in_err-take_shared.ensures.1 in
+    let p = err_from_is_err_and c.from_residual-in_err-take.result c.from_residual-in_err-take.ensures.1 in
     let batch = take c.in_ok-count.count c.deref.result.now in
-    stopped c.args.counting _ _ _ c.from_residual-in_err-take_shared.result c.in_err-take_shared.field-0.0 (p.1 ∙ ap Err p.2)
-    (stops_fault _ _ _ (read.0 ++ batch) c.in_err-take_shared.field-0.0 (taken_in _ _ _ read.0 _ _ c.in_ok-count.count c.deref.ensures.value read.1 c.in_ok-count.ensures.given)
-    (c.in_err-take_shared.ensures read.2.0 read.0 read.2.2))
+    stopped c.args.counting _ _ _ c.from_residual-in_err-take.result c.in_err-take.field-0.0 (p.1 ∙ ap Err p.2)
+    (stops_fault _ _ _ (read.0 ++ batch) c.in_err-take.field-0.0 (taken_in _ _ _ read.0 _ _ c.in_ok-count.count c.deref.ensures.value read.1 c.in_ok-count.ensures.given)
+    (c.in_err-take.ensures read.2.0 read.0 read.2.2))
 
 pub returns-then-failed : goal.returns-then-failed
 returns-then-failed g c =
     let read = c.reading.invariant.read in
     let batch = take c.in_ok-count.count c.deref.result.now in
-    let on = c.in_ok-take_shared.ensures read.2.0 read.0 read.2.2 in
-    stops_failed _ _ _ _ (read.0 ++ batch) c.unwrap_or.result (sym c.failed.ensures ∙ c.if-failed.true) (taken_in _ _ _ read.0 _ _ c.in_ok-count.count c.deref.ensures.value read.1 c.in_ok-count.ensures.given) (keeps_all _)
+    let on = c.in_ok-take.ensures read.2.0 read.0 read.2.2 in
+    stops_failed _ _ _ _ (read.0 ++ batch) c.unwrap_or.result (sym c.failed.ensures ∙ c.if-failed.true) (taken_in _ _ _ read.0 _ _ c.in_ok-count.count c.deref.ensures.value read.1 c.in_ok-count.ensures.given) (Keeps-refl _)
     (c.unwrap_or.ensures ∙ ap (λ found. unwrap_or found Read) (c.fault_so_far.ensures on.0 (read.0 ++ batch) on.2))
 
 pub finish-requires : goal.finish-requires
-finish-requires g c = let read = c.reading.invariant.read in let on = c.in_ok-take_shared.ensures read.2.0 read.0 read.2.2 in ∣ (on.0, _, on.2) ∣₁
+finish-requires g c = let read = c.reading.invariant.read in let on = c.in_ok-take.ensures read.2.0 read.0 read.2.2 in ∣ (on.0, _, on.2) ∣₁
 
 pub returns-then-count-most : goal.returns-then-count-most
 returns-then-count-most g c =
     let read = c.reading.invariant.read in
     let batch = take c.in_ok-count.count c.deref.result.now in
-    let on = c.in_ok-take_shared.ensures read.2.0 read.0 read.2.2 in
+    let on = c.in_ok-take.ensures read.2.0 read.0 read.2.2 in
     let working = sym c.failed.ensures ∙ c.if-failed.false in
-    ended c.args.counting _ _ _ _ (read.0 ++ batch) [] c.finish.result working (taken_in _ _ _ read.0 _ _ c.in_ok-count.count c.deref.ensures.value read.1 c.in_ok-count.ensures.given) (consumes_none _) refl
+    ended c.args.counting _ _ _ _ (read.0 ++ batch) [] c.finish.result working (taken_in _ _ _ read.0 _ _ c.in_ok-count.count c.deref.ensures.value read.1 c.in_ok-count.ensures.given) (Consumes-nil _) refl
     (c.in_ok-count.ensures.ended working c.if-count-most.true) (on.0, λ off. on.1 off ∙ read.2.1 off, c.finish.ensures on.0 (read.0 ++ batch) on.2)
 
 pub reading-smaller : goal.reading-smaller
 reading-smaller g c =
     let read = c.reading.invariant.read in
     let batch = take c.in_ok-count.count c.deref.result.now in
-    let on = c.in_ok-take_shared.ensures read.2.0 read.0 read.2.2 in
+    let on = c.in_ok-take.ensures read.2.0 read.0 read.2.2 in
     let sum = length-append read.0 batch in
     let some = length-take c.in_ok-count.count c.deref.result.now in
     omega (arith, read.2.2.taken, on.2.taken, on.2.few, sum, some, ap length c.deref.ensures.value, c.in_ok-count.ensures.within, c.if-count-most.false, c.requires.some)
@@ -53,7 +54,7 @@ pub reading-preserved : goal.reading-preserved
 reading-preserved g c =
     let read = c.reading.invariant.read in
     let batch = take c.in_ok-count.count c.deref.result.now in
-    let on = c.in_ok-take_shared.ensures read.2.0 read.0 read.2.2 in
+    let on = c.in_ok-take.ensures read.2.0 read.0 read.2.2 in
     record {
       unfailed = sym c.failed.ensures ∙ c.if-failed.false;
       read = (read.0 ++ batch, taken_in _ _ _ read.0 _ _ c.in_ok-count.count c.deref.ensures.value read.1 c.in_ok-count.ensures.given, (on.0, λ off. on.1 off ∙ read.2.1 off, on.2));

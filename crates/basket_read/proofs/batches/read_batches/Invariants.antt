@@ -2,7 +2,7 @@ use Rattle.std.proofs.Common.{◌≡◌, ◌-◌, ℕ, List, [], false}
 use Rattle.std.specs.Io.KnownBytes.{Consumes}
 use Rattle.basket_read.specs.Input.{IsInputSoFar}
 use Rattle.basket_read.specs.Text.{GoesOn}
-use Rattle.basket_read.proofs.shared.read_batches.Given as goal
+use Rattle.basket_read.proofs.batches.read_batches.Given as goal
 
 abbrev pub invariant-reading : goal.invariant-reading
 invariant-reading g l = record {

@@ -4,9 +4,9 @@ use Rattle.std.specs.Prelude.{Vec}
 use Rattle.std.specs.declared.alloc.Global.{Global}
 use Rattle.std.specs.Io.KnownBytes.{Consumes}
 use Rattle.basket_read.proofs.InputLemmas.{take_behind}
-use Rattle.basket_read.proofs.ReadLemmas.{consumes_more}
-use Rattle.basket_read.proofs.shared.fill.Goals as goal
-use Rattle.basket_read.proofs.shared.fill.Goals.{then-filled-len+in_ok-resize, else-filled-len}
+use Rattle.std.proofs.KnownBytes.{Consumes-trans}
+use Rattle.basket_read.proofs.bytes.fill.Goals as goal
+use Rattle.basket_read.proofs.bytes.fill.Goals.{then-filled-len+in_ok-resize, else-filled-len}
 
 -- what is filled stays as the buffer grows
 kept : (old new : List ℕ) (filled n : ℕ) → filled ≡ length old → filled ≤ n → take filled (take n old ++ new) ≡ take filled old
@@ -41,8 +41,8 @@ loop-filled-preserved g c =
           let long = ap (λ (v : Vec ℕ Global). length v.items) w.buffer-is in
           let items = w.in_ok-resize.ensures.items in (
             ap (λ (v : Vec ℕ Global). take filled v.items) w.buffer-is ∙ ap (take filled) items
-                ∙ kept old.items _ filled w.min.result (let l = c.len.ensures in let k = old.ok in omega arith) (let m = w.min.ensures in let x = w.max.ensures in let t = c.loop-filled-test.true in omega arith),
-            (let l = c.len.ensures in let k = old.ok in let m = w.min.ensures in let x = w.max.ensures in let t = c.loop-filled-test.true in let e = w.in_ok-resize.ensures.len in let n = w.resize.new.self.ok in omega arith),
+                ∙ kept old.items _ filled w.min.result (let l = c.len.ensures in let k = old.ok in omega arith) (let m = w.min.ensures in let t = c.loop-filled-test.true in omega arith),
+            (let l = c.len.ensures in let k = old.ok in let m = w.min.ensures in let t = c.loop-filled-test.true in let e = w.in_ok-resize.ensures.len in let n = w.resize.new.self.ok in omega arith),
           )
       | else-filled-len w ↦ (ap (λ (v : Vec ℕ Global). take filled v.items) w.buffer-is, let long = ap (λ (v : Vec ℕ Global). length v.items) w.buffer-is in omega (arith, c.loop-filled.invariant.within))
     ] in
@@ -53,5 +53,5 @@ loop-filled-preserved g c =
       within = behind.1;
       given = subst (Consumes (g.S.Source.left c.args.reader.now) (g.S.Source.left c.read.new.self))
           (sym (behind.0 ∙ ap (λ l. l ++ take count c.read.new.buf) (ap (take filled) c.deref_mut.ensures.value ∙ grown.0)))
-          (consumes_more _ _ _ (take filled old.items) (take count c.read.new.buf) c.loop-filled.invariant.given c.in-Ok.ensures.bytes.0);
+          (Consumes-trans _ _ _ (take filled old.items) (take count c.read.new.buf) c.loop-filled.invariant.given c.in-Ok.ensures.bytes.0);
     }

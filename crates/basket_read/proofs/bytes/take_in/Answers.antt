@@ -1,0 +1,21 @@
+use Rattle.std.proofs.Common.{◌≡◌, ◌+◌, ◌<◌, ◌≤◌, ◌++◌, ℕ, List, Option, None, Some, take, length, ap, sym, ◌∙◌, arith}
+use Rattle.std.specs.Prelude.{IfSome}
+use Rattle.std.specs.Io.KnownBytes.{Consumes, IsAtEnd}
+use Rattle.std.proofs.lemmas.List.{length-take-le}
+use Rattle.basket_read.specs.Fimi.{MOST_BYTES}
+use Rattle.basket_read.specs.Bytes.{AreTakenOf}
+use Rattle.basket_read.proofs.bytes.take_in.Goals as goal
+
+taken : (old new : Option (List ℕ)) (bytes buffer : List ℕ) (count : ℕ) → Consumes old new (take count buffer) → bytes ≡ take count buffer → count ≤ length buffer
+    → (count < MOST_BYTES + 1 → IsAtEnd new) → IfSome old (AreTakenOf bytes)
+taken None new bytes buffer count p e within end = tt
+taken (Some all) None bytes buffer count p e within end = absurd p
+taken (Some all) (Some rest) bytes buffer count p e within end =
+    let size = ap length e ∙ length-take-le count buffer within in (rest, p ∙ ap (λ l. l ++ rest) (sym e), λ few. end (omega arith))
+
+pub returns : goal.returns
+returns g c =
+    let working = sym c.failed.ensures ∙ c.if-failed.false in (
+      working,
+      taken _ _ c.truncate.new.self.items c.fill.new.buffer.items c.in_ok-count.count c.in_ok-count.ensures.given c.truncate.ensures.items c.in_ok-count.ensures.within (c.in_ok-count.ensures.ended working),
+    )

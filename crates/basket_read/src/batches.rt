@@ -1,0 +1,40 @@
+//! Reading a FIMI input batch by batch.
+ghost use Rattle.std.specs.Prelude.{◌≡◌, ◌<◌, ◌^◌, false};
+ghost use Rattle.basket_read.specs.Read.{Reads};
+
+use crate::bytes::fill;
+use crate::fault::ReadFault;
+use crate::feeder::Feeder;
+use crate::input::Input;
+use crate::item_counts::ItemCounts;
+use basket_stream::Source;
+use std::alloc::Global;
+
+/// Reads an input to its end in batches of this many bytes. The baskets of a batch may be counted
+/// before the next is read.
+pub(crate) fn read_batches<F: Feeder, S: Source>(
+    feeder: &F,
+    alloc: Global,
+    reader: &mut S,
+    most: usize,
+    counting: bool,
+) -> Result<ItemCounts, ReadFault>
+    requires ready { F.is_ready feeder.now }
+    requires fresh { S.has_failed reader.old ≡ false }
+    requires some { 0 < most }
+    requires few { most < 2 ^ 32 }
+    ensures { Reads counting (S.left reader.old) (S.left reader.new) (S.has_failed reader.new) result }
+{
+    let mut buffer = Vec::new(alloc);
+    let mut input = Input::new(alloc);
+    'reading: loop {
+        let count = fill(reader, &mut buffer, most)?;
+        input.take(feeder, &buffer[..count], counting)?;
+        if reader.failed() {
+            return Err(input.fault_so_far().unwrap_or(ReadFault::Read));
+        }
+        if count < most {
+            return input.finish();
+        }
+    }
+}

@@ -1,0 +1,51 @@
+//! The bytes of an input.
+ghost use Rattle.std.specs.Prelude.{◌≡◌, ◌<◌, ◌≤◌, ◌^◌, false, length, take, IfOk, OnErr};
+ghost use Rattle.std.specs.Io.KnownBytes.{Consumes, IsAtEnd};
+ghost use Rattle.basket_read.specs.Bytes.{TakesIn};
+
+use crate::fault::ReadFault;
+use crate::input::MAX_BYTES;
+use crate::read::BLOCK;
+use basket_stream::Source;
+use std::alloc::{AllocError, Global};
+
+/// Reads the bytes of an input, or a prefix that is longer than an input may be.
+pub fn take_in<S: Source>(alloc: Global, reader: &mut S) -> Result<Vec<u8>, ReadFault>
+    requires { S.has_failed reader.old ≡ false }
+    ensures { TakesIn (S.left reader.old) (S.has_failed reader.new) result }
+{
+    let mut bytes = Vec::new(alloc);
+    let count = fill(reader, &mut bytes, MAX_BYTES as usize + 1)?;
+    if reader.failed() {
+        return Err(ReadFault::Read);
+    }
+    bytes.truncate(count);
+    Ok(bytes)
+}
+
+/// Fills the buffer, which grows up to this many bytes, from its beginning, and returns how much of
+/// it: all unless the input ends or the reader fails.
+pub(crate) fn fill<S: Source>(
+    reader: &mut S,
+    buffer: &mut Vec<u8>,
+    most: usize,
+) -> Result<usize, AllocError>
+    requires fresh { S.has_failed reader.old ≡ false }
+    requires few { most ≤ 2 ^ 32 }
+    ensures within { IfOk result (λ count. count ≤ length buffer.new.items) }
+    ensures given { IfOk result (λ count. Consumes (S.left reader.old) (S.left reader.new) (take count buffer.new.items)) }
+    ensures ended { IfOk result (λ count. S.has_failed reader.new ≡ false → count < most → IsAtEnd (S.left reader.new)) }
+    ensures memory { OnErr result (S.has_failed reader.new ≡ false) }
+{
+    let mut filled = 0;
+    while filled < most {
+        if filled == buffer.len() {
+            buffer.resize(most.min(filled + BLOCK), 0)?;
+        }
+        match reader.read(&mut buffer[filled..]) {
+            Ok(0) | Err(_) => return Ok(filled),
+            Ok(count) => filled += count,
+        }
+    }
+    Ok(filled)
+}

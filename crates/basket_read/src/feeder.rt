@@ -1,0 +1,54 @@
+//! What takes more of a text.
+ghost use Rattle.std.specs.Prelude.{ℕ, List, ◌++◌, length, ⊤, MatchResult};
+ghost use Rattle.std.specs.Thread.{IsSync};
+ghost use Rattle.basket_sets.specs.declared.weighted.Weighted.{Weighted};
+ghost use Rattle.basket_read.specs.Fimi.{first_fault};
+ghost use Rattle.basket_read.specs.Text.{GoesOn, HasRoom, IsTextSoFar, Tells};
+
+use crate::fault::ReadFault;
+use crate::lines::{feed_part, feed_shared};
+use crate::text::Text;
+use std::mem;
+use std::thread::Threads;
+
+/// What takes more of a text.
+pub(crate) trait Feeder {
+    ghost is_ready: { Self → Type 0 };
+
+    /// Takes more of a text, up to its first fault, and may count its baskets.
+    fn feed(&self, text: &mut Text, piece: &[u8], counting: bool) -> Result<(), ReadFault>
+        requires ready { is_ready self.now }
+        requires room { HasRoom text.old (length piece.now) }
+        ensures { (past : List Weighted) (bytes : List ℕ) → IsTextSoFar text.old past bytes →
+            MatchResult result (λ _. GoesOn counting past (λ now. IsTextSoFar text.new now (bytes ++ piece.now))) (λ fault. Tells fault (first_fault (bytes ++ piece.now))) };
+}
+
+/// The thread that reads.
+#[derive(Drop)]
+pub(crate) struct Alone;
+
+impl Feeder for Alone {
+    ghost is_ready = { λ _. ⊤ };
+
+    fn feed(&self, text: &mut Text, piece: &[u8], counting: bool) -> Result<(), ReadFault> {
+        feed_part(text, piece, counting)
+    }
+}
+
+/// This many workers.
+#[derive(Drop)]
+pub(crate) struct Workers<'a, R> {
+    pub rt: &'a R,
+    pub count: u32,
+}
+
+impl<R: Threads + Sync> Feeder for Workers<'_, R> {
+    ghost is_ready = { λ _. IsSync R.row };
+
+    fn feed(&self, text: &mut Text, piece: &[u8], counting: bool) -> Result<(), ReadFault> {
+        let empty = Text::new(text.alloc(), 0);
+        let before = mem::replace(text, empty);
+        *text = feed_shared(self.rt, before, piece, self.count, counting)?;
+        Ok(())
+    }
+}
