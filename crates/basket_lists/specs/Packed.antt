@@ -17,7 +17,7 @@ pub record Coding : Type 0 where
 pub record IsCoding (coding : Coding) : Type 0 where
   pub rises : IsRising coding.items
   pub places : length coding.items ≤ 2 ^ coding.item_bits
-  pub bits : coding.item_bits < 64
+  pub bits : coding.item_bits ≤ 64
   pub counts : coding.count_bits ≤ 64
   pub room : coding.most * coding.item_bits + coding.count_bits ≤ 121
   pub sizes : coding.most < 64

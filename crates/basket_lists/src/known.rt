@@ -91,7 +91,7 @@ impl KnownItems {
     {
         let items = rising_items(alloc, items)?;
         let count_bits = bits_of(most);
-        let item_bits = bits_of(items.len().saturating_sub(1) as u64).min(63);
+        let item_bits = bits_of(items.len().saturating_sub(1) as u64);
         Ok(KnownItems {
             slots: ArcSlice::from_vec(slots_of(alloc, &items)?)?,
             items: ArcSlice::from_vec(items)?,
@@ -159,16 +159,6 @@ impl KnownItems {
         (packed.word >> SIZE_AT) as u32
     }
 
-    /// How many bits a place has. That they are fewer than 64 makes shifts short.
-    fn item_bits(&self) -> u32
-        ensures bits { result ≡ self.now.item_bits }
-        ensures few { result < 64 }
-    {
-        // Nothing is read here: it brings what holds of the bits.
-        let _ = &self.items;
-        self.item_bits % 64
-    }
-
     /// How many items a packed set has.
     pub fn size(&self, packed: &Packed) -> usize
         requires { IsPacked self.now packed.now }
@@ -209,13 +199,12 @@ impl KnownItems {
     {
         let items: &[u32] = &self.items;
         let size = self.code_size(packed) as usize;
-        let bits = self.item_bits();
         let mut rest = self.number(packed);
         let mut left = size;
         while left > 0 {
             left -= 1;
-            room[left] = items[low_bits(rest, bits) as usize];
-            rest >>= bits;
+            room[left] = items[low_bits(rest, self.item_bits) as usize];
+            rest >>= self.item_bits;
         }
         size
     }

@@ -74,18 +74,17 @@ impl KnownItems {
         requires { IsRising (digits self.now.item_bits size number) }
         ensures { IfSome result (IsBetween self.now.item_bits size number place) }
     {
-        let bits = self.item_bits();
         let mut rest = number;
         let mut above = 0;
         while above < size {
-            let last = low_bits(rest, bits);
+            let last = low_bits(rest, self.item_bits);
             if last == place {
                 return None;
             }
             if last < place {
                 return Some(above);
             }
-            rest >>= bits;
+            rest >>= self.item_bits;
             above += 1;
         }
         Some(above)

@@ -1,4 +1,5 @@
 use Rattle.std.proofs.Common.{◌≡◌, ◌*◌, ◌/◌, ◌%◌, ◌^◌, ap, ◌∙◌, arith}
+use Rattle.basket_lists.specs.Packed.{Coding}
 use Rattle.basket_lists.proofs.PlaceLemmas.{greater_more, is_between, next_rest}
 use Rattle.basket_lists.proofs.known.KnownItems.places_above.Goals as goal
 
@@ -7,14 +8,14 @@ returns-then-last-place-2 c =
     let bits = c.args.self.now.item_bits in
     let above = c.loop-above.above in
     let last : c.low_bits-last.result ≡ c.args.number / 2 ^ (above * bits) % 2 ^ bits =
-    c.low_bits-last.ensures ∙ ap (λ b. c.loop-above.rest % 2 ^ b) c.item_bits-bits.ensures.bits ∙ ap (λ n. n % 2 ^ bits) c.loop-above.invariant.rest in
+    c.low_bits-last.ensures ∙ ap (λ b. c.loop-above.rest % 2 ^ b) (ap (λ (k : Coding). k.item_bits) c.self.view_is) ∙ ap (λ n. n % 2 ^ bits) c.loop-above.invariant.rest in
     is_between bits c.args.size c.args.number c.args.place above c.loop-above-test.true c.requires (omega (arith, last, c.if-last-place-2.true)) c.loop-above.invariant.greater
 
 pub loop-above-preserved : goal.loop-above-preserved
 loop-above-preserved c =
     let bits = c.args.self.now.item_bits in
     let above = c.loop-above.above in
-    let same = c.item_bits-bits.ensures.bits in
+    let same = ap (λ (k : Coding). k.item_bits) c.self.view_is in
     let last : c.low_bits-last.result ≡ c.args.number / 2 ^ (above * bits) % 2 ^ bits =
     c.low_bits-last.ensures ∙ ap (λ b. c.loop-above.rest % 2 ^ b) same ∙ ap (λ n. n % 2 ^ bits) c.loop-above.invariant.rest in
     record {

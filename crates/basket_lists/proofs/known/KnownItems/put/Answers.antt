@@ -12,23 +12,23 @@ rest_at : (coding : Coding) (code size left rest : ℕ) → rest ≡ number_of c
 rest_at coding code size left rest is same = is ∙ ap (λ s. number_of coding code / 2 ^ ((s - left) * coding.item_bits)) same
 
 -- its lowest digit is the place of a known item
-known_place : (coding own : Coding) (packed : Packed) (size left rest bits digit : ℕ) (items : List ℕ) → IsCoding own → own ≡ coding → IsPacked coding packed
+known_place : (coding own : Coding) (packed : Packed) (size left rest digit : ℕ) (items : List ℕ) → IsCoding own → own ≡ coding → IsPacked coding packed
     → 0 < left → left ≤ size → size ≡ size_of coding (code_of coding packed) → rest ≡ number_of coding (code_of coding packed) / 2 ^ ((size - left) * coding.item_bits)
-    → bits ≡ coding.item_bits → digit ≡ rest % 2 ^ bits → items ≡ own.items → digit < length items
-known_place coding own packed size left rest bits digit items is same set some few sized at short low all =
+    → digit ≡ rest % 2 ^ own.item_bits → items ≡ own.items → digit < length items
+known_place coding own packed size left rest digit items is same set some few sized at low all =
     let known = digit_known coding (subst IsCoding same is) packed set left rest some (omega (arith, few, sized)) (rest_at coding (code_of coding packed) size left rest at sized) in
-    omega (arith, low, known, ap (λ b. rest % 2 ^ b) short, ap (λ (k : Coding). length k.items) same, ap length all)
+    omega (arith, low, known, ap (λ (k : Coding). rest % 2 ^ k.item_bits) same, ap (λ (k : Coding). length k.items) same, ap length all)
 
 pub offset_bounds-items-low_bits : goal.offset_bounds-items-low_bits
 offset_bounds-items-low_bits c =
-    let inside = known_place c.args.self.now _ c.args.packed.now c.code_size-size.result c.loop-left.left c.loop-left.rest c.item_bits-bits.result c.low_bits.result c.deref-items.result.now c.self.invariant c.self.view_is
-    c.requires c.loop-left-test.true c.loop-left.invariant.few c.code_size-size.ensures c.loop-left.invariant.rest c.item_bits-bits.ensures.bits c.low_bits.ensures c.deref-items.ensures.value in
+    let inside = known_place c.args.self.now _ c.args.packed.now c.code_size-size.result c.loop-left.left c.loop-left.rest c.low_bits.result c.deref-items.result.now c.self.invariant c.self.view_is c.requires
+    c.loop-left-test.true c.loop-left.invariant.few c.code_size-size.ensures c.loop-left.invariant.rest c.low_bits.ensures c.deref-items.ensures.value in
     search (rules, inside)
 
 pub bounds-items-low_bits : goal.bounds-items-low_bits
 bounds-items-low_bits c =
-    known_place c.args.self.now _ c.args.packed.now c.code_size-size.result c.loop-left.left c.loop-left.rest c.item_bits-bits.result c.low_bits.result c.deref-items.result.now c.self.invariant c.self.view_is c.requires
-    c.loop-left-test.true c.loop-left.invariant.few c.code_size-size.ensures c.loop-left.invariant.rest c.item_bits-bits.ensures.bits c.low_bits.ensures c.deref-items.ensures.value
+    known_place c.args.self.now _ c.args.packed.now c.code_size-size.result c.loop-left.left c.loop-left.rest c.low_bits.result c.deref-items.result.now c.self.invariant c.self.view_is c.requires
+    c.loop-left-test.true c.loop-left.invariant.few c.code_size-size.ensures c.loop-left.invariant.rest c.low_bits.ensures c.deref-items.ensures.value
 
 pub loop-left-preserved : goal.loop-left-preserved
 loop-left-preserved c =
@@ -40,7 +40,7 @@ loop-left-preserved c =
     let size = c.code_size-size.result in
     let few : left ≤ size_of coding code = omega (arith, c.loop-left.invariant.few, c.code_size-size.ensures) in
     let rest = rest_at coding code size left c.loop-left.rest c.loop-left.invariant.rest c.code_size-size.ensures in
-    let bits = c.item_bits-bits.ensures.bits in
+    let bits = ap (λ (k : Coding). k.item_bits) c.self.view_is in
     let digit : c.low_bits.result ≡ c.loop-left.rest % 2 ^ coding.item_bits = c.low_bits.ensures ∙ ap (λ b. c.loop-left.rest % 2 ^ b) bits in
     let known = digit_known coding is packed c.requires left c.loop-left.rest c.loop-left-test.true few rest in
     let all = c.deref-items.ensures.value ∙ ap (λ (k : Coding). k.items) c.self.view_is in
