@@ -79,9 +79,9 @@ impl WordBaskets {
             ≡ (if test (0 ∷ []) then with else 0) + (if test [] then without else 0)) }
     {
         let mut words = Vec::with_capacity(alloc, 2)?;
-        push_weighing(&mut words, bit_of(0), with)?;
         push_weighing(&mut words, 0, without)?;
-        WordBaskets::of(alloc, count, words)
+        push_weighing(&mut words, bit_of(0), with)?;
+        Ok(WordBaskets::of_ordered(count, words))
     }
 
     /// The coded baskets, which have no more ranks than a word has bits for.
@@ -112,6 +112,7 @@ impl WordBaskets {
     /// The words, in order.
     pub fn words(&self) -> &[Word]
         ensures baskets { word_places self.now.ranks result.now ≡ self.now.baskets }
+        ensures ranked { AreRankBaskets self.now }
         ensures few { self.now.ranks ≤ WORD_RANKS }
         ensures some { All (λ (word : Bits). 1 ≤ word.weight) result.now }
         ensures light { sum_by (λ (word : Bits). word.weight) result.now ≤ MOST_WEIGHT }

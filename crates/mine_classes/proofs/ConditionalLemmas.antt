@@ -12,7 +12,7 @@ use Rattle.basket_sets.proofs.theory.Rising.{has_each, contains_each}
 use Rattle.basket_sets.proofs.theory.Support.{support-append, support-cons}
 use Rattle.basket_sets.proofs.theory.Tests.{all_of, each_of}
 use Rattle.mine_classes.specs.Conditional.{is_kept, kept_place, ConditionalSupports}
-use Rattle.mine_baskets.proofs.theory.Weights.{cond_sum}
+use Rattle.mine_baskets.proofs.theory.Weights.{cond_sum, same_cond}
 
 -- ---- tests
 
@@ -24,10 +24,6 @@ same_tests false false f g = refl
 both : (a b : Bool) (weight : ℕ) → cond (a && b) weight 0 ≡ cond a (cond b weight 0) 0
 both true b weight = refl
 both false b weight = refl
-
-same_cond : (a : Bool) (n : ℕ) → cond a n n ≡ n
-same_cond true n = refl
-same_cond false n = refl
 
 and_last : (a b : Bool) → (a && (b && true)) ≡ (a && b)
 and_last true true = refl

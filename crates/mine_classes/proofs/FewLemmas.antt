@@ -8,12 +8,12 @@ use Rattle.basket_ranks.specs.Codes.{decoded, decoded_place}
 use Rattle.basket_sets.specs.declared.weighted.Weighted.{Weighted}
 use Rattle.basket_sets.specs.Database.{weighted}
 use Rattle.basket_sets.specs.Itemset.{IsRising, contains, has}
-use Rattle.basket_sets.specs.Support.{support_of, weight_at}
+use Rattle.basket_sets.specs.Support.{support_of}
 use Rattle.basket_sets.proofs.theory.Members.{Member, Member-filter}
 use Rattle.basket_sets.proofs.theory.Rising.{contains-refl, contains_each, first_below}
 use Rattle.basket_sets.proofs.theory.Support.{support-cons, support_falls}
 use Rattle.mine_baskets.specs.ListBaskets.{HaveSameWeights, weight_where}
-use Rattle.mine_baskets.proofs.theory.Weights.{changed_weight, cond_sum}
+use Rattle.mine_baskets.proofs.theory.Weights.{changed_weight, cond_sum, same_cond}
 use Rattle.mine_classes.specs.Conditional.{conditional, is_kept, kept_place}
 use Rattle.mine_classes.specs.Pairs.{first_support, kept_ranks, pairs_of}
 use Rattle.mine_classes.proofs.ConditionalLemmas.{conditional_supports}
@@ -43,51 +43,44 @@ module _ (keeps : ℕ → Bool) (x rank : ℕ) (only : (y : ℕ) → keeps y ≡
     pub weight : weight_where test baskets ≡ cond (test (x ∷ [])) (support_of baskets (x ∷ [])) 0 + cond (test []) rest 0
 
   pub weighs_few : (test : List ℕ → Bool) (baskets : List Weighted) → AllByRecursion (λ (place : Weighted). IsRising place.basket) baskets → WeighsFew test (places baskets)
-  weighs_few test [] up = record { rest = 0; all = refl; weight = sym (none (test (x ∷ [])) (test [])) }
-    where
-      none : (a b : Bool) → ◌≡◌ {A = ℕ} (cond a 0 0 + cond b 0 0) 0
-      none true true = refl
-      none true false = refl
-      none false true = refl
-      none false false = refl
+  weighs_few test [] up = record { rest = 0; all = refl; weight = omega (arith, same_cond (test (x ∷ [])) 0, same_cond (test []) 0) }
   weighs_few test (place ∷ baskets) up = at (has place.basket rank) (weighs_few test baskets up.1)
     where
-      more : (basket : List ℕ) → (basket ≡ x ∷ []) ⊎ (basket ≡ []) → WeighsFew test (places baskets) → WeighsFew test (weighted basket place.weight ∷ places baskets)
-      more basket (inl is) few =
+      -- its own weight, with the rank or without it
+      own_weight : (b : Bool) (basket : List ℕ) → basket ≡ cond b (x ∷ []) []
+          → cond (test basket) place.weight 0 ≡ cond (test (x ∷ [])) (cond b place.weight 0) 0 + cond (test []) (cond b 0 place.weight) 0
+      own_weight true basket is = let other = same_cond (test []) 0 in let own = ap (λ l. cond (test l) place.weight 0) is in omega (arith, other, own)
+      own_weight false basket is = let other = same_cond (test (x ∷ [])) 0 in let own = ap (λ l. cond (test l) place.weight 0) is in omega (arith, other, own)
+
+      contained : (b : Bool) (basket : List ℕ) → basket ≡ cond b (x ∷ []) [] → contains basket (x ∷ []) ≡ b
+      contained true basket is = ap (λ l. contains l (x ∷ [])) is ∙ contains-refl (x ∷ [])
+      contained false basket is = ap (λ l. contains l (x ∷ [])) is
+
+      parts : (b : Bool) (weight : ℕ) → cond b weight 0 + cond b 0 weight ≡ weight
+      parts true weight = omega arith
+      parts false weight = omega arith
+
+      more : (b : Bool) (basket : List ℕ) → basket ≡ cond b (x ∷ []) [] → WeighsFew test (places baskets) → WeighsFew test (weighted basket place.weight ∷ places baskets)
+      more b basket is few =
           let others = places baskets in
           let own = weighted basket place.weight in
           let with_one = support-cons own others (x ∷ []) in
           let with_none = support-cons own others [] in
-          let here : weight_at (x ∷ []) own ≡ place.weight = ap (λ b. cond b place.weight 0) (ap (λ l. contains l (x ∷ [])) is ∙ contains-refl (x ∷ [])) in
-          let sum = cond_sum (test (x ∷ [])) place.weight (support_of others (x ∷ [])) in
-          let together : place.weight + support_of others (x ∷ []) ≡ support_of (own ∷ others) (x ∷ []) = omega (arith, with_one, here) in
-          let first = ap (λ l. cond (test l) place.weight 0) is in
-          let whole = ap (λ n. cond (test (x ∷ [])) n 0) together in
+          let here = ap (λ c. cond c place.weight 0) (contained b basket is) in
+          let together : cond b place.weight 0 + support_of others (x ∷ []) ≡ support_of (own ∷ others) (x ∷ []) = omega (arith, with_one, here) in
+          let with = cond_sum (test (x ∷ [])) (cond b place.weight 0) (support_of others (x ∷ [])) ∙ ap (λ n. cond (test (x ∷ [])) n 0) together in
+          let without = cond_sum (test []) (cond b 0 place.weight) few.rest in
           let cons = sum_by-cons (λ (p : Weighted). cond (test p.basket) p.weight 0) own others in
+          let own_parts = own_weight b basket is in
+          let both = parts b place.weight in
           record {
-            rest = few.rest;
-            all = omega (arith, with_one, with_none, here, few.all);
-            weight = omega (arith, cons, first, few.weight, sum, whole);
-          }
-      more basket (inr is) few =
-          let others = places baskets in
-          let own = weighted basket place.weight in
-          let with_one = support-cons own others (x ∷ []) in
-          let with_none = support-cons own others [] in
-          let here : weight_at (x ∷ []) own ≡ 0 = ap (λ l. cond (contains l (x ∷ [])) place.weight 0) is in
-          let sum = cond_sum (test []) place.weight few.rest in
-          let together : support_of others (x ∷ []) ≡ support_of (own ∷ others) (x ∷ []) = omega (arith, with_one, here) in
-          let first = ap (λ l. cond (test l) place.weight 0) is in
-          let whole = ap (λ n. cond (test (x ∷ [])) n 0) together in
-          let cons = sum_by-cons (λ (p : Weighted). cond (test p.basket) p.weight 0) own others in
-          record {
-            rest = place.weight + few.rest;
-            all = omega (arith, with_one, with_none, here, few.all);
-            weight = omega (arith, cons, first, few.weight, sum, whole);
+            rest = cond b 0 place.weight + few.rest;
+            all = omega (arith, with_none, together, few.all, both);
+            weight = omega (arith, cons, own_parts, few.weight, with, without);
           }
 
       at : (h : Bool) → WeighsFew test (places baskets) → WeighsFew test (cond h (weighted (filter keeps place.basket) place.weight ∷ []) [] ++ places baskets)
-      at true few = more (filter keeps place.basket) (kept_to place.basket up.0) few
+      at true few = elim (kept_to place.basket up.0) [ inl is ↦ more true (filter keeps place.basket) is few | inr is ↦ more false (filter keeps place.basket) is few ]
       at false few = few
 
 module _ (baskets : List Weighted) (least rank : ℕ) where
@@ -114,19 +107,13 @@ module _ (baskets : List Weighted) (least rank : ℕ) where
       at [] = omega arith
       at (x ∷ ranks) = support_falls baskets (x ∷ rank ∷ []) (rank ∷ []) (contains_each (x ∷ rank ∷ []) (rank ∷ []) (λ z m. inr m))
 
-  no_weight : (a b : Bool) → ◌≡◌ {A = ℕ} (cond a 0 0) (cond b 0 0)
-  no_weight true true = refl
-  no_weight true false = refl
-  no_weight false true = refl
-  no_weight false false = refl
-
   pub few_weights : AllByRecursion (λ (place : Weighted). IsRising place.basket) baskets → (ranks : List ℕ) → kept ≡ ranks → length ranks ≤ 1 → (with without : ℕ) → with ≡ first_support (supports ranks) → with + without ≡ support_of baskets (rank ∷ [])
       → (others : List Weighted) → ((test : List ℕ → Bool) → weight_where test others ≡ cond (test (0 ∷ [])) with 0 + cond (test []) without 0)
       → HaveSameWeights (conditional least baskets rank) (map (decoded_place ranks) others)
   few_weights up [] are few with without is all others weigh test =
       weighs_so up rank with without (λ y keeps. absurd (subst (Member y) are (Member-kept baskets least rank y keeps)))
       (conditional_supports baskets least rank (rank ∷ []) ∙ not_own (is_kept baskets least rank rank) refl ∙ sym is) all test
-      ∙ ap (λ n. n + cond (test []) without 0) (ap (λ w. cond (test (rank ∷ [])) w 0) is ∙ no_weight (test (rank ∷ [])) (test (0 ∷ [])) ∙ sym (ap (λ w. cond (test (0 ∷ [])) w 0) is))
+      ∙ ap (λ n. n + cond (test []) without 0) (ap (λ w. cond (test (rank ∷ [])) w 0) is ∙ same_cond (test (rank ∷ [])) 0 ∙ sym (ap (λ w. cond (test (0 ∷ [])) w 0) is ∙ same_cond (test (0 ∷ [])) 0))
       ∙ sym (changed_weight test (decoded []) others ∙ weigh (λ basket. test (decoded [] basket)))
     where
       not_own : (b : Bool) → is_kept baskets least rank rank ≡ b → cond (b && true) (support_of baskets (rank ∷ rank ∷ [])) 0 ≡ 0

@@ -1,6 +1,8 @@
 //! The conditional database of a rank.
-ghost use Rattle.std.specs.Prelude.{◌≡◌, ◌≤◌, ◌<◌, IfOk, length, map};
-ghost use Rattle.mine_baskets.specs.ListBaskets.{AreRankBaskets, HaveSameWeights};
+ghost use Rattle.std.specs.Prelude.{◌≡◌, ◌≤◌, ◌<◌, ◌∷◌, [], ℕ, IfOk, length, map};
+ghost use Rattle.basket_sets.specs.Database.{MOST_WEIGHT};
+ghost use Rattle.basket_sets.specs.Support.{support_of};
+ghost use Rattle.mine_baskets.specs.ListBaskets.{AreRankBaskets, HaveSameWeights, RankBaskets};
 ghost use Rattle.mine_classes.specs.Conditional.{conditional_baskets};
 ghost use Rattle.mine_classes.specs.Pairs.{first_support, pairs_of};
 ghost use Rattle.mine_classes.specs.Paths.{IsConditional};
@@ -54,34 +56,32 @@ impl Runs {
     {
         let (ranks, paths) = self.of_rank(rank);
         if pairs.len() <= 1 {
-            let below = self.below_few(alloc, rank, least, pairs)?;
+            let below = below_few(alloc, self.support(rank), pairs)?;
             return Ok(Conditional::Words(below));
         }
         let kept = ranks_of(alloc, pairs)?;
         let below = places.coded(alloc, &kept, ranks, paths)?;
         Ok(below)
     }
+}
 
-    /// The conditional database of a rank with at most one pair. Its baskets have one rank or none, so
-    /// their weights are known and no path is looked at.
-    fn below_few(
-        &self,
-        alloc: Global,
-        rank: u32,
-        least: u64,
-        pairs: &[(u32, u64)],
-    ) -> Result<WordBaskets, AllocError>
-        requires rank { rank < self.now.ranks }
-        requires ranked { AreRankBaskets self.now }
-        requires pairs { pairs.now ≡ pairs_of self.now.baskets least rank }
-        requires few { length pairs.now ≤ 1 }
-        ensures { IfOk result (IsConditional self.now.baskets least rank) }
-    {
-        let with = first_support(pairs);
-        let without = self.support(rank) - with;
-        let below = WordBaskets::of_one_rank(alloc, pairs.len() as u32, with, without)?;
-        Ok(below)
-    }
+/// The conditional database of a rank with this support and at most one pair. Its baskets have one
+/// rank or none, so their weights are known and no path is looked at.
+pub fn below_few(
+    alloc: Global,
+    support: u64,
+    pairs: &[(u32, u64)],
+) -> Result<WordBaskets, AllocError>
+    requires few { length pairs.now ≤ 1 }
+    requires falls { first_support pairs.now ≤ support }
+    requires light { support ≤ MOST_WEIGHT }
+    ensures { (all : RankBaskets) (least rank : ℕ) → AreRankBaskets all → pairs.now ≡ pairs_of all.baskets least rank → support ≡ support_of all.baskets (rank ∷ [])
+        → IfOk result (IsConditional all.baskets least rank) }
+{
+    let with = first_support(pairs);
+    let without = support - with;
+    let below = WordBaskets::of_one_rank(alloc, pairs.len() as u32, with, without)?;
+    Ok(below)
 }
 
 /// The support of the first pair, or 0.

@@ -14,6 +14,10 @@ pub cond_sum : (a : Bool) (m n : ℕ) → cond a m 0 + cond a n 0 ≡ cond a (m 
 cond_sum true m n = refl
 cond_sum false m n = refl
 
+pub same_cond : (a : Bool) (n : ℕ) → cond a n n ≡ n
+same_cond true n = refl
+same_cond false n = refl
+
 pub changed_weight : (test : List ℕ → Bool) (f : List ℕ → List ℕ) (places : List Weighted)
     → weight_where test (map (λ (place : Weighted). weighted (f place.basket) place.weight) places) ≡ weight_where (λ basket. test (f basket)) places
 changed_weight test f [] = refl

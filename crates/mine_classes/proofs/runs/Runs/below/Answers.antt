@@ -1,13 +1,15 @@
-use Rattle.std.proofs.Common.{◌≡◌, ℕ, List, length, map, subst, sym, ap, ◌∙◌, arith}
+use Rattle.std.proofs.Common.{◌≡◌, ℕ, List, [], ◌∷◌, length, map, refl, subst, sym, ap, ◌∙◌, arith}
 use Rattle.basket_sets.specs.declared.weighted.Weighted.{Weighted}
 use Rattle.basket_sets.specs.Counts.{AllBelow}
 use Rattle.basket_sets.specs.Itemset.{IsRising}
+use Rattle.basket_sets.proofs.theory.Support.{support_falls}
 use Rattle.basket_ranks.specs.Codes.{coded_place}
 use Rattle.mine_classes.specs.Conditional.{conditional_baskets}
 use Rattle.mine_baskets.specs.ListBaskets.{HaveSameWeights}
-use Rattle.mine_classes.specs.Pairs.{kept_ranks, pairs_of}
+use Rattle.mine_classes.specs.Pairs.{first_support, kept_ranks, pairs_of}
 use Rattle.mine_baskets.specs.Span.{baskets_at}
 use Rattle.mine_classes.proofs.CodedLemmas.{conditional_weights}
+use Rattle.mine_classes.proofs.FewLemmas.{first_falls}
 use Rattle.mine_classes.proofs.SumLemmas.{runs_ranked}
 use Rattle.mine_classes.proofs.theory.Kept.{kept_below, kept_rises, pair_ranks}
 use Rattle.mine_classes.proofs.runs.Runs.below.Goals as goal
@@ -30,6 +32,19 @@ coded-requires-clause-below c =
 pub coded-requires-clause-ranked : goal.coded-requires-clause-ranked
 coded-requires-clause-ranked c =
     runs_ranked c.of_rank.result.0.now c.args.self.now.baskets c.args.rank c.of_rank.result.1.now c.of_rank.ensures.runs c.args.places.now (omega (arith, c.requires.rank, c.requires.places)) c.of_rank.ensures.ranked.light
+
+pub below_few-requires-clause-falls : goal.below_few-requires-clause-falls
+below_few-requires-clause-falls c =
+    let falls = first_falls c.args.self.now.baskets c.args.least c.args.rank in
+    omega (arith, falls, c.support.ensures, ap first_support c.requires.pairs)
+
+pub below_few-requires-clause-light : goal.below_few-requires-clause-light
+below_few-requires-clause-light c =
+    let all = support_falls c.args.self.now.baskets (c.args.rank ∷ []) [] refl in
+    omega (arith, all, c.support.ensures, c.of_rank.ensures.ranked.light)
+
+pub returns-then-pairs-le1-clause-below : goal.returns-then-pairs-le1-clause-below
+returns-then-pairs-le1-clause-below c = c.in_ok-below.ensures c.args.self.now c.args.least c.args.rank c.of_rank.ensures.ranked c.requires.pairs c.support.ensures
 
 pub returns-clause-below : goal.returns-clause-below
 returns-clause-below c =
