@@ -3,30 +3,14 @@ use Rattle.std.proofs.Common.{◌≡◌, ◌∙◌, ℕ, List, Option, Some, Non
 use Rattle.std.specs.Prelude.{IfErr, IfSome, IsErr}
 use Rattle.basket_sets.specs.declared.weighted.Weighted.{Weighted}
 use Rattle.basket_counts.specs.Counts.{counts_of}
-use Rattle.basket_counts.specs.Read.{Answers as CountsAnswers}
-use Rattle.basket_csv.specs.Csv.{Named}
-use Rattle.basket_csv.specs.Read.{Answers as CsvAnswers}
-use Rattle.basket_parts.specs.Merge.{Answers as TogetherAnswers}
+use Rattle.basket_read.specs.Fault.{Returns, ReturnsList}
 use Rattle.basket_parts.specs.CombinedCounts.{combined_of}
 use Rattle.basket_read.specs.declared.counted_line.CountedLine.{CountedLine}
 use Rattle.basket_read.specs.declared.fault.ReadFault.{ReadFault}
 use Rattle.basket_read.specs.declared.fault.ReadFault.TheVariants.{Read}
 use Rattle.basket_read.specs.Read.{FailsAfter}
-use Rattle.basket_read.specs.Text.{Answers as FimiAnswers}
 use Rattle.basket.specs.declared.contents.Contents.{Contents}
-use Rattle.basket.specs.Contents.{Answers, where_read}
-
-pub from_fimi : (left : Option (List ℕ)) (said : List ℕ → Result (List Weighted) ReadFault) (read : Result (List Weighted) ReadFault)
-    → IfSome left (λ bytes. FimiAnswers read (said bytes)) → IfSome left (λ bytes. Answers read (said bytes))
-from_fimi None said read h = tt
-from_fimi (Some bytes) said (Ok baskets) h = h
-from_fimi (Some bytes) said (Err fault) h = h
-
-pub from_csv : (left : Option (List ℕ)) (said : List ℕ → Result Named ReadFault) (read : Result Named ReadFault)
-    → IfSome left (λ bytes. CsvAnswers read (said bytes)) → IfSome left (λ bytes. Answers read (said bytes))
-from_csv None said read h = tt
-from_csv (Some bytes) said (Ok both) h = h
-from_csv (Some bytes) said (Err fault) h = h
+use Rattle.basket.specs.Contents.{where_read}
 
 -- ---- what follows of an answer
 
@@ -39,7 +23,7 @@ module _ {A : Type 0} (say : A → Contents) where
   said_with read = where_read (λ a. Ok (say a)) read
 
   pub says : (left : Option (List ℕ)) (said : List ℕ → Result A ReadFault) (read : Result A ReadFault)
-      → IfSome left (λ bytes. Answers read (said bytes)) → IfSome left (λ bytes. Answers (said_with read) (said_with (said bytes)))
+      → IfSome left (λ bytes. Returns read (said bytes)) → IfSome left (λ bytes. Returns (said_with read) (said_with (said bytes)))
   says None said read h = tt
   says (Some bytes) said (Ok a) h = ap said_with h
   says (Some bytes) said (Err fault) h = λ other. ap said_with (h other)
@@ -68,13 +52,13 @@ fimi_fails say left after (Err fault) h = h
 
 -- ---- counted sets
 
-pub counts_refused : (left : Option (List ℕ)) (fault : ReadFault) → IfSome left (λ bytes. CountsAnswers {X = CountedLine} {A = Global} (Err fault) (counts_of bytes))
-    → IfSome left (λ bytes. Answers (Err fault) (where_read combined_of (counts_of bytes)))
+pub counts_refused : (left : Option (List ℕ)) (fault : ReadFault) → IfSome left (λ bytes. ReturnsList {X = CountedLine} {A = Global} (Err fault) (counts_of bytes))
+    → IfSome left (λ bytes. Returns (Err fault) (where_read combined_of (counts_of bytes)))
 counts_refused None fault read = tt
 counts_refused (Some bytes) fault read = λ other. ap (where_read combined_of) (read other)
 
 pub counts_together : (left : Option (List ℕ)) (lines : List CountedLine) (answer : Result (List CountedLine) ReadFault) → IfSome left (λ bytes. counts_of bytes ≡ Ok lines)
-    → TogetherAnswers answer (combined_of lines) → IfSome left (λ bytes. Answers answer (where_read combined_of (counts_of bytes)))
+    → Returns answer (combined_of lines) → IfSome left (λ bytes. Returns answer (where_read combined_of (counts_of bytes)))
 counts_together None lines answer read then = tt
 counts_together (Some bytes) lines (Ok combined) read then = ap (where_read combined_of) read ∙ then
 counts_together (Some bytes) lines (Err fault) read then = λ other. ap (where_read combined_of) read ∙ then other

@@ -10,7 +10,8 @@ use Rattle.basket_sets.specs.declared.counted.Counted.{Counted}
 use Rattle.basket.specs.declared.fault.RunFault.{RunFault}
 use Rattle.basket.specs.declared.fault.RunFault.TheVariants.{Input, Sets, Uncounted, Mine, Write}
 use Rattle.basket.specs.declared.prepared.PreparedReport.{PreparedReport}
-use Rattle.basket.specs.Contents.{Answers, AskedAnswers, asked_in, contents_of}
+use Rattle.basket_read.specs.Fault.{Returns, ReturnsBoth}
+use Rattle.basket.specs.Contents.{asked_in, contents_of}
 use Rattle.basket.specs.Count.{AreReadable, AreReadableSets, IsCountsFault, MakesCounts, OfBoth, count_outcome, counted_in, counts_in, counts_over, first_uncounted, of_asked, of_contents, text_of_counts, unless_uncounted}
 use Rattle.basket.specs.Prepared.{prepared_text}
 use Rattle.mine_sets.specs.Asked.{asked_of}
@@ -59,7 +60,7 @@ counts_are_readable layout sets (contents.Baskets baskets names) = λ fault. (λ
 counts_are_readable layout sets (contents.Counts lines names) =
     text_is_readable layout names (counts_over lines sets) (first_uncounted lines 0 sets) (map (counted_in lines) sets) refl
 
-pub sets_refuse : (layout : Layout) (asked left : Option (List ℕ)) (fault : ReadFault) → IfSome asked (λ bytes. AskedAnswers {A = Global} (Err fault) (asked_in layout bytes))
+pub sets_refuse : (layout : Layout) (asked left : Option (List ℕ)) (fault : ReadFault) → IfSome asked (λ bytes. ReturnsBoth {A = Global} (Err fault) (asked_in layout bytes))
     → OfBoth asked left (λ sets bytes. fault ≢ Memory → count_outcome layout sets bytes ≡ Err (Sets fault))
 sets_refuse layout None left fault read = tt
 sets_refuse layout (Some sets) None fault read = tt
@@ -69,11 +70,11 @@ module _ (layout : Layout) (asked : Option (List ℕ)) (sets names : List (List 
   abbrev OfOutcome : Option (List ℕ) → Result (List ℕ) RunFault → Type 0
   OfOutcome left answer = OfBoth asked left (λ s bytes. count_outcome layout s bytes ≡ answer)
 
-  pub contents_refuse : (left : Option (List ℕ)) (fault : ReadFault) → IfSome left (λ bytes. Answers (Err fault) (contents_of layout names bytes))
+  pub contents_refuse : (left : Option (List ℕ)) (fault : ReadFault) → IfSome left (λ bytes. Returns (Err fault) (contents_of layout names bytes))
       → OfBoth asked left (λ s bytes. fault ≢ Memory → count_outcome layout s bytes ≡ Err (Input fault))
   contents_refuse left fault refused = go asked read left refused
     where
-      go : (asked : Option (List ℕ)) → IfSome asked (λ bytes. asked_in layout bytes ≡ Ok (sets, names)) → (left : Option (List ℕ)) → IfSome left (λ bytes. Answers (Err fault) (contents_of layout names bytes))
+      go : (asked : Option (List ℕ)) → IfSome asked (λ bytes. asked_in layout bytes ≡ Ok (sets, names)) → (left : Option (List ℕ)) → IfSome left (λ bytes. Returns (Err fault) (contents_of layout names bytes))
           → OfBoth asked left (λ s bytes. fault ≢ Memory → count_outcome layout s bytes ≡ Err (Input fault))
       go None read left refused = tt
       go (Some s) read None refused = tt
@@ -87,17 +88,17 @@ module _ (layout : Layout) (asked : Option (List ℕ)) (sets names : List (List 
       go (Some bytes) read = λ fault refused. is_read (sym read ∙ refused)
 
   -- what was counted is the outcome
-  outcome_is : (left : Option (List ℕ)) (contents : Contents) → IfSome left (λ bytes. Answers (Ok contents) (contents_of layout names bytes)) → OfOutcome left (counts_in layout (asked_of sets) contents)
+  outcome_is : (left : Option (List ℕ)) (contents : Contents) → IfSome left (λ bytes. Returns (Ok contents) (contents_of layout names bytes)) → OfOutcome left (counts_in layout (asked_of sets) contents)
   outcome_is left contents said = go asked read left said
     where
-      go : (asked : Option (List ℕ)) → IfSome asked (λ bytes. asked_in layout bytes ≡ Ok (sets, names)) → (left : Option (List ℕ)) → IfSome left (λ bytes. Answers (Ok contents) (contents_of layout names bytes))
+      go : (asked : Option (List ℕ)) → IfSome asked (λ bytes. asked_in layout bytes ≡ Ok (sets, names)) → (left : Option (List ℕ)) → IfSome left (λ bytes. Returns (Ok contents) (contents_of layout names bytes))
           → OfBoth asked left (λ s bytes. count_outcome layout s bytes ≡ counts_in layout (asked_of sets) contents)
       go None read left said = tt
       go (Some s) read None said = tt
       go (Some s) read (Some bytes) said = ap (of_asked layout bytes) read ∙ ap (of_contents layout (asked_of sets)) said
 
   module _ (asked_failed failed : Bool) (left after : Option (List ℕ)) (contents : Contents) (asked_works : asked_failed ≡ false) (works : failed ≡ false)
-      (said : IfSome left (λ bytes. Answers (Ok contents) (contents_of layout names bytes))) where
+      (said : IfSome left (λ bytes. Returns (Ok contents) (contents_of layout names bytes))) where
     told : (answer : Result (List ℕ) RunFault) → counts_in layout (asked_of sets) contents ≡ answer → OfOutcome left answer
     told answer is = subst (OfOutcome left) is (outcome_is left contents said)
 

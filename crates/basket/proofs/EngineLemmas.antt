@@ -6,7 +6,8 @@ use Rattle.std.specs.Io.KnownBytes.{Appends}
 use Rattle.basket_core.specs.declared.fault.MineFault.{MineFault}
 use Rattle.basket_read.specs.declared.fault.ReadFault.{ReadFault}
 use Rattle.basket_read.specs.declared.fault.ReadFault.TheVariants.{Read}
-use Rattle.basket.specs.Contents.{Answers, contents_of}
+use Rattle.basket_read.specs.Fault.{Returns}
+use Rattle.basket.specs.Contents.{contents_of}
 use Rattle.basket.specs.declared.contents.Contents.{Contents}
 use Rattle.basket.specs.declared.prepared.PreparedReport.{PreparedReport}
 use Rattle.basket.specs.Prepared.{prepared_text}
@@ -51,7 +52,7 @@ not_failed false x err = refl
 
 -- ---- the outcome for an input
 
-pub refuses_input : (left : Option (List ℕ)) (question : Question) (fault : ReadFault) → IfSome left (λ bytes. Answers (Err fault) (contents_of question.layout [] bytes)) → RefusesInput left question fault
+pub refuses_input : (left : Option (List ℕ)) (question : Question) (fault : ReadFault) → IfSome left (λ bytes. Returns (Err fault) (contents_of question.layout [] bytes)) → RefusesInput left question fault
 refuses_input None question fault read = tt
 refuses_input (Some bytes) question fault read = λ other. ap (λ a. outcome_of a question) (read other)
 
@@ -62,7 +63,7 @@ mined_is_readable (Err fault) = λ other is. cc
 
 -- what comes of contents that were read
 pub contents_make : (left after : Option (List ℕ)) (question : Question) (contents : Contents) (result : Result PreparedReport RunFault)
-    → IfSome left (λ bytes. Answers (Ok contents) (contents_of question.layout [] bytes))
+    → IfSome left (λ bytes. Returns (Ok contents) (contents_of question.layout [] bytes))
     → IfOk result (λ made. outcome_for contents question ≡ Ok (prepared_text made)) → IfErr result (IsContentsFault (outcome_for contents question))
     → MakesReport question left after false result
 contents_make None after question contents (Ok made) read is fault = (refl, tt)

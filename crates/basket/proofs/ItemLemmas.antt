@@ -3,7 +3,7 @@ use Rattle.std.proofs.Common.{◌≡◌, ℕ, ◌+◌, List, [], ◌++◌, Bool,
 use Rattle.std.specs.Prelude.{IfSome}
 use Rattle.basket_core.specs.declared.fault.MineFault.TheVariants.{Memory, TooMany}
 use Rattle.basket_csv.specs.Csv.{Named, baskets_of_csv}
-use Rattle.basket_csv.specs.Read.{AnswersItems}
+use Rattle.basket_csv.specs.Read.{CountsNamed}
 use Rattle.basket_plan.specs.declared.plan.Ask.TheVariants.{Items}
 use Rattle.basket_plan.specs.declared.layout.Form.TheVariants.{Baskets, Fimi}
 use Rattle.basket_plan.specs.declared.layout.Layout.{Layout}
@@ -66,14 +66,14 @@ abbrev pub csv_of : Question → List ℕ → Result Named ReadFault
 csv_of question bytes = baskets_of_csv question.layout.separator question.layout.header question.layout.weighted [] bytes
 
 pub csv_read : (left : Option (List ℕ)) (question : Question) (layout : Layout) (known : List (List ℕ)) (result : Result (ItemCounts × List (List ℕ)) ReadFault)
-    → layout ≡ question.layout → known ≡ [] → IfSome left (λ bytes. AnswersItems result (baskets_of_csv layout.separator layout.header layout.weighted known bytes))
-    → IfSome left (λ bytes. AnswersItems result (csv_of question bytes))
+    → layout ≡ question.layout → known ≡ [] → IfSome left (λ bytes. CountsNamed result (baskets_of_csv layout.separator layout.header layout.weighted known bytes))
+    → IfSome left (λ bytes. CountsNamed result (csv_of question bytes))
 csv_read left question layout known result same none h =
-    subst (λ (l : Layout). IfSome left (λ bytes. AnswersItems result (baskets_of_csv l.separator l.header l.weighted [] bytes))) same
-    (subst (λ names. IfSome left (λ bytes. AnswersItems result (baskets_of_csv layout.separator layout.header layout.weighted names bytes))) none h)
+    subst (λ (l : Layout). IfSome left (λ bytes. CountsNamed result (baskets_of_csv l.separator l.header l.weighted [] bytes))) same
+    (subst (λ names. IfSome left (λ bytes. CountsNamed result (baskets_of_csv layout.separator layout.header layout.weighted names bytes))) none h)
 
 pub csv_counted : (left : Option (List ℕ)) (question : Question) (counts : ItemCounts) (names : List (List ℕ)) → question.layout.form ≡ Baskets
-    → IfSome left (λ bytes. AnswersItems (Ok (counts, names)) (csv_of question bytes)) → IfSome left (IsCounted question counts (Some names))
+    → IfSome left (λ bytes. CountsNamed (Ok (counts, names)) (csv_of question bytes)) → IfSome left (IsCounted question counts (Some names))
 csv_counted None question counts names form read = tt
 csv_counted (Some bytes) question counts names form (baskets, is, counted) = (
   baskets,
@@ -86,7 +86,7 @@ items_refusal fault = Err fault
 
 -- the fault of CSV records is that of the input
 pub csv_refuses : (left after : Option (List ℕ)) (question : Question) (fault : ReadFault) (failed : Bool) → question.layout.form ≡ Baskets
-    → (failed ≡ false → IfSome left (λ bytes. AnswersItems (Err fault) (csv_of question bytes)))
+    → (failed ≡ false → IfSome left (λ bytes. CountsNamed (Err fault) (csv_of question bytes)))
     → (failed ≡ true → items_refusal fault ≡ Err Read) → (fault ≡ Read → failed ≡ true) → MakesReport question left after failed (Err (Input fault))
 csv_refuses left after question fault failed form exact fails read = (
   λ working. refused left (exact working),
@@ -94,7 +94,7 @@ csv_refuses left after question fault failed form exact fails read = (
   read,
 )
   where
-    refused : (left : Option (List ℕ)) → IfSome left (λ bytes. AnswersItems (Err fault) (csv_of question bytes)) → RefusesInput left question fault
+    refused : (left : Option (List ℕ)) → IfSome left (λ bytes. CountsNamed (Err fault) (csv_of question bytes)) → RefusesInput left question fault
     refused None h = tt
     refused (Some bytes) h = λ other. ap (λ f. outcome_of (contents_in f question.layout [] bytes) question) form ∙ ap (λ r. outcome_of (by_names contents.Baskets r) question) (h other)
 

@@ -1,5 +1,5 @@
 -- What an input says, by its layout, whatever is asked of it.
-use Rattle.std.specs.Prelude.{◌≡◌, ◌≢◌, ℕ, List, [], Vec, map, false, Option, Some, None, IfSome, Result, Ok, Err, if◌then◌else◌}
+use Rattle.std.specs.Prelude.{◌≡◌, ℕ, List, [], map, false, Option, Some, None, IfSome, Result, Ok, Err, if◌then◌else◌}
 use Rattle.basket_counts.specs.Counts.{counts_of, sets_of_bytes}
 use Rattle.basket_csv.specs.Counts.{named_counts_of}
 use Rattle.basket_csv.specs.Csv.{baskets_of_csv, pairs_of_csv}
@@ -10,7 +10,7 @@ use Rattle.basket_plan.specs.declared.layout.Layout.{Layout}
 use Rattle.basket_plan.specs.Plan.{has_names}
 use Rattle.basket_read.specs.declared.counted_line.CountedLine.{CountedLine}
 use Rattle.basket_read.specs.declared.fault.ReadFault.{ReadFault}
-use Rattle.basket_read.specs.declared.fault.ReadFault.TheVariants.{Memory, Read}
+use Rattle.basket_read.specs.declared.fault.ReadFault.TheVariants.{Read}
 use Rattle.basket_read.specs.Fimi.{fimi_of}
 use Rattle.basket_read.specs.Read.{FailsAfter}
 use Rattle.basket_report.specs.Style.{Wording, Numbered, Named as ByNames}
@@ -21,11 +21,6 @@ use Rattle.basket.specs.declared.contents.Contents.TheVariants as contents
 abbrev pub where_read : {A B : Type 0} → (A → Result B ReadFault) → Result A ReadFault → Result B ReadFault
 where_read next (Ok read) = next read
 where_read next (Err fault) = Err fault
-
--- except if memory is out, the result is the one that is defined
-abbrev pub Answers : {A : Type 0} → Result A ReadFault → Result A ReadFault → Type 0
-Answers (Ok read) answer = answer ≡ Ok read
-Answers (Err fault) answer = fault ≢ Memory → answer ≡ Err fault
 
 -- contents whose items are numbers, and whose items have names
 abbrev pub by_numbers : {A : Type 0} → (A → Option (List (List ℕ)) → Contents) → Result A ReadFault → Result Contents ReadFault
@@ -74,8 +69,3 @@ named_sets_of separator bytes = where_read sets_without_counts (named_counts_of 
 -- the sets that some bytes list, and the names of their items, of which numbers have none; or the fault of the bytes
 abbrev pub asked_in : Layout → List ℕ → Result (List (List ℕ) × List (List ℕ)) ReadFault
 asked_in layout bytes = if has_names layout.form then named_sets_of layout.separator bytes else with_names [] (sets_of_bytes bytes)
-
--- except if memory is out, the result is the one that is defined
-abbrev pub AskedAnswers : {A : Type 0} → Result (Vec (List ℕ) A × List (List ℕ)) ReadFault → Result (List (List ℕ) × List (List ℕ)) ReadFault → Type 0
-AskedAnswers (Ok both) answer = answer ≡ Ok (both.0.items, both.1)
-AskedAnswers (Err fault) answer = fault ≢ Memory → answer ≡ Err fault

@@ -1,6 +1,7 @@
 //! The sets that are asked for.
 ghost use Rattle.std.specs.Prelude.{◌≡◌, true, false, Err, IfOk, IfSome, map};
-ghost use Rattle.basket.specs.Contents.{AskedAnswers, asked_in, named_sets_of};
+ghost use Rattle.basket_read.specs.Fault.{ReturnsBoth};
+ghost use Rattle.basket.specs.Contents.{asked_in, named_sets_of};
 
 use basket_core::{Itemset, Source};
 use basket_counts::read_sets;
@@ -21,7 +22,7 @@ pub fn read_asked<R: RandomSource + Threads + Sync, S: Source>(
     reader: &mut S,
 ) -> Result<(Vec<Itemset>, Names), ReadFault>
     requires { S.has_failed reader.old ≡ false }
-    ensures exact { S.has_failed reader.new ≡ false → IfSome (S.left reader.old) (λ bytes. AskedAnswers result (asked_in layout bytes)) }
+    ensures exact { S.has_failed reader.new ≡ false → IfSome (S.left reader.old) (λ bytes. ReturnsBoth result (asked_in layout bytes)) }
     ensures failed { S.has_failed reader.new ≡ true → result ≡ Err ReadFault.Read }
     ensures read_is_failed { result ≡ Err ReadFault.Read → S.has_failed reader.new ≡ true }
 {
@@ -42,7 +43,7 @@ fn read_named_sets<R: RandomSource, S: Source>(
     reader: &mut S,
 ) -> Result<(Vec<Itemset>, Names), ReadFault>
     requires { S.has_failed reader.old ≡ false }
-    ensures exact { S.has_failed reader.new ≡ false → IfSome (S.left reader.old) (λ bytes. AskedAnswers result (named_sets_of separator bytes)) }
+    ensures exact { S.has_failed reader.new ≡ false → IfSome (S.left reader.old) (λ bytes. ReturnsBoth result (named_sets_of separator bytes)) }
     ensures failed { S.has_failed reader.new ≡ true → result ≡ Err ReadFault.Read }
     ensures read_is_failed { result ≡ Err ReadFault.Read → S.has_failed reader.new ≡ true }
 {

@@ -4,7 +4,8 @@ ghost use Rattle.basket_counts.specs.Counts.{counts_of};
 ghost use Rattle.basket_csv.specs.Counts.{named_counts_of};
 ghost use Rattle.basket_parts.specs.CombinedCounts.{combined_of};
 ghost use Rattle.basket.specs.declared.contents.Contents.TheVariants as contents;
-ghost use Rattle.basket.specs.Contents.{Answers, FailsIn, by_names, by_numbers, contents_of, named_combined_of, where_read, wording_with};
+ghost use Rattle.basket_read.specs.Fault.{Returns};
+ghost use Rattle.basket.specs.Contents.{FailsIn, by_names, by_numbers, contents_of, named_combined_of, where_read, wording_with};
 ghost use Rattle.basket_report.specs.Style.{wording_of};
 
 use basket_core::{Database, Source};
@@ -38,7 +39,7 @@ impl Contents {
         reader: &mut S,
     ) -> Result<Self, ReadFault>
         requires { S.has_failed reader.old ≡ false }
-        ensures exact { S.has_failed reader.new ≡ false → IfSome (S.left reader.old) (λ bytes. Answers result (contents_of layout known bytes)) }
+        ensures exact { S.has_failed reader.new ≡ false → IfSome (S.left reader.old) (λ bytes. Returns result (contents_of layout known bytes)) }
         ensures failed { S.has_failed reader.new ≡ true → IfErr result (FailsIn layout.form (S.left reader.old) (S.left reader.new)) }
         ensures failed_is_err { S.has_failed reader.new ≡ true → IsErr result }
         ensures read_is_failed { result ≡ Err ReadFault.Read → S.has_failed reader.new ≡ true }
@@ -82,7 +83,7 @@ fn read_combined<R: Threads + Sync, S: Source>(
     workers: u32,
 ) -> Result<CombinedCounts, ReadFault>
     requires { S.has_failed reader.old ≡ false }
-    ensures exact { S.has_failed reader.new ≡ false → IfSome (S.left reader.old) (λ bytes. Answers result (where_read combined_of (counts_of bytes))) }
+    ensures exact { S.has_failed reader.new ≡ false → IfSome (S.left reader.old) (λ bytes. Returns result (where_read combined_of (counts_of bytes))) }
     ensures failed { S.has_failed reader.new ≡ true → result ≡ Err ReadFault.Read }
     ensures read_is_failed { result ≡ Err ReadFault.Read → S.has_failed reader.new ≡ true }
 {
@@ -101,7 +102,7 @@ fn read_named_combined<R: RandomSource, S: Source>(
     known: Names,
 ) -> Result<(CombinedCounts, Names), ReadFault>
     requires { S.has_failed reader.old ≡ false }
-    ensures exact { S.has_failed reader.new ≡ false → IfSome (S.left reader.old) (λ bytes. Answers result (where_read named_combined_of (named_counts_of dialect.separator dialect.header known bytes))) }
+    ensures exact { S.has_failed reader.new ≡ false → IfSome (S.left reader.old) (λ bytes. Returns result (where_read named_combined_of (named_counts_of dialect.separator dialect.header known bytes))) }
     ensures failed { S.has_failed reader.new ≡ true → result ≡ Err ReadFault.Read }
     ensures read_is_failed { result ≡ Err ReadFault.Read → S.has_failed reader.new ≡ true }
 {

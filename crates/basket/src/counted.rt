@@ -1,7 +1,7 @@
 //! Sets with their counts for a plan.
 ghost use Rattle.std.specs.Prelude.{◌≡◌, ◌≢◌, ◌==◌, Ok, Err, IfOk, filter, length};
 ghost use Rattle.basket_core.specs.declared.fault.MineFault.{MineFault as MiningFault};
-ghost use Rattle.basket.specs.Contents.{Answers};
+ghost use Rattle.basket_read.specs.Fault.{Returns};
 ghost use Rattle.basket.specs.Counted.{IsWhole, gap_in, listing_in, needs_subsets, needs_total};
 ghost use Rattle.basket.specs.Prepared.{prepared_text};
 ghost use Rattle.basket.specs.Outcome.{report_of_listing};
@@ -20,7 +20,7 @@ use std::thread::Threads;
 
 /// The sets that meet the minimum among merged counted sets, if all is there that matters.
 pub fn listing(alloc: Global, plan: &Plan, combined: &CombinedCounts) -> Result<Frequent, ReadFault>
-    ensures exact { Answers result (listing_in plan.now.question combined.now) }
+    ensures exact { Returns result (listing_in plan.now.question combined.now) }
     ensures not_read { result ≢ Err ReadFault.Read }
     ensures whole { IfOk result (IsWhole plan.now.question.ask) }
 {

@@ -1,19 +1,17 @@
 -- What a list of some bytes says.
-use Rattle.std.proofs.Common.{◌≡◌, ◌≢◌, ℕ, ◌<◌, ◌≤◌, Bool, true, false, cond, ltb, List, [], ◌∷◌, ◌++◌, length, take, Option, Some, None, Result, Ok, Err, refl, sym, ap, ◌∙◌, subst, append-nil, inl, inr, arith}
-use Rattle.std.specs.Prelude.{IfSome}
+use Rattle.std.proofs.Common.{◌≡◌, ◌≢◌, ℕ, ◌<◌, ◌≤◌, Bool, true, false, cond, ltb, List, [], ◌∷◌, ◌++◌, length, take, Option, Some, None, Result, Ok, Err, refl, sym, ap, ◌∙◌, subst, inl, inr, arith}
 use Rattle.std.proofs.lemmas.Bool.{cases_lt, lt-ltb, le-ltb}
 use Rattle.std.proofs.lemmas.List.{length-append, take_all, take-append-le}
 use Rattle.basket_sets.specs.Number.{is_digit}
 use Rattle.basket_read.specs.declared.fault.ReadFault.{ReadFault}
-use Rattle.basket_read.specs.declared.fault.ReadFault.TheVariants.{Memory, Read, TooLong, Byte}
+use Rattle.basket_read.specs.declared.fault.ReadFault.TheVariants.{Read, TooLong, Byte}
 use Rattle.basket_read.specs.Cut.{cut_at}
 use Rattle.basket_read.specs.Fimi.{is_line_feed, line_after, or_else, text_of, MOST_BYTES}
-use Rattle.basket_read.specs.Text.{Tells}
-use Rattle.basket_read.specs.Bytes.{AreTakenOf}
+use Rattle.basket_read.specs.Fault.{ReturnsFault}
 use Rattle.basket_counts.specs.declared.listed_sets.ListedSets.{ListedSets}
 use Rattle.basket_counts.specs.Read.{Says}
 use Rattle.basket_read.proofs.theory.Grammar as grammar
-use Rattle.basket_counts.specs.Counts.{is_open, is_close, is_line, fault_at, count_fault, digit_fault, first_fault, fault_in, entries_of, sets_said, sets_of_bytes, counts_said, counts_of}
+use Rattle.basket_counts.specs.Counts.{is_open, is_close, is_line, fault_at, count_fault, digit_fault, first_fault, fault_in, entries_of}
 
 -- no text has the fault of a reader
 pub not_found : (text : List ℕ) → first_fault text ≢ Some Read
@@ -36,7 +34,7 @@ front bytes most few all = elim (cases_lt most (length bytes)) [
 ]
 
 -- a fault of as many bytes as an input may have is that of all
-pub faulty : (bytes text : List ℕ) (fault : ReadFault) → text ≡ text_of (take MOST_BYTES bytes) → Tells fault (first_fault text) → Tells fault (fault_in bytes)
+pub faulty : (bytes text : List ℕ) (fault : ReadFault) → text ≡ text_of (take MOST_BYTES bytes) → ReturnsFault fault (first_fault text) → ReturnsFault fault (fault_in bytes)
 faulty bytes text fault is told no_memory =
     ap (λ f. or_else f (cond (ltb MOST_BYTES (length bytes)) (Some TooLong) None)) (ap first_fault (sym is) ∙ told no_memory)
 
@@ -54,14 +52,11 @@ too_long bytes text is more none =
     λ i. or_else ((ap first_fault (sym is) ∙ none) i) (cond (lt-ltb MOST_BYTES (length bytes) more i) (Some TooLong) None)
 
 -- too many bytes say what all say, since they have a fault
-pub of_all : (result : Result ListedSets ReadFault) (bytes all : List ℕ) → AreTakenOf bytes all → Says result bytes → Says result all
-of_all result bytes all (rest, e, whole) says = elim (cases_lt MOST_BYTES (length bytes)) [
-  | inl more ↦ subst (Says result) (sym e) (at result more says)
-  | inr few ↦ subst (Says result) (sym (e ∙ ap (λ l. bytes ++ l) (whole few) ∙ append-nil bytes)) says
-]
+pub longer : (result : Result ListedSets ReadFault) (bytes rest : List ℕ) → MOST_BYTES < length bytes → Says result bytes → Says result (bytes ++ rest)
+longer result bytes rest more says = at result says
   where
-    same : MOST_BYTES < length bytes → fault_in (bytes ++ rest) ≡ fault_in bytes
-    same more =
+    same : fault_in (bytes ++ rest) ≡ fault_in bytes
+    same =
         let sum = length-append bytes rest in
         λ i. or_else (first_fault (text_of (take-append-le MOST_BYTES bytes rest (omega arith) i)))
         (cond ((lt-ltb MOST_BYTES (length (bytes ++ rest)) (omega arith) ∙ sym (lt-ltb MOST_BYTES (length bytes) more)) i) (Some TooLong) None)
@@ -70,21 +65,8 @@ of_all result bytes all (rest, e, whole) says = elim (cases_lt MOST_BYTES (lengt
     faulted (Some fault) e = absurd cc
     faulted None e = absurd cc
 
-    at : (result : Result ListedSets ReadFault) → MOST_BYTES < length bytes → Says result bytes → Says result (bytes ++ rest)
-    at (Err fault) more told = λ no_memory. same more ∙ told no_memory
-    at (Ok listed) more (none, has) =
+    at : (result : Result ListedSets ReadFault) → Says result bytes → Says result (bytes ++ rest)
+    at (Err fault) told = λ no_memory. same ∙ told no_memory
+    at (Ok listed) (none, has) =
         let found = first_fault (text_of (take MOST_BYTES bytes)) in
         absurd (faulted found (ap (λ b. or_else found (cond b (Some TooLong) None)) (sym (lt-ltb MOST_BYTES (length bytes) more)) ∙ none))
-
--- a fault of the bytes is the answer
-pub fault_told : (left : Option (List ℕ)) (fault : ReadFault) → IfSome left (λ bytes. Tells fault (fault_in bytes))
-    → IfSome left (λ bytes. (fault ≢ Memory → sets_of_bytes bytes ≡ Err fault) × (fault ≢ Memory → counts_of bytes ≡ Err fault))
-fault_told None fault told = tt
-fault_told (Some bytes) fault told = (
-  λ no_memory. ap (λ f. sets_said f (entries_of (text_of bytes))) (told no_memory),
-  λ no_memory. ap (λ f. counts_said f (entries_of (text_of bytes))) (told no_memory),
-)
-
-pub of_known : (left : Option (List ℕ)) (P Q : List ℕ → Type 0) → ((bytes : List ℕ) → P bytes → Q bytes) → IfSome left P → IfSome left Q
-of_known None P Q step h = tt
-of_known (Some bytes) P Q step h = step bytes h

@@ -9,7 +9,7 @@ use Rattle.basket_read.specs.declared.fault.ReadFault.{ReadFault}
 use Rattle.basket_read.specs.declared.fault.ReadFault.TheVariants.{Byte}
 use Rattle.basket_read.specs.Cut.{Cut, cut_at}
 use Rattle.basket_read.specs.Fimi.{is_line_feed}
-use Rattle.basket_read.specs.Text.{Tells}
+use Rattle.basket_read.specs.Fault.{ReturnsFault}
 use Rattle.basket_counts.specs.declared.listed_sets.ListedSets.{ListedSets}
 use Rattle.basket_counts.specs.declared.line.SetLine.{SetLine}
 use Rattle.basket_counts.specs.declared.text.SetText.{SetText}
@@ -117,7 +117,7 @@ pub up_to : (bytes : List ℕ) (i : ℕ) → i < length bytes → take i bytes +
 up_to bytes i below = sym (take_more bytes i 0 below)
 
 -- a fault at a byte is that of all bytes
-pub fault_of_all : (number : ℕ) (bytes : List ℕ) (i : ℕ) (fault : ReadFault) → i < length bytes → Tells fault (fault_from number (take i bytes ++ get_or bytes i 0 ∷ [])) → Tells fault (fault_from number bytes)
+pub fault_of_all : (number : ℕ) (bytes : List ℕ) (i : ℕ) (fault : ReadFault) → i < length bytes → ReturnsFault fault (fault_from number (take i bytes ++ get_or bytes i 0 ∷ [])) → ReturnsFault fault (fault_from number bytes)
 fault_of_all number bytes i fault below told no_memory =
     ap (fault_from number) (sym (take-append-drop (i + 1) bytes))
     ∙ grammar.first_fault_stays is_line (fault_at_from number) refl (take (i + 1) bytes) (drop (i + 1) bytes) fault (ap (fault_from number) (sym (up_to bytes i below)) ∙ told no_memory)

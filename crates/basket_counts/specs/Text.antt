@@ -3,7 +3,7 @@ use Rattle.std.specs.Prelude.{◌≡◌, ℕ, ◌+◌, List, length, None, Resul
 use Rattle.basket_read.specs.declared.fault.ReadFault.{ReadFault}
 use Rattle.basket_read.specs.Cut.{cut_at, parts_of}
 use Rattle.basket_read.specs.Fimi.{is_line_feed}
-use Rattle.basket_read.specs.Text.{Tells}
+use Rattle.basket_read.specs.Fault.{ReturnsFault}
 use Rattle.basket_counts.specs.declared.listed_sets.ListedSets.{ListedSets}
 use Rattle.basket_counts.specs.declared.text.SetText.{SetText}
 use Rattle.basket_counts.specs.Counts.{fault_from, entries_from}
@@ -21,4 +21,4 @@ pub record IsTextSoFar (text : SetText) (line : ℕ) (bytes : List ℕ) : Type 0
 abbrev pub SaysFrom : ℕ → List ℕ → Result ListedSets ReadFault → Type 0
 SaysFrom line text result = MatchResult result
     (λ listed. (fault_from line text ≡ None) × HasEntries listed (entries_from line (parts_of is_line_feed text)))
-    (λ fault. Tells fault (fault_from line text))
+    (λ fault. ReturnsFault fault (fault_from line text))

@@ -3,7 +3,7 @@ ghost use Rattle.std.specs.Prelude.{◌≡◌, ◌≢◌, List, [], ◌∷◌, �
 ghost use Rattle.basket_read.specs.declared.fault.ReadFault.TheVariants.{Read};
 ghost use Rattle.basket_counts.specs.Counts.{ListedSet, sets_among, counts_among};
 ghost use Rattle.basket_counts.specs.ListedSets.{HasEntries, uncounted_at};
-ghost use Rattle.basket_counts.specs.Read.{Answers};
+ghost use Rattle.basket_read.specs.Fault.{ReturnsList};
 
 use basket_read::{CountedLine, ReadFault};
 use basket_sets::Itemset;
@@ -72,7 +72,7 @@ impl ListedSets {
 
     /// The sets.
     pub fn sets(self, alloc: Global) -> Result<Vec<Itemset>, ReadFault>
-        ensures answers { (entries : List ListedSet) → HasEntries self entries → Answers result (Ok (sets_among entries)) }
+        ensures answers { (entries : List ListedSet) → HasEntries self entries → ReturnsList result (Ok (sets_among entries)) }
         ensures not_read { result ≢ Err Read }
     {
         let ListedSets { lines, .. } = self;
@@ -81,7 +81,7 @@ impl ListedSets {
 
     /// The sets with their counts, or the first that has none.
     pub fn counts(self) -> Result<Vec<CountedLine>, ReadFault>
-        ensures answers { (entries : List ListedSet) → HasEntries self entries → Answers result (counts_among entries) }
+        ensures answers { (entries : List ListedSet) → HasEntries self entries → ReturnsList result (counts_among entries) }
         ensures not_read { result ≢ Err Read }
     {
         let ListedSets { lines, uncounted } = self;

@@ -1,23 +1,17 @@
 //! Reading a list of counted sets.
 ghost use Rattle.std.specs.Prelude.{◌≡◌, ◌≢◌, true, false, IfSome, Err};
 ghost use Rattle.basket_read.specs.declared.fault.ReadFault.TheVariants.{Read};
-ghost use Rattle.basket_read.specs.Fimi.{text_of};
 ghost use Rattle.basket_counts.specs.Counts.{sets_of_bytes, counts_of};
-ghost use Rattle.basket_counts.specs.Read.{Says, Answers};
+ghost use Rattle.basket_read.specs.Fault.{ReturnsList};
+ghost use Rattle.basket_counts.specs.Read.{Says};
 
 use crate::halves::listed_shared;
 use crate::listed_sets::ListedSets;
-use basket_read::{CountedLine, ReadFault, take_in};
+use basket_read::{CountedLine, MAX_BYTES, ReadFault, take_in, text_of};
 use basket_sets::Itemset;
 use basket_stream::Source;
 use std::alloc::Global;
 use std::thread::Threads;
-
-/// The greatest number of bytes of an input.
-const MAX_BYTES: usize = 4_294_967_295;
-
-/// The byte order mark.
-const MARK: [u8; 3] = [0xEF, 0xBB, 0xBF];
 
 /// Reads a list of sets to its end, one set a line, by this many workers, and returns the sets in
 /// its order. Their counts may be there or not, and are ignored.
@@ -29,7 +23,7 @@ pub fn read_sets<R: Threads + Sync, S: Source>(
 ) -> Result<Vec<Itemset>, ReadFault>
     requires { S.has_failed reader.old ≡ false }
     // If the reader doesn't fail, the result is that of all its bytes.
-    ensures exact { S.has_failed reader.new ≡ false → IfSome (S.left reader.old) (λ bytes. Answers result (sets_of_bytes bytes)) }
+    ensures exact { S.has_failed reader.new ≡ false → IfSome (S.left reader.old) (λ bytes. ReturnsList result (sets_of_bytes bytes)) }
     // If it fails, the result is `Read`, and only then.
     ensures failed { S.has_failed reader.new ≡ true → result ≡ Err Read }
     ensures read_is_failed { result ≡ Err Read → S.has_failed reader.new ≡ true }
@@ -48,7 +42,7 @@ pub fn read_counts<R: Threads + Sync, S: Source>(
 ) -> Result<Vec<CountedLine>, ReadFault>
     requires { S.has_failed reader.old ≡ false }
     // If the reader doesn't fail, the result is that of all its bytes.
-    ensures exact { S.has_failed reader.new ≡ false → IfSome (S.left reader.old) (λ bytes. Answers result (counts_of bytes)) }
+    ensures exact { S.has_failed reader.new ≡ false → IfSome (S.left reader.old) (λ bytes. ReturnsList result (counts_of bytes)) }
     // If it fails, the result is `Read`, and only then.
     ensures failed { S.has_failed reader.new ≡ true → result ≡ Err Read }
     ensures read_is_failed { result ≡ Err Read → S.has_failed reader.new ≡ true }
@@ -89,14 +83,4 @@ fn listed_of<R: Threads + Sync>(
         return Err(ReadFault::TooLong);
     }
     Ok(listed)
-}
-
-/// The text of the bytes: what follows the mark if they begin with it.
-fn text_of(bytes: &[u8]) -> &[u8]
-    ensures { result.now ≡ text_of bytes.now }
-{
-    match bytes.strip_prefix(&MARK) {
-        Some(text) => text,
-        None => bytes,
-    }
 }

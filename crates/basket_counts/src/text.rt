@@ -2,7 +2,7 @@
 ghost use Rattle.std.specs.Prelude.{◌≡◌, ◌≢◌, ◌<◌, ◌≤◌, ◌+◌, ℕ, List, [], ◌∷◌, ◌++◌, length, None, OnOk, MatchResult, if◌then◌else◌};
 ghost use Rattle.basket_sets.specs.Number.{is_digit};
 ghost use Rattle.basket_read.specs.Fimi.{MOST_BYTES};
-ghost use Rattle.basket_read.specs.Text.{Tells};
+ghost use Rattle.basket_read.specs.Fault.{ReturnsFault};
 ghost use Rattle.basket_counts.specs.Counts.{ListedSet, fault_from};
 ghost use Rattle.basket_counts.specs.Line.{line_state, line_at, said_at, digit_fault_in};
 ghost use Rattle.basket_counts.specs.ListedSets.{HasEntries};
@@ -42,7 +42,7 @@ impl SetText {
     fn take(&mut self, byte: u8) -> Result<(), ReadFault>
         requires { self.old.ended < MOST_BYTES }
         ensures { (line : ℕ) (bytes : List ℕ) → IsTextSoFar self.old line bytes →
-            MatchResult result (λ _. IsTextSoFar self.new line (bytes ++ byte ∷ [])) (λ fault. Tells fault (fault_from line (bytes ++ byte ∷ []))) }
+            MatchResult result (λ _. IsTextSoFar self.new line (bytes ++ byte ∷ [])) (λ fault. ReturnsFault fault (fault_from line (bytes ++ byte ∷ []))) }
     {
         if byte == b'\n' {
             self.end_line()?;

@@ -11,7 +11,7 @@ use Rattle.basket_read.specs.declared.fault.ReadFault.{ReadFault}
 use Rattle.basket_read.specs.declared.fault.ReadFault.TheVariants.{Memory, NotText}
 use mir.Val.{bool_byte}
 use Rattle.basket_read.specs.Fimi.{basket_of_numbers}
-use Rattle.basket_read.specs.Text.{Tells}
+use Rattle.basket_read.specs.Fault.{ReturnsFault}
 use Rattle.basket_csv.specs.declared.baskets.Baskets.{Baskets}
 use Rattle.basket_csv.specs.Baskets.{HasRead}
 use Rattle.basket_csv.specs.RecordCollector.{Start}
@@ -57,7 +57,7 @@ baskets_more weighted known rows row =
 
 -- what a record that was added or refused says of its fault
 abbrev pub FaultIs : {X : Type 0} → Result X ReadFault → Bool → ℕ → List (List ℕ) → Type 0
-FaultIs r weighted nth row = MatchResult r (λ _. basket_fault weighted nth row ≡ None) (λ fault. Tells fault (basket_fault weighted nth row))
+FaultIs r weighted nth row = MatchResult r (λ _. basket_fault weighted nth row ≡ None) (λ fault. ReturnsFault fault (basket_fault weighted nth row))
 
 -- how many fields come before the names, as a number in the code
 pub before_names : (weighted : Bool) (first : ℕ) → first ≡ bool_byte weighted → first ≡ fields_before weighted

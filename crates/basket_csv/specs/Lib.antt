@@ -5,7 +5,6 @@ pub mod Recent
 pub mod Records
 pub mod Csv
 pub mod Row
-pub mod Input
 pub mod GatheredBaskets
 pub mod RecordCollector
 pub mod Baskets

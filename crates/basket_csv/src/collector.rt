@@ -4,16 +4,15 @@ ghost use Rattle.csv.specs.Records.{fields_of};
 ghost use Rattle.basket_read.specs.declared.fault.ReadFault.{ReadFault};
 ghost use Rattle.basket_read.specs.declared.fault.ReadFault.TheVariants.{Read};
 ghost use Rattle.basket_read.specs.Fimi.{MOST_BYTES};
-ghost use Rattle.basket_read.specs.Text.{Tells};
+ghost use Rattle.basket_read.specs.Fault.{ReturnsBy, ReturnsFault};
 ghost use Rattle.basket_csv.specs.RecordCollector.{Start};
-ghost use Rattle.basket_csv.specs.Csv.{fault_from, after_header, first_number, records_say};
-ghost use Rattle.basket_csv.specs.Read.{AnswersBy};
+ghost use Rattle.basket_csv.specs.Csv.{fault_from, after_header, bytes_say, first_number};
 ghost use Rattle.basket_csv.specs.Records.{MOST_RECORDS, records_of, records_left, records_taken, IsReading};
 
 use crate::dialect::Dialect;
 use crate::names::Names;
 use crate::records::Records;
-use basket_read::ReadFault;
+use basket_read::{MAX_BYTES, ReadFault};
 use csv::ByteRecord;
 use std::alloc::Global;
 
@@ -43,7 +42,7 @@ pub trait RecordCollector {
         requires few { nth ≤ MOST_RECORDS }
         requires read { (start : Start) × (rows : List (List (List ℕ))) × (start.first + length rows ≡ nth) × has_read self.old start rows }
         ensures fault { (start : Start) (rows : List (List (List ℕ))) → has_read self.old start rows →
-            MatchResult result (λ _. fault_of start nth (fields_of row.now) ≡ None) (λ fault. Tells fault (fault_of start nth (fields_of row.now))) }
+            MatchResult result (λ _. fault_of start nth (fields_of row.now) ≡ None) (λ fault. ReturnsFault fault (fault_of start nth (fields_of row.now))) }
         ensures read { (start : Start) (rows : List (List (List ℕ))) → start.first + length rows ≡ nth → has_read self.old start rows →
             OnOk result (has_read self.new start (rows ++ fields_of row.now ∷ [])) }
         ensures not_read { IfErr result (λ fault. fault ≢ Read) };
@@ -51,23 +50,25 @@ pub trait RecordCollector {
     /// What the records say, none of which has a fault.
     fn finish(self) -> Result<(Self::Found, Names), ReadFault>
         requires { (start : Start) × (rows : List (List (List ℕ))) × (length rows ≤ MOST_RECORDS) × has_read self start rows }
-        ensures said { (start : Start) (rows : List (List (List ℕ))) → has_read self start rows → AnswersBy (finds start) result (said_of start rows) }
+        ensures said { (start : Start) (rows : List (List (List ℕ))) → has_read self start rows → ReturnsBy (finds start) result (said_of start rows) }
         ensures not_read { IfErr result (λ fault. fault ≢ Read) };
 }
 
-/// What the records of the bytes say, except the header.
+/// What the bytes of an input say: their records, except the header, unless they are too many.
 pub fn say<C: RecordCollector + Drop>(
     alloc: Global,
     bytes: &[u8],
     dialect: Dialect,
     mut collector: C,
 ) -> Result<(C::Found, Names), ReadFault>
-    requires short { length bytes.now ≤ MOST_BYTES }
-    requires read { (start : Start) × (start.first ≡ first_number dialect.header) × C.has_read collector start [] }
+    requires { (start : Start) × (start.first ≡ first_number dialect.header) × C.has_read collector start [] }
     ensures said { (start : Start) → start.first ≡ first_number dialect.header → C.has_read collector start [] →
-        AnswersBy (C.finds start) result (records_say dialect.separator dialect.header (C.fault_of start) (C.said_of start) bytes.now) }
+        ReturnsBy (C.finds start) result (bytes_say dialect.separator dialect.header (C.fault_of start) (C.said_of start) bytes.now) }
     ensures not_read { IfErr result (λ fault. fault ≢ Read) }
 {
+    if bytes.len() > MAX_BYTES {
+        return Err(ReadFault::TooLong);
+    }
     add_all(alloc, bytes, dialect, &mut collector)?;
     collector.finish()
 }
@@ -83,7 +84,7 @@ fn add_all<C: RecordCollector>(
     requires read { (start : Start) × (start.first ≡ first_number dialect.header) × C.has_read collector.old start [] }
     ensures fault { (start : Start) → start.first ≡ first_number dialect.header → C.has_read collector.old start [] →
         let found = fault_from (C.fault_of start) (first_number dialect.header) (after_header dialect.header (records_of dialect.separator bytes.now)) in
-        MatchResult result (λ _. found ≡ None) (λ fault. Tells fault found) }
+        MatchResult result (λ _. found ≡ None) (λ fault. ReturnsFault fault found) }
     ensures read { (start : Start) → start.first ≡ first_number dialect.header → C.has_read collector.old start [] →
         OnOk result (C.has_read collector.new start (after_header dialect.header (records_of dialect.separator bytes.now))) }
     ensures not_read { IfErr result (λ fault. fault ≢ Read) }
@@ -104,7 +105,7 @@ fn add_left<C: RecordCollector>(
     requires read { (start : Start) × (rows : List (List (List ℕ))) × (start.first + length rows ≡ records_taken records.old + 1) × C.has_read collector.old start rows }
     ensures fault { (start : Start) (rows : List (List (List ℕ))) → start.first + length rows ≡ records_taken records.old + 1 → C.has_read collector.old start rows →
         let found = fault_from (C.fault_of start) (records_taken records.old + 1) (records_left records.old) in
-        MatchResult result (λ _. found ≡ None) (λ fault. Tells fault found) }
+        MatchResult result (λ _. found ≡ None) (λ fault. ReturnsFault fault found) }
     ensures read { (start : Start) (rows : List (List (List ℕ))) → start.first + length rows ≡ records_taken records.old + 1 → C.has_read collector.old start rows →
         OnOk result (C.has_read collector.new start (rows ++ records_left records.old)) }
     ensures not_read { IfErr result (λ fault. fault ≢ Read) }

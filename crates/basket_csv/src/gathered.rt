@@ -6,7 +6,7 @@ ghost use Rattle.basket_sets.specs.ItemTable.{HasCounted};
 ghost use Rattle.basket_sets.specs.Support.{total_of};
 ghost use Rattle.basket_read.specs.Fimi.{basket_of_numbers, if_light};
 ghost use Rattle.basket_csv.specs.GatheredBaskets.{Gathers, HasGathered};
-ghost use Rattle.basket_csv.specs.Read.{AnswersBy};
+ghost use Rattle.basket_read.specs.Fault.{ReturnsBy};
 
 use basket_read::{ItemCounts, ReadFault};
 use basket_sets::{Database, ItemTable, Itemset};
@@ -94,7 +94,7 @@ impl GatheredBaskets {
     /// All baskets, if they don't weigh too much: the counts of those that are past, and the others.
     pub fn finish(self) -> Result<ItemCounts, ReadFault>
         ensures baskets { (counting : Bool) (baskets : List Weighted) → HasGathered self counting baskets →
-            AnswersBy (Gathers counting baskets) result (if_light baskets) }
+            ReturnsBy (Gathers counting baskets) result (if_light baskets) }
         ensures err { IfErr result (λ fault. fault ≡ ReadFault.Heavy) }
     {
         let GatheredBaskets {

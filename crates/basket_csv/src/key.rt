@@ -38,37 +38,20 @@ fn u32_of(bytes: [u8; 4]) -> u32
     u32::from_le_bytes(bytes)
 }
 
-/// The first and the last 8 bytes of a name, if it has as many.
 #[inline(always)]
-fn eights_of(name: &[u8]) -> Option<(u64, u64)>
-    ensures { MatchOption result (length name.now < 8) (λ ends. (8 ≤ length name.now)
-        × (to_le_bytes w64 ends.0 ≡ take 8 name.now) × (to_le_bytes w64 ends.1 ≡ drop (length name.now - 8) name.now)) }
+fn u16_of(bytes: [u8; 2]) -> u16
+    ensures { to_le_bytes w16 result ≡ bytes }
 {
-    let front = name.first_chunk::<8>()?;
-    let back = name.last_chunk::<8>()?;
-    Some((u64_of(*front), u64_of(*back)))
+    u16::from_le_bytes(bytes)
 }
 
-/// The first and the last 4 bytes.
+/// The first and the last bytes of a name, this many each, if it has as many.
 #[inline(always)]
-fn fours_of(name: &[u8]) -> Option<(u32, u32)>
-    ensures { MatchOption result (length name.now < 4) (λ ends. (4 ≤ length name.now)
-        × (to_le_bytes w32 ends.0 ≡ take 4 name.now) × (to_le_bytes w32 ends.1 ≡ drop (length name.now - 4) name.now)) }
+fn chunks<const N: usize>(name: &[u8]) -> Option<(&[u8; N], &[u8; N])>
+    ensures { MatchOption result (length name.now < N) (λ ends. (N ≤ length name.now)
+        × (ends.0.now ≡ take N name.now) × (ends.1.now ≡ drop (length name.now - N) name.now)) }
 {
-    let front = name.first_chunk::<4>()?;
-    let back = name.last_chunk::<4>()?;
-    Some((u32_of(*front), u32_of(*back)))
-}
-
-/// The first and the last 2 bytes.
-#[inline(always)]
-fn twos_of(name: &[u8]) -> Option<(u16, u16)>
-    ensures { MatchOption result (length name.now < 2) (λ ends. (2 ≤ length name.now)
-        × (to_le_bytes w16 ends.0 ≡ take 2 name.now) × (to_le_bytes w16 ends.1 ≡ drop (length name.now - 2) name.now)) }
-{
-    let front = name.first_chunk::<2>()?;
-    let back = name.last_chunk::<2>()?;
-    Some((u16::from_le_bytes(*front), u16::from_le_bytes(*back)))
+    Some((name.first_chunk()?, name.last_chunk()?))
 }
 
 /// The first and the last bytes of a name, as many as fit.
@@ -76,14 +59,14 @@ fn twos_of(name: &[u8]) -> Option<(u16, u16)>
 fn ends_of(name: &[u8]) -> (u64, u64)
     ensures { length name.now ≤ 16 → name_with (length name.now) result.0 result.1 ≡ name.now }
 {
-    if let Some(ends) = eights_of(name) {
-        return ends;
+    if let Some((front, back)) = chunks::<8>(name) {
+        return (u64_of(*front), u64_of(*back));
     }
-    if let Some((front, back)) = fours_of(name) {
-        return (u64::from(front), u64::from(back));
+    if let Some((front, back)) = chunks::<4>(name) {
+        return (u64::from(u32_of(*front)), u64::from(u32_of(*back)));
     }
-    if let Some((front, back)) = twos_of(name) {
-        return (u64::from(front), u64::from(back));
+    if let Some((front, back)) = chunks::<2>(name) {
+        return (u64::from(u16_of(*front)), u64::from(u16_of(*back)));
     }
     match name.first() {
         Some(byte) => (u64::from(*byte), 0),

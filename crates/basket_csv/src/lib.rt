@@ -9,7 +9,6 @@ mod dialect;
 mod field;
 mod gathered;
 mod ids;
-mod input;
 mod key;
 pub mod laws;
 mod names;

@@ -3,18 +3,18 @@ ghost use Rattle.std.specs.Prelude.{◌≡◌, true, false, IfOk, IfSome, Err};
 ghost use Rattle.basket_read.specs.declared.fault.ReadFault.TheVariants.{Read};
 ghost use Rattle.basket_csv.specs.Counts.{named_counts_of};
 ghost use Rattle.basket_csv.specs.Csv.{baskets_of_csv, pairs_of_csv};
-ghost use Rattle.basket_csv.specs.Read.{Answers, AnswersCounts, AnswersItems};
+ghost use Rattle.basket_read.specs.Fault.{Returns, ReturnsBoth};
+ghost use Rattle.basket_csv.specs.Read.{CountsNamed};
 ghost use Rattle.basket_read.specs.ItemCounts.{AreLightCounts};
 
 use crate::baskets::Baskets;
 use crate::collector::say;
 use crate::counts::Counts;
 use crate::dialect::Dialect;
-use crate::input::take_in;
 use crate::names::Names;
 use crate::pairs::Pairs;
 use crate::seed::Seed;
-use basket_read::{CountedLine, ItemCounts, ReadFault};
+use basket_read::{CountedLine, ItemCounts, ReadFault, take_in};
 use basket_sets::Database;
 use basket_stream::Source;
 use std::alloc::Global;
@@ -34,7 +34,7 @@ pub fn read_baskets<R: RandomSource, S: Source>(
 ) -> Result<(Database, Names), ReadFault>
     requires { S.has_failed reader.old ≡ false }
     // If the reader doesn't fail, the result is that of all its bytes.
-    ensures exact { S.has_failed reader.new ≡ false → IfSome (S.left reader.old) (λ bytes. Answers result (baskets_of_csv dialect.separator dialect.header weight known bytes)) }
+    ensures exact { S.has_failed reader.new ≡ false → IfSome (S.left reader.old) (λ bytes. Returns result (baskets_of_csv dialect.separator dialect.header weight known bytes)) }
     // If it fails, the result is `Read`, and only then.
     ensures failed { S.has_failed reader.new ≡ true → result ≡ Err Read }
     ensures read_is_failed { result ≡ Err Read → S.has_failed reader.new ≡ true }
@@ -56,7 +56,7 @@ pub fn count_baskets<R: RandomSource, S: Source>(
 ) -> Result<(ItemCounts, Names), ReadFault>
     requires { S.has_failed reader.old ≡ false }
     // If the reader doesn't fail, the result is that of all its bytes.
-    ensures exact { S.has_failed reader.new ≡ false → IfSome (S.left reader.old) (λ bytes. AnswersItems result (baskets_of_csv dialect.separator dialect.header weight known bytes)) }
+    ensures exact { S.has_failed reader.new ≡ false → IfSome (S.left reader.old) (λ bytes. CountsNamed result (baskets_of_csv dialect.separator dialect.header weight known bytes)) }
     ensures light { IfOk result (λ counted. AreLightCounts counted.0) }
     // If it fails, the result is `Read`, and only then.
     ensures failed { S.has_failed reader.new ≡ true → result ≡ Err Read }
@@ -79,7 +79,7 @@ pub fn read_single<R: RandomSource, S: Source>(
 ) -> Result<(Database, Names), ReadFault>
     requires { S.has_failed reader.old ≡ false }
     // If the reader doesn't fail, the result is that of all its bytes.
-    ensures exact { S.has_failed reader.new ≡ false → IfSome (S.left reader.old) (λ bytes. Answers result (pairs_of_csv dialect.separator dialect.header known bytes)) }
+    ensures exact { S.has_failed reader.new ≡ false → IfSome (S.left reader.old) (λ bytes. Returns result (pairs_of_csv dialect.separator dialect.header known bytes)) }
     // If it fails, the result is `Read`, and only then.
     ensures failed { S.has_failed reader.new ≡ true → result ≡ Err Read }
     ensures read_is_failed { result ≡ Err Read → S.has_failed reader.new ≡ true }
@@ -102,7 +102,7 @@ pub fn read_named_counts<R: RandomSource, S: Source>(
 ) -> Result<(Vec<CountedLine>, Names), ReadFault>
     requires { S.has_failed reader.old ≡ false }
     // If the reader doesn't fail, the result is that of all its bytes.
-    ensures exact { S.has_failed reader.new ≡ false → IfSome (S.left reader.old) (λ bytes. AnswersCounts result (named_counts_of dialect.separator dialect.header known bytes)) }
+    ensures exact { S.has_failed reader.new ≡ false → IfSome (S.left reader.old) (λ bytes. ReturnsBoth result (named_counts_of dialect.separator dialect.header known bytes)) }
     // If it fails, the result is `Read`, and only then.
     ensures failed { S.has_failed reader.new ≡ true → result ≡ Err Read }
     ensures read_is_failed { result ≡ Err Read → S.has_failed reader.new ≡ true }

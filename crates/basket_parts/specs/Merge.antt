@@ -1,8 +1,6 @@
 -- Lines in the order of their sets, of which those that have one set are made one.
-use Rattle.std.specs.Prelude.{◌≡◌, ◌≢◌, ◌≤◌, ℕ, ◌+◌, List, [], ◌∷◌, Result, Ok, Err, All, map, if◌then◌else◌}
+use Rattle.std.specs.Prelude.{◌≤◌, ℕ, ◌+◌, List, [], ◌∷◌, All, map, if◌then◌else◌}
 use Rattle.basket_read.specs.declared.counted_line.CountedLine.{CountedLine}
-use Rattle.basket_read.specs.declared.fault.ReadFault.{ReadFault}
-use Rattle.basket_read.specs.declared.fault.ReadFault.TheVariants.{Memory}
 use Rattle.basket_sets.specs.Database.{MOST_WEIGHT}
 use Rattle.basket_sets.specs.Order.{IsInReportOrder}
 use Rattle.basket_parts.specs.CombinedCounts.{is_of}
@@ -28,8 +26,3 @@ IsLight line = line.count ≤ MOST_WEIGHT
 pub record IsTogether (lines : List CountedLine) : Type 0 where
   pub in_order : IsInReportOrder (map (λ line. line.set) lines)
   pub light : All IsLight lines
-
--- except if memory is out, the result is the one that is defined
-abbrev pub Answers : Result (List CountedLine) ReadFault → Result (List CountedLine) ReadFault → Type 0
-Answers (Ok lines) answer = answer ≡ Ok lines
-Answers (Err fault) answer = fault ≢ Memory → answer ≡ Err fault

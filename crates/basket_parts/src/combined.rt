@@ -1,6 +1,7 @@
 ghost use Rattle.std.specs.Prelude.{◌≡◌, []};
 ghost use Rattle.basket_parts.specs.CombinedCounts.{count_if, combined_of, total_in};
-ghost use Rattle.basket_parts.specs.Merge.{Answers, IsTogether};
+ghost use Rattle.basket_read.specs.Fault.{Returns};
+ghost use Rattle.basket_parts.specs.Merge.{IsTogether};
 ghost use Rattle.basket_sets.specs.Order.{report_order};
 
 use crate::merge::{merged, sort_by_set};
@@ -32,7 +33,7 @@ impl CombinedCounts {
     /// Puts the lines together: the counts of one set are added up. They are refused if they add up
     /// to too much.
     pub fn of(alloc: Global, mut lines: Vec<CountedLine>) -> Result<Self, ReadFault>
-        ensures { Answers result (combined_of lines.items) }
+        ensures { Returns result (combined_of lines.items) }
     {
         sort_by_set(&mut lines)?;
         match merged(alloc, lines) {

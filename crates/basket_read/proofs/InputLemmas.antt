@@ -14,7 +14,8 @@ use Rattle.basket_read.specs.declared.input.Input.{Input}
 use Rattle.basket_read.specs.declared.text.Text.{Text}
 use Rattle.basket_read.specs.Fimi.{fault_at, is_line, MARK, text_of, MOST_BYTES, first_fault, or_else, fault_in, may_be_mark, settled_fault}
 use Rattle.basket_read.specs.Laws.{SettledFaultsStay, UnsettledMayBeGood}
-use Rattle.basket_read.specs.Text.{GoesOn, IsTextSoFar, HasRoom, Tells}
+use Rattle.basket_read.specs.Fault.{ReturnsFault}
+use Rattle.basket_read.specs.Text.{GoesOn, IsTextSoFar, HasRoom}
 use Rattle.basket_read.specs.Input.{is_decided, IsFront, text_behind, IsInputSoFar, IsSomeInput}
 use Rattle.basket_read.proofs.TextLemmas.{take_rest, take_next}
 use Rattle.basket_read.proofs.theory.Grammar as grammar
@@ -244,7 +245,7 @@ some_on input new counting before some step = ∥∥₁_map some (λ w. let on =
 
 -- a settled fault at a byte of a piece is that of the piece
 pub settled_in_piece : (bytes piece : List ℕ) (i : ℕ) (fault : ReadFault) → i < length piece
-    → Tells fault (settled_fault ((bytes ++ take i piece) ++ get_or piece i 0 ∷ [])) → Tells fault (settled_fault (bytes ++ piece))
+    → ReturnsFault fault (settled_fault ((bytes ++ take i piece) ++ get_or piece i 0 ∷ [])) → ReturnsFault fault (settled_fault (bytes ++ piece))
 settled_in_piece bytes piece i fault below told no_memory =
     ap settled_fault (sym (take_rest bytes piece (i + 1)))
     ∙ settled_stays (bytes ++ take (i + 1) piece) (drop (i + 1) piece) fault (ap settled_fault (sym (take_next bytes piece i below)) ∙ told no_memory)

@@ -8,7 +8,8 @@ use Rattle.basket_read.specs.declared.parts.FimiParts.{FimiParts}
 use Rattle.basket_read.specs.Fimi.{settled_fault, fimi_of, answer_of, baskets_of, text_of}
 use Rattle.basket_read.specs.Input.{IsInputSoFar}
 use Rattle.basket_read.specs.Parts.{IsFed}
-use Rattle.basket_read.specs.Text.{Answers, CountsBehind}
+use Rattle.basket_read.specs.Fault.{Returns}
+use Rattle.basket_read.specs.Text.{CountsBehind}
 use Rattle.basket_read.specs.declared.item_counts.ItemCounts.{ItemCounts}
 use Rattle.basket_read.proofs.InputLemmas.{fault-settled}
 
@@ -35,7 +36,7 @@ answer_told bytes fault e = ap (λ f. answer_of f (baskets_of (text_of bytes))) 
 abbrev pub AreKept : Result ItemCounts ReadFault → Result (List Weighted) ReadFault → Type 0
 AreKept read result = MatchResult read (λ counts. IsOkAnd result (λ baskets. baskets ≡ counts.rest)) (λ fault. result ≡ Err fault)
 
-pub kept_answers : (read : Result ItemCounts ReadFault) (result answer : Result (List Weighted) ReadFault) → AreKept read result → CountsBehind [] read answer → Answers result answer
+pub kept_answers : (read : Result ItemCounts ReadFault) (result answer : Result (List Weighted) ReadFault) → AreKept read result → CountsBehind [] read answer → Returns result answer
 kept_answers (Ok counts) (Ok baskets) answer kept h = h.1 ∙ ap Ok (sym kept)
 kept_answers (Ok counts) (Err fault) answer kept h = absurd kept
-kept_answers (Err fault) result answer kept h = subst (λ r. Answers r answer) (sym kept) h
+kept_answers (Err fault) result answer kept h = subst (λ r. Returns r answer) (sym kept) h

@@ -1,6 +1,7 @@
 -- What a read of blocks answers.
 use Rattle.std.proofs.Common.{◌≡◌, ◌≢◌, ◌≤◌, ℕ, Bool, true, false, List, [], ◌++◌, cond, Option, Some, None, Result, Ok, Err, append-nil, refl, sym, ap, ◌∙◌, subst, leb, ltb, take, length}
 use Rattle.std.proofs.lemmas.Bool.{leb-true}
+use Rattle.std.proofs.lemmas.Option.{IfSome_then}
 use Rattle.std.specs.Prelude.{IfErr, IfOk, IfSome, IsErr, unwrap_or}
 use Rattle.std.specs.Io.KnownBytes.{Consumes, IsAtEnd, Keeps}
 use Rattle.std.proofs.KnownBytes.{Keeps-refl}
@@ -13,7 +14,8 @@ use Rattle.basket_read.specs.declared.fault.ReadFault.TheVariants.{Memory, Read,
 use Rattle.basket_read.specs.Fimi.{is_line, line_after, fault_at, first_fault, or_else, fault_in, text_of, settled_fault, baskets_of, answer_of, fimi_of, MOST_BYTES}
 use Rattle.basket_read.specs.ItemCounts.{AreLightCounts, Counts}
 use Rattle.basket_read.specs.Read.{CountsAs, FailsAfter, Reads, ReadsAs, Stops}
-use Rattle.basket_read.specs.Text.{Answers, CountsBehind, GoesOn, Tells}
+use Rattle.basket_read.specs.Fault.{Returns, ReturnsFault}
+use Rattle.basket_read.specs.Text.{CountsBehind, GoesOn}
 use Rattle.basket_read.specs.declared.item_counts.ItemCounts.{ItemCounts}
 use Rattle.basket_read.proofs.InputLemmas.{settled_stays, fault-settled}
 use Rattle.basket_read.proofs.PartsLemmas.{answer_told, AreKept}
@@ -53,8 +55,8 @@ not_answered bytes e = at (fault_in bytes) (baskets_of (text_of bytes)) (leb (to
 -- ---- the bytes that a reader gave
 
 -- a fault in the bytes that a reader gave is that of all its bytes
-refused_answer : (old new : Option (List ℕ)) (given : List ℕ) (fault : ReadFault) → Consumes old new given → Tells fault (settled_fault given)
-    → IfSome old (λ bytes. Answers (Err fault) (fimi_of bytes))
+refused_answer : (old new : Option (List ℕ)) (given : List ℕ) (fault : ReadFault) → Consumes old new given → ReturnsFault fault (settled_fault given)
+    → IfSome old (λ bytes. Returns (Err fault) (fimi_of bytes))
 refused_answer None new given fault p told = tt
 refused_answer (Some bytes) None given fault p told = absurd p
 refused_answer (Some bytes) (Some left) given fault p told = λ no_memory. answer_told bytes fault (ap settled_fault p ∙ settled_stays given left fault (told no_memory))
@@ -91,16 +93,16 @@ unlike true e t = absurd cc
 unlike false e t = absurd cc
 
 -- what was found before it failed
-pub told_fault : (given : List ℕ) (fault : ReadFault) → Tells fault (settled_fault given) → fault ≢ Memory → fault ≡ unwrap_or (fault_in given) Read
+pub told_fault : (given : List ℕ) (fault : ReadFault) → ReturnsFault fault (settled_fault given) → fault ≢ Memory → fault ≡ unwrap_or (fault_in given) Read
 told_fault given fault told no_memory = ap (λ f. unwrap_or f Read) (sym (fault-settled given fault (told no_memory)))
 
 -- at a fault in the bytes that a reader gave, whether it failed behind them or not
-pub stops_fault : (old new : Option (List ℕ)) (failed : Bool) (given : List ℕ) (fault : ReadFault) → Consumes old new given → Tells fault (settled_fault given)
+pub stops_fault : (old new : Option (List ℕ)) (failed : Bool) (given : List ℕ) (fault : ReadFault) → Consumes old new given → ReturnsFault fault (settled_fault given)
     → Stops old new failed fault
 stops_fault old new failed given fault p told = record {
   exact = λ _. refused_answer old new given fault p told;
   fails = λ _. fails_after old new new given fault p (Keeps-refl new) (told_fault given fault told);
-  read_is_failed = λ e. absurd (not_settled given (subst (λ f. Tells f (settled_fault given)) e told (λ m. absurd cc)));
+  read_is_failed = λ e. absurd (not_settled given (subst (λ f. ReturnsFault f (settled_fault given)) e told (λ m. absurd cc)));
 }
 
 -- where the reader failed behind the bytes that it gave
@@ -111,10 +113,6 @@ stops_failed old now new failed given fault broken p kept is = record {
   fails = λ _. fails_after old now new given fault p kept (λ _. is);
   read_is_failed = λ _. broken;
 }
-
-if_some : {A : Type 0} (o : Option A) (P Q : A → Type 0) → IfSome o P → ((x : A) → P x → Q x) → IfSome o Q
-if_some None P Q h all = tt
-if_some (Some x) P Q h all = all x h
 
 module _ (counting : Bool) (old new : Option (List ℕ)) (failed : Bool) where
   pub stopped : (answer : Result ItemCounts ReadFault) (fault : ReadFault) → answer ≡ Err fault → Stops old new failed fault → Reads counting old new failed answer
@@ -133,15 +131,15 @@ module _ (counting : Bool) (old new : Option (List ℕ)) (failed : Bool) where
     answer = is.1;
   }
   ended now given taken (Err fault) working p q none end (past, off, told) = record {
-    exact = λ _. of_all_bytes old now new given taken (λ all. Answers (Err fault) (fimi_of all)) p q none end told;
+    exact = λ _. of_all_bytes old now new given taken (λ all. Returns (Err fault) (fimi_of all)) p q none end told;
     fails = unlike failed working;
-    read_is_failed = λ e. absurd (not_answered given (subst (λ f. Answers (Err f) (fimi_of given)) e told (λ m. absurd cc)));
+    read_is_failed = λ e. absurd (not_answered given (subst (λ f. Returns (Err f) (fimi_of given)) e told (λ m. absurd cc)));
   }
 
   -- ---- what reading says of its answer
 
   exact : (answer : Result ItemCounts ReadFault) → Reads counting old new failed answer → failed ≡ false → IfSome old (λ bytes. Counts answer (fimi_of bytes))
-  exact (Ok counts) ends working = if_some old (λ all. all ≡ ends.bytes) _ ends.all (λ all same. (ends.past ++ counts.rest, ap fimi_of same ∙ ends.answer, (ends.past, ends.counted, refl)))
+  exact (Ok counts) ends working = IfSome_then old ends.all (λ all same. (ends.past ++ counts.rest, ap fimi_of same ∙ ends.answer, (ends.past, ends.counted, refl)))
   exact (Err fault) stops working = stops.exact working
 
   light : (answer : Result ItemCounts ReadFault) → Reads counting old new failed answer → IfOk answer AreLightCounts
@@ -173,11 +171,11 @@ module _ (counting : Bool) (old new : Option (List ℕ)) (failed : Bool) where
 -- the same where the baskets are kept and answered alone
 module _ (old new : Option (List ℕ)) (failed : Bool) where
   exact_kept : (read : Result ItemCounts ReadFault) (answer : Result (List Weighted) ReadFault) → AreKept read answer → Reads false old new failed read
-      → failed ≡ false → IfSome old (λ bytes. Answers answer (fimi_of bytes))
+      → failed ≡ false → IfSome old (λ bytes. Returns answer (fimi_of bytes))
   exact_kept (Ok counts) (Ok baskets) kept ends working =
-      if_some old (λ all. all ≡ ends.bytes) _ ends.all (λ all same. ap fimi_of same ∙ ends.answer ∙ ap Ok (ap (λ l. l ++ counts.rest) (ends.uncounted refl) ∙ sym kept))
+      IfSome_then old ends.all (λ all same. ap fimi_of same ∙ ends.answer ∙ ap Ok (ap (λ l. l ++ counts.rest) (ends.uncounted refl) ∙ sym kept))
   exact_kept (Ok counts) (Err fault) kept ends working = absurd kept
-  exact_kept (Err fault) answer kept stops working = subst (λ a. IfSome old (λ bytes. Answers a (fimi_of bytes))) (sym kept) (stops.exact working)
+  exact_kept (Err fault) answer kept stops working = subst (λ a. IfSome old (λ bytes. Returns a (fimi_of bytes))) (sym kept) (stops.exact working)
 
   failed_kept : (read : Result ItemCounts ReadFault) (answer : Result (List Weighted) ReadFault) → AreKept read answer → Reads false old new failed read
       → failed ≡ true → IsErr answer × IfSome old (λ bytes. FailsAfter bytes new answer)

@@ -19,7 +19,8 @@ use Rattle.basket_read.specs.declared.text.Text.{Text}
 use Rattle.basket_read.specs.Cut.{Cut, cut_at}
 use Rattle.basket_read.specs.Fimi.{is_line_feed, is_line, basket_of, basket_of_numbers, baskets_of, fault_at, first_fault, if_light}
 use Rattle.basket_read.specs.Line.{line_state, line_at, line_ended, IsLineSoFar}
-use Rattle.basket_read.specs.Text.{basket_said, GoesOn, HasAlso, HasBaskets, IsTextSoFar, Tells}
+use Rattle.basket_read.specs.Fault.{ReturnsFault}
+use Rattle.basket_read.specs.Text.{basket_said, GoesOn, HasAlso, HasBaskets, IsTextSoFar}
 use Rattle.basket_read.proofs.theory.Cuts.{cut_ended, cut_on}
 use Rattle.basket_read.proofs.LineLemmas.{line_numbers, line_weight}
 use Rattle.basket_read.proofs.GrammarLemmas.{line_front, no_line_feed, good_is_faultless}
@@ -123,14 +124,14 @@ take_next bytes piece i below = append_assoc bytes (take i piece) (get_or piece 
 
 -- a fault at a byte of a piece is that of the piece
 pub fault_in_piece : (bytes piece : List ℕ) (i : ℕ) (fault : ReadFault) → i < length piece
-    → Tells fault (first_fault ((bytes ++ take i piece) ++ get_or piece i 0 ∷ [])) → Tells fault (first_fault (bytes ++ piece))
+    → ReturnsFault fault (first_fault ((bytes ++ take i piece) ++ get_or piece i 0 ∷ [])) → ReturnsFault fault (first_fault (bytes ++ piece))
 fault_in_piece bytes piece i fault below told no_memory =
     ap first_fault
     (ap (λ l. bytes ++ l) (sym (take-append-drop (i + 1) piece)) ∙ sym (append_assoc bytes (take (i + 1) piece) (drop (i + 1) piece)))
     ∙ grammar.first_fault_stays is_line fault_at refl (bytes ++ take (i + 1) piece) (drop (i + 1) piece) fault (ap first_fault (sym (take_next bytes piece i below)) ∙ told no_memory)
 
 -- and so is a fault in its front
-pub fault_in_front : (bytes front rest piece : List ℕ) (fault : ReadFault) → front ++ rest ≡ piece → Tells fault (first_fault (bytes ++ front)) → Tells fault (first_fault (bytes ++ piece))
+pub fault_in_front : (bytes front rest piece : List ℕ) (fault : ReadFault) → front ++ rest ≡ piece → ReturnsFault fault (first_fault (bytes ++ front)) → ReturnsFault fault (first_fault (bytes ++ piece))
 fault_in_front bytes front rest piece fault whole told no_memory =
     ap first_fault (ap (λ l. bytes ++ l) (sym whole) ∙ sym (append_assoc bytes front rest)) ∙ grammar.first_fault_stays is_line fault_at refl (bytes ++ front) rest fault (told no_memory)
 

@@ -1,4 +1,5 @@
-use Rattle.std.specs.Prelude.{ℕ}
+-- The faults of inputs, and what readers return.
+use Rattle.std.specs.Prelude.{◌≡◌, ◌≢◌, ℕ, List, Option, Some, Result, Ok, Err, Vec}
 use Rattle.basket_read.specs.declared.fault.ReadFault.{ReadFault}
 use Rattle.basket_read.specs.declared.fault.ReadFault.TheVariants.{Memory, Read, TooLong, Byte, Number, NotText, ShortRecord, Heavy, Weight, Count, NoCount, NoTotal, Subset, RecordCount}
 
@@ -18,3 +19,23 @@ number_of_fault (NoCount line) = 11
 number_of_fault NoTotal = 12
 number_of_fault (Subset line) = 13
 number_of_fault (RecordCount nth) = 14
+
+-- except if memory is out, the fault is the one that was found
+abbrev pub ReturnsFault : ReadFault → Option ReadFault → Type 0
+ReturnsFault fault found = fault ≢ Memory → found ≡ Some fault
+
+-- except if memory is out, what was read fits the result that is defined, or the fault is that of this result
+abbrev pub ReturnsBy : {X Y : Type 0} → (X → Result Y ReadFault → Type 0) → Result X ReadFault → Result Y ReadFault → Type 0
+ReturnsBy fits (Ok read) defined = fits read defined
+ReturnsBy fits (Err fault) defined = fault ≢ Memory → defined ≡ Err fault
+
+-- except if memory is out, the result is the one that is defined
+abbrev pub Returns : {X : Type 0} → Result X ReadFault → Result X ReadFault → Type 0
+Returns = ReturnsBy (λ read defined. defined ≡ Ok read)
+
+-- the same of a list, and of a list with something else
+abbrev pub ReturnsList : {X A : Type 0} → Result (Vec X A) ReadFault → Result (List X) ReadFault → Type 0
+ReturnsList = ReturnsBy (λ read defined. defined ≡ Ok read.items)
+
+abbrev pub ReturnsBoth : {X Y A : Type 0} → Result (Vec X A × Y) ReadFault → Result (List X × Y) ReadFault → Type 0
+ReturnsBoth = ReturnsBy (λ read defined. defined ≡ Ok (read.0.items, read.1))

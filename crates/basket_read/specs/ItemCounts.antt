@@ -1,12 +1,12 @@
 -- The counts of the items of some baskets.
-use Rattle.std.specs.Prelude.{◌≡◌, ◌≢◌, ◌≤◌, List, ◌++◌, Result, Ok, Err}
+use Rattle.std.specs.Prelude.{◌≡◌, ◌≤◌, List, ◌++◌, Result, Ok}
 use Rattle.basket_sets.specs.declared.weighted.Weighted.{Weighted}
 use Rattle.basket_sets.specs.Database.{MOST_WEIGHT}
 use Rattle.basket_sets.specs.ItemTable.{HasCounted}
 use Rattle.basket_sets.specs.Support.{total_of}
 use Rattle.basket_read.specs.declared.fault.ReadFault.{ReadFault}
-use Rattle.basket_read.specs.declared.fault.ReadFault.TheVariants.{Memory}
 use Rattle.basket_read.specs.declared.item_counts.ItemCounts.{ItemCounts}
+use Rattle.basket_read.specs.Fault.{ReturnsBy}
 
 -- the table has counted the first of the baskets, and the others are kept
 abbrev pub AreCountsOf : ItemCounts → List Weighted → Type 0
@@ -18,5 +18,4 @@ AreLightCounts counts = (baskets : List Weighted) × AreCountsOf counts baskets 
 
 -- except if memory is out, the baskets that were counted are those of the result that is defined, or the fault is its
 abbrev pub Counts : Result ItemCounts ReadFault → Result (List Weighted) ReadFault → Type 0
-Counts (Ok counts) answer = (baskets : List Weighted) × (answer ≡ Ok baskets) × AreCountsOf counts baskets
-Counts (Err fault) answer = fault ≢ Memory → answer ≡ Err fault
+Counts = ReturnsBy (λ counts defined. (baskets : List Weighted) × (defined ≡ Ok baskets) × AreCountsOf counts baskets)

@@ -1,15 +1,15 @@
 -- What a text that is being read stands for.
-use Rattle.std.specs.Prelude.{◌≡◌, ◌≢◌, ◌<◌, ◌≤◌, ◌+◌, ℕ, Bool, true, false, List, [], ◌++◌, length, Option, Some, None, Result, Ok, Err, unwrap_or}
+use Rattle.std.specs.Prelude.{◌≡◌, ◌<◌, ◌≤◌, ◌+◌, ℕ, Bool, true, false, List, [], ◌++◌, length, None, Result, Ok, unwrap_or}
 use Rattle.std.specs.List.{flat_map}
 use Rattle.basket_sets.specs.declared.weighted.Weighted.{Weighted}
 use Rattle.basket_sets.specs.Support.{total_of}
 use Rattle.basket_sets.specs.Database.{MOST_WEIGHT}
 use Rattle.basket_sets.specs.ItemTable.{HasCounted, Tabled}
 use Rattle.basket_read.specs.declared.fault.ReadFault.{ReadFault}
-use Rattle.basket_read.specs.declared.fault.ReadFault.TheVariants.{Memory}
 use Rattle.basket_read.specs.declared.item_counts.ItemCounts.{ItemCounts}
 use Rattle.basket_read.specs.declared.text.Text.{Text}
 use Rattle.basket_read.specs.Cut.{cut_at}
+use Rattle.basket_read.specs.Fault.{ReturnsBy}
 use Rattle.basket_read.specs.Fimi.{is_line_feed, basket_of, basket_of_numbers, first_fault, MOST_BYTES}
 use Rattle.basket_read.specs.Line.{LineState, line_state, line_at}
 
@@ -57,16 +57,6 @@ GoesOn counting past P = (now : List Weighted) × (counting ≡ false → now �
 abbrev pub EndsLine : List ℕ → Type 0
 EndsLine bytes = (before : List ℕ) → (cut_at is_line_feed (before ++ bytes)).last ≡ []
 
--- except if memory is out, the fault is the one that was found
-abbrev pub Tells : ReadFault → Option ReadFault → Type 0
-Tells fault found = fault ≢ Memory → found ≡ Some fault
-
--- except if memory is out, the result is the one that is defined
-abbrev pub Answers : Result (List Weighted) ReadFault → Result (List Weighted) ReadFault → Type 0
-Answers (Ok baskets) answer = answer ≡ Ok baskets
-Answers (Err fault) answer = fault ≢ Memory → answer ≡ Err fault
-
--- the same, where the first baskets of the answer are past, and are counted
+-- the baskets of the result that is defined are returned, except that the first are past, and are counted
 abbrev pub CountsBehind : List Weighted → Result ItemCounts ReadFault → Result (List Weighted) ReadFault → Type 0
-CountsBehind past (Ok counts) answer = HasCounted counts.table past × (answer ≡ Ok (past ++ counts.rest))
-CountsBehind past (Err fault) answer = fault ≢ Memory → answer ≡ Err fault
+CountsBehind past = ReturnsBy (λ counts defined. HasCounted counts.table past × (defined ≡ Ok (past ++ counts.rest)))

@@ -2,12 +2,18 @@
 ghost use Rattle.std.specs.Prelude.{◌≡◌, ◌<◌, ◌≤◌, ◌^◌, false, length, take, IfOk, OnErr};
 ghost use Rattle.std.specs.Io.KnownBytes.{Consumes, IsAtEnd};
 ghost use Rattle.basket_read.specs.Bytes.{TakesIn};
+ghost use Rattle.basket_read.specs.Fimi.{text_of};
 
 use crate::fault::ReadFault;
-use crate::input::MAX_BYTES;
 use crate::read::BLOCK;
 use basket_stream::Source;
 use std::alloc::{AllocError, Global};
+
+/// The greatest number of bytes of an input.
+pub const MAX_BYTES: usize = 4_294_967_295;
+
+/// The byte order mark.
+pub(crate) const MARK: [u8; 3] = [0xEF, 0xBB, 0xBF];
 
 /// Reads the bytes of an input, or a prefix that is longer than an input may be.
 pub fn take_in<S: Source>(alloc: Global, reader: &mut S) -> Result<Vec<u8>, ReadFault>
@@ -15,12 +21,22 @@ pub fn take_in<S: Source>(alloc: Global, reader: &mut S) -> Result<Vec<u8>, Read
     ensures { TakesIn (S.left reader.old) (S.has_failed reader.new) result }
 {
     let mut bytes = Vec::new(alloc);
-    let count = fill(reader, &mut bytes, MAX_BYTES as usize + 1)?;
+    let count = fill(reader, &mut bytes, MAX_BYTES + 1)?;
     if reader.failed() {
         return Err(ReadFault::Read);
     }
     bytes.truncate(count);
     Ok(bytes)
+}
+
+/// The text of some bytes: what follows the mark if they begin with it.
+pub fn text_of(bytes: &[u8]) -> &[u8]
+    ensures { result.now ≡ text_of bytes.now }
+{
+    match bytes.strip_prefix(&MARK) {
+        Some(text) => text,
+        None => bytes,
+    }
 }
 
 /// Fills the buffer, which grows up to this many bytes, from its beginning, and returns how much of

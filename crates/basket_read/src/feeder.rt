@@ -2,8 +2,9 @@
 ghost use Rattle.std.specs.Prelude.{ℕ, List, ◌++◌, length, ⊤, MatchResult};
 ghost use Rattle.std.specs.Thread.{IsSync};
 ghost use Rattle.basket_sets.specs.declared.weighted.Weighted.{Weighted};
+ghost use Rattle.basket_read.specs.Fault.{ReturnsFault};
 ghost use Rattle.basket_read.specs.Fimi.{first_fault};
-ghost use Rattle.basket_read.specs.Text.{GoesOn, HasRoom, IsTextSoFar, Tells};
+ghost use Rattle.basket_read.specs.Text.{GoesOn, HasRoom, IsTextSoFar};
 
 use crate::fault::ReadFault;
 use crate::lines::{feed_part, feed_shared};
@@ -20,7 +21,7 @@ pub(crate) trait Feeder {
         requires ready { is_ready self.now }
         requires room { HasRoom text.old (length piece.now) }
         ensures { (past : List Weighted) (bytes : List ℕ) → IsTextSoFar text.old past bytes →
-            MatchResult result (λ _. GoesOn counting past (λ now. IsTextSoFar text.new now (bytes ++ piece.now))) (λ fault. Tells fault (first_fault (bytes ++ piece.now))) };
+            MatchResult result (λ _. GoesOn counting past (λ now. IsTextSoFar text.new now (bytes ++ piece.now))) (λ fault. ReturnsFault fault (first_fault (bytes ++ piece.now))) };
 }
 
 /// The thread that reads.

@@ -1,21 +1,17 @@
 //! An input of which not all has been read.
 ghost use Rattle.std.specs.Prelude.{◌≡◌, ◌≢◌, ◌+◌, ◌≤◌, ℕ, List, [], ◌∷◌, ◌++◌, length, MatchResult};
 ghost use Rattle.basket_read.specs.Fimi.{settled_fault, fault_in, fimi_of};
-ghost use Rattle.basket_read.specs.Text.{CountsBehind, GoesOn, Tells};
+ghost use Rattle.basket_read.specs.Fault.{ReturnsFault};
+ghost use Rattle.basket_read.specs.Text.{CountsBehind, GoesOn};
 ghost use Rattle.basket_sets.specs.declared.weighted.Weighted.{Weighted};
 ghost use Rattle.basket_read.specs.Input.{IsInputSoFar, IsSomeInput};
 
+use crate::bytes::{MARK, MAX_BYTES};
 use crate::fault::ReadFault;
 use crate::feeder::{Alone, Feeder};
 use crate::item_counts::ItemCounts;
 use crate::text::Text;
 use std::alloc::Global;
-
-/// The greatest number of bytes of an input.
-pub(crate) const MAX_BYTES: u32 = 4_294_967_295;
-
-/// The bytes of the byte order mark.
-const MARK: [u8; 3] = [0xEF, 0xBB, 0xBF];
 
 /// The fault of bytes that begin as the mark does and don't go on so.
 const HALF_A_MARK: ReadFault = ReadFault::Byte {
@@ -66,7 +62,7 @@ impl Input {
         requires ready { F.is_ready feeder.now }
         requires some { IsSomeInput self.old }
         ensures { (past : List Weighted) (bytes : List ℕ) → IsInputSoFar self.old past bytes →
-            MatchResult result (λ _. GoesOn counting past (λ now. IsInputSoFar self.new now (bytes ++ piece.now))) (λ fault. Tells fault (settled_fault (bytes ++ piece.now))) }
+            MatchResult result (λ _. GoesOn counting past (λ now. IsInputSoFar self.new now (bytes ++ piece.now))) (λ fault. ReturnsFault fault (settled_fault (bytes ++ piece.now))) }
     {
         for (place, byte) in piece.iter().enumerate() {
             if let Front::Decided = self.front {
@@ -81,7 +77,7 @@ impl Input {
     fn take_byte(&mut self, byte: u8) -> Result<(), ReadFault>
         requires { IsSomeInput self.old }
         ensures { (past : List Weighted) (bytes : List ℕ) → IsInputSoFar self.old past bytes →
-            MatchResult result (λ _. IsInputSoFar self.new past (bytes ++ byte ∷ [])) (λ fault. Tells fault (settled_fault (bytes ++ byte ∷ []))) }
+            MatchResult result (λ _. IsInputSoFar self.new past (bytes ++ byte ∷ [])) (λ fault. ReturnsFault fault (settled_fault (bytes ++ byte ∷ []))) }
     {
         match self.front {
             Front::Empty => {
@@ -123,9 +119,9 @@ impl Input {
         requires some { IsSomeInput self.old }
         requires decided { self.old.front ≡ Front.Decided }
         ensures { (past : List Weighted) (bytes : List ℕ) → IsInputSoFar self.old past bytes →
-            MatchResult result (λ _. GoesOn counting past (λ now. IsInputSoFar self.new now (bytes ++ piece.now))) (λ fault. Tells fault (settled_fault (bytes ++ piece.now))) }
+            MatchResult result (λ _. GoesOn counting past (λ now. IsInputSoFar self.new now (bytes ++ piece.now))) (λ fault. ReturnsFault fault (settled_fault (bytes ++ piece.now))) }
     {
-        let room = (MAX_BYTES - self.taken) as usize;
+        let room = MAX_BYTES - self.taken as usize;
         if piece.len() > room {
             self.text.feed(&piece[..room], false)?;
             return Err(ReadFault::TooLong);

@@ -20,7 +20,7 @@ mod text;
 pub mod worked;
 
 pub use byte_class::{ByteClass, class_of};
-pub use bytes::take_in;
+pub use bytes::{MAX_BYTES, take_in, text_of};
 pub use counted_line::CountedLine;
 pub use fault::ReadFault;
 pub use item_counts::ItemCounts;

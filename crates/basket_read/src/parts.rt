@@ -3,7 +3,7 @@ ghost use Rattle.std.specs.Prelude.{◌≡◌, ◌≢◌, ℕ, List, [], ◌++�
 ghost use Rattle.std.specs.Option.{ForNone};
 ghost use Rattle.basket_read.specs.declared.fault.ReadFault.TheVariants.{Memory};
 ghost use Rattle.basket_read.specs.Fimi.{settled_fault, fimi_of};
-ghost use Rattle.basket_read.specs.Text.{Tells, Answers};
+ghost use Rattle.basket_read.specs.Fault.{Returns, ReturnsFault};
 ghost use Rattle.basket_read.specs.Input.{IsSomeInput};
 
 use crate::fault::ReadFault;
@@ -39,7 +39,7 @@ impl FimiParts {
     pub fn feed(&mut self, piece: &[u8]) -> Result<(), ReadFault>
         // It refuses exactly the bytes that have a fault whatever follows, and returns that fault.
         ensures exact { (bytes : List ℕ) → IsFed self.old bytes →
-            MatchResult result (λ _. settled_fault (bytes ++ piece.now) ≡ None) (λ fault. Tells fault (settled_fault (bytes ++ piece.now))) }
+            MatchResult result (λ _. settled_fault (bytes ++ piece.now) ≡ None) (λ fault. ReturnsFault fault (settled_fault (bytes ++ piece.now))) }
         // The bytes so far are those of all pieces.
         ensures fed { (bytes : List ℕ) → IsFed self.old bytes → result ≢ Err Memory → IsFed self.new (bytes ++ piece.now) }
         // A fault is returned from then on.
@@ -61,7 +61,7 @@ impl FimiParts {
 
     /// The baskets of all pieces together, or their first fault.
     pub fn finish(self) -> Result<Database, ReadFault>
-        ensures exact { (bytes : List ℕ) → IsFed self bytes → Answers result (fimi_of bytes) }
+        ensures exact { (bytes : List ℕ) → IsFed self bytes → Returns result (fimi_of bytes) }
         ensures again { IfSome (refusal_of self) (λ fault. result ≡ Err fault) }
     {
         if let Some(fault) = self.refusal {

@@ -7,7 +7,8 @@ ghost use Rattle.basket_read.specs.Cut.{cut_at};
 ghost use Rattle.basket_read.specs.Fimi.{is_line_feed, first_fault, baskets_of, if_light, MOST_BYTES};
 ghost use Rattle.basket_sets.specs.Number.{is_digit};
 ghost use Rattle.basket_read.specs.Line.{line_state, line_at};
-ghost use Rattle.basket_read.specs.Text.{CountsBehind, GoesOn, HasBaskets, HasJoined, HasRoom, HasRoomFor, IsTextSoFar, Tells};
+ghost use Rattle.basket_read.specs.Fault.{ReturnsFault};
+ghost use Rattle.basket_read.specs.Text.{CountsBehind, GoesOn, HasBaskets, HasJoined, HasRoom, HasRoomFor, IsTextSoFar};
 
 mod line_end;
 
@@ -56,7 +57,7 @@ impl Text {
     pub fn feed(&mut self, piece: &[u8], counting: bool) -> Result<(), ReadFault>
         requires { HasRoom self.old (length piece.now) }
         ensures { (past : List Weighted) (bytes : List ℕ) → IsTextSoFar self.old past bytes →
-            MatchResult result (λ _. GoesOn counting past (λ now. IsTextSoFar self.new now (bytes ++ piece.now))) (λ fault. Tells fault (first_fault (bytes ++ piece.now))) }
+            MatchResult result (λ _. GoesOn counting past (λ now. IsTextSoFar self.new now (bytes ++ piece.now))) (λ fault. ReturnsFault fault (first_fault (bytes ++ piece.now))) }
     {
         let mut taken = 0;
         loop {
@@ -89,7 +90,7 @@ impl Text {
     fn take(&mut self, byte: u8, counting: bool) -> Result<(), ReadFault>
         requires { HasRoom self.old 1 }
         ensures { (past : List Weighted) (bytes : List ℕ) → IsTextSoFar self.old past bytes →
-            MatchResult result (λ _. GoesOn counting past (λ now. IsTextSoFar self.new now (bytes ++ byte ∷ []))) (λ fault. Tells fault (first_fault (bytes ++ byte ∷ []))) }
+            MatchResult result (λ _. GoesOn counting past (λ now. IsTextSoFar self.new now (bytes ++ byte ∷ []))) (λ fault. ReturnsFault fault (first_fault (bytes ++ byte ∷ []))) }
     {
         if byte == b'\n' {
             self.end_line(counting)?;

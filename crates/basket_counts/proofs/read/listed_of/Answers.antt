@@ -2,7 +2,7 @@ use Rattle.std.proofs.Common.{◌≡◌, subst, ap, ◌∙◌, arith}
 use Rattle.std.proofs.lemmas.Result.{err_from_is_err_and}
 use Rattle.basket_read.specs.declared.fault.ReadFault.TheVariants.{Read}
 use Rattle.basket_read.specs.Fimi.{text_of}
-use Rattle.basket_read.specs.Text.{Tells}
+use Rattle.basket_read.specs.Fault.{ReturnsFault}
 use Rattle.basket_counts.specs.Counts.{fault_from}
 use Rattle.basket_counts.specs.ListedSets.{HasEntries}
 use Rattle.basket_counts.proofs.ReadLemmas.{not_found, front, faulty, faultless, too_long}
@@ -18,7 +18,7 @@ pub returns-in_err-listed-clause-not_read : goal.returns-in_err-listed-clause-no
 returns-in_err-listed-clause-not_read g c = λ e.
     let p = err_from_is_err_and c.from_residual.result c.from_residual.ensures.1 in
     let is_read : c.in_err-listed.field-0.0 ≡ Read = cc (p.1, p.2, e) in
-    not_found c.text_of.result.now (subst (λ f. Tells f (fault_from 1 c.text_of.result.now)) is_read c.in_err-listed.ensures (λ m. absurd cc))
+    not_found c.text_of.result.now (subst (λ f. ReturnsFault f (fault_from 1 c.text_of.result.now)) is_read c.in_err-listed.ensures (λ m. absurd cc))
 
 pub returns-clause-says : goal.returns-clause-says
 returns-clause-says g c =

@@ -3,7 +3,7 @@ use Rattle.std.proofs.lemmas.List.{length-take, take_all, take_rest}
 use Rattle.std.proofs.lemmas.Result.{err_from_is_err_and}
 use Rattle.basket_read.specs.Cut.{parts_of}
 use Rattle.basket_read.specs.Fimi.{is_line_feed}
-use Rattle.basket_read.specs.Text.{Tells}
+use Rattle.basket_read.specs.Fault.{ReturnsFault}
 use Rattle.basket_counts.specs.Counts.{fault_from, entries_from}
 use Rattle.basket_counts.specs.ListedSets.{HasEntries}
 use Rattle.basket_counts.specs.Text.{IsTextSoFar}
@@ -23,7 +23,7 @@ returns-in_err-take-in-Some c =
     let byte = c.in-Some.ensures.lookup.3 in
     let p = err_from_is_err_and c.from_residual-in_err-take-in-Some.result c.from_residual-in_err-take-in-Some.ensures.1 in
     rw (p.1, p.2) (fault_of_all (c.args.before + 1) c.args.bytes.now i c.in_err-take-in-Some.field-0.0 byte.0
-    (subst (λ b. Tells c.in_err-take-in-Some.field-0.0 (fault_from (c.args.before + 1) (take i c.args.bytes.now ++ b ∷ []))) (byte.1 0)
+    (subst (λ b. ReturnsFault c.in_err-take-in-Some.field-0.0 (fault_from (c.args.before + 1) (take i c.args.bytes.now ++ b ∷ []))) (byte.1 0)
     (c.in_err-take-in-Some.ensures (c.args.before + 1) (take i c.args.bytes.now) here)))
 
 pub loop-text-preserved : goal.loop-text-preserved

@@ -7,14 +7,15 @@ use Rattle.basket_read.specs.declared.fault.ReadFault.{ReadFault}
 use Rattle.basket_read.specs.declared.text.Text.{Text}
 use Rattle.basket_read.specs.Cut.{cut_at}
 use Rattle.basket_read.specs.Fimi.{is_line_feed, first_fault, MOST_BYTES}
-use Rattle.basket_read.specs.Text.{GoesOn, IsTextSoFar, Tells}
+use Rattle.basket_read.specs.Fault.{ReturnsFault}
+use Rattle.basket_read.specs.Text.{GoesOn, IsTextSoFar}
 use Rattle.basket_read.proofs.RoomLemmas.{merely_at_most, room_after}
 use Rattle.basket_read.proofs.TextLemmas.{fault_in_front, if_ok}
 use Rattle.basket_read.proofs.lines.+halves.Goals as goal
 
 -- what a result is for a text that was read up to these bytes
 abbrev Reads : Bool → List Weighted → List ℕ → Result Text ReadFault → Type 0
-Reads counting past bytes result = MatchResult result (λ read. GoesOn counting past (λ now. IsTextSoFar read now bytes)) (λ fault. Tells fault (first_fault bytes))
+Reads counting past bytes result = MatchResult result (λ read. GoesOn counting past (λ now. IsTextSoFar read now bytes)) (λ fault. ReturnsFault fault (first_fault bytes))
 
 -- and for one of its own
 abbrev ReadsRest : Bool → List ℕ → Result Text ReadFault → Type 0

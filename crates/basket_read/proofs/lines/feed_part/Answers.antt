@@ -2,7 +2,8 @@ use Rattle.std.proofs.Common.{◌≡◌, ℕ, ◌+◌, ◌++◌, ◌≤◌, ◌-
 use Rattle.std.proofs.lemmas.List.{length-take, length-drop, take_rest}
 use Rattle.std.proofs.lemmas.Result.{err_from_is_err_and}
 use Rattle.basket_read.specs.Fimi.{first_fault}
-use Rattle.basket_read.specs.Text.{IsTextSoFar, Tells}
+use Rattle.basket_read.specs.Fault.{ReturnsFault}
+use Rattle.basket_read.specs.Text.{IsTextSoFar}
 use Rattle.basket_read.proofs.RoomLemmas.{room_after}
 use Rattle.basket_read.proofs.RunLemmas.{behind_both}
 use Rattle.basket_read.proofs.TextLemmas.{fault_in_front}
@@ -28,7 +29,7 @@ returns-in_err-feed c = λ past bytes t.
     let fault = c.in_err-feed.field-0.0 in
     let before = c.loop-taken.invariant.text past bytes t in
     rw (p.1, p.2) (fault_in_front bytes (take end piece) (drop end piece) piece fault (take-append-drop end piece)
-    (subst (λ l. Tells fault (first_fault l)) (block_behind bytes piece i end (omega (arith, c.min-end.ensures)))
+    (subst (λ l. ReturnsFault fault (first_fault l)) (block_behind bytes piece i end (omega (arith, c.min-end.ensures)))
     (c.in_err-feed.ensures before.0 (bytes ++ take i piece) before.2)))
 
 pub count-requires : goal.count-requires

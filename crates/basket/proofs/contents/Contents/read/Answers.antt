@@ -6,11 +6,11 @@ use Rattle.basket_parts.specs.CombinedCounts.{combined_of}
 use Rattle.basket_read.specs.Fimi.{fimi_of}
 use Rattle.basket.specs.declared.contents.Contents.TheVariants as contents
 use Rattle.basket.specs.Contents.{named_combined_of, where_read}
-use Rattle.basket.proofs.ContentsLemmas.{fails, fimi_fails, from_csv, from_fimi, is_err, says, still_err, still_read}
+use Rattle.basket.proofs.ContentsLemmas.{fails, fimi_fails, is_err, says, still_err, still_read}
 use Rattle.basket.proofs.contents.Contents.read.Goals as goal
 
 pub returns-in-Fimi-clause-exact : goal.returns-in-Fimi-clause-exact
-returns-in-Fimi-clause-exact g c working = rw (c.numbered.ensures, c.in-Fimi.is) (says (λ a. contents.Baskets a None) (g.S.Source.left c.args.reader.now) fimi_of c.read_fimi_shared.result (from_fimi (g.S.Source.left c.args.reader.now) fimi_of c.read_fimi_shared.result (c.read_fimi_shared.ensures.exact working)))
+returns-in-Fimi-clause-exact g c working = rw (c.numbered.ensures, c.in-Fimi.is) (says (λ a. contents.Baskets a None) (g.S.Source.left c.args.reader.now) fimi_of c.read_fimi_shared.result (c.read_fimi_shared.ensures.exact working))
 
 pub returns-in-Fimi-clause-failed : goal.returns-in-Fimi-clause-failed
 returns-in-Fimi-clause-failed g c failed = rw (c.numbered.ensures, c.in-Fimi.is) (fimi_fails (λ a. contents.Baskets a None) (g.S.Source.left c.args.reader.now) (g.S.Source.left c.read_fimi_shared.new.reader) c.read_fimi_shared.result (c.read_fimi_shared.ensures.failed failed))
@@ -22,7 +22,7 @@ pub returns-in-Fimi-clause-read_is_failed : goal.returns-in-Fimi-clause-read_is_
 returns-in-Fimi-clause-read_is_failed g c is = c.read_fimi_shared.ensures.read_is_failed (still_read (λ a. contents.Baskets a None) c.read_fimi_shared.result (sym c.numbered.ensures ∙ is))
 
 pub returns-in-Baskets-clause-exact : goal.returns-in-Baskets-clause-exact
-returns-in-Baskets-clause-exact g c working = rw (c.named.ensures, c.in-Baskets.is) (says (λ both. contents.Baskets both.0 (Some both.1)) (g.S.Source.left c.args.reader.now) (λ bytes. baskets_of_csv c.args.layout.separator c.args.layout.header c.args.layout.weighted c.args.known bytes) c.read_baskets.result (from_csv (g.S.Source.left c.args.reader.now) (λ bytes. baskets_of_csv c.args.layout.separator c.args.layout.header c.args.layout.weighted c.args.known bytes) c.read_baskets.result (c.read_baskets.ensures.exact working)))
+returns-in-Baskets-clause-exact g c working = rw (c.named.ensures, c.in-Baskets.is) (says (λ both. contents.Baskets both.0 (Some both.1)) (g.S.Source.left c.args.reader.now) (λ bytes. baskets_of_csv c.args.layout.separator c.args.layout.header c.args.layout.weighted c.args.known bytes) c.read_baskets.result (c.read_baskets.ensures.exact working))
 
 pub returns-in-Baskets-clause-failed : goal.returns-in-Baskets-clause-failed
 returns-in-Baskets-clause-failed g c failed = rw (c.named.ensures, c.in-Baskets.is) (fails (λ both. contents.Baskets both.0 (Some both.1)) c.read_baskets.result (c.read_baskets.ensures.failed failed))
@@ -34,7 +34,7 @@ pub returns-in-Baskets-clause-read_is_failed : goal.returns-in-Baskets-clause-re
 returns-in-Baskets-clause-read_is_failed g c is = c.read_baskets.ensures.read_is_failed (still_read (λ both. contents.Baskets both.0 (Some both.1)) c.read_baskets.result (sym c.named.ensures ∙ is))
 
 pub returns-in-Single-clause-exact : goal.returns-in-Single-clause-exact
-returns-in-Single-clause-exact g c working = rw (c.named-in-Single.ensures, c.in-Single.is) (says (λ both. contents.Baskets both.0 (Some both.1)) (g.S.Source.left c.args.reader.now) (λ bytes. pairs_of_csv c.args.layout.separator c.args.layout.header c.args.known bytes) c.read_single.result (from_csv (g.S.Source.left c.args.reader.now) (λ bytes. pairs_of_csv c.args.layout.separator c.args.layout.header c.args.known bytes) c.read_single.result (c.read_single.ensures.exact working)))
+returns-in-Single-clause-exact g c working = rw (c.named-in-Single.ensures, c.in-Single.is) (says (λ both. contents.Baskets both.0 (Some both.1)) (g.S.Source.left c.args.reader.now) (λ bytes. pairs_of_csv c.args.layout.separator c.args.layout.header c.args.known bytes) c.read_single.result (c.read_single.ensures.exact working))
 
 pub returns-in-Single-clause-failed : goal.returns-in-Single-clause-failed
 returns-in-Single-clause-failed g c failed = rw (c.named-in-Single.ensures, c.in-Single.is) (fails (λ both. contents.Baskets both.0 (Some both.1)) c.read_single.result (c.read_single.ensures.failed failed))

@@ -5,7 +5,7 @@ use Rattle.basket_csv.specs.Baskets.{AreNamedCounts}
 use Rattle.basket_csv.specs.Csv.{baskets_in, all_names, with_names}
 use Rattle.basket_csv.specs.GatheredBaskets.{Gathers}
 use Rattle.basket_csv.specs.Names.{in_order}
-use Rattle.basket_csv.specs.Read.{AnswersBy}
+use Rattle.basket_read.specs.Fault.{ReturnsBy}
 use Rattle.basket_csv.proofs.ReadLemmas.{passed_on}
 use Rattle.basket_csv.proofs.baskets.BasketsRecordCollector.finish.Goals as goal
 
@@ -21,5 +21,5 @@ pub returns-clause-said : goal.returns-clause-said
 returns-clause-said c = λ start rows h.
     let baskets = baskets_in start.weighted start.known rows in
     let names = in_order (start.known ++ all_names start.weighted rows) in
-    let (same, gathered) = subst (λ r. AnswersBy (Gathers start.counting baskets) r (if_light baskets)) c.in_ok-counts.was (c.finish.ensures.baskets start.counting baskets h.gathered) in
+    let (same, gathered) = subst (λ r. ReturnsBy (Gathers start.counting baskets) r (if_light baskets)) c.in_ok-counts.was (c.finish.ensures.baskets start.counting baskets h.gathered) in
     (baskets, ap (λ l. with_names l names) same ∙ ap (λ ns. Ok (baskets, ns)) (sym (c.in_ok-into_names.ensures ∙ h.names)), gathered)

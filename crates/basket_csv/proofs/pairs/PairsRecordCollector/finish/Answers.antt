@@ -4,7 +4,7 @@ use Rattle.std.proofs.lemmas.Result.{err_from_is_err_and}
 use Rattle.basket_read.specs.Fimi.{basket_of_numbers, if_light}
 use Rattle.basket_csv.specs.Csv.{baskets_of_pairs, names_of_pairs, gather, pairs_of, with_names}
 use Rattle.basket_csv.specs.GatheredBaskets.{Gathers, HasGathered}
-use Rattle.basket_csv.specs.Read.{AnswersBy}
+use Rattle.basket_read.specs.Fault.{ReturnsBy}
 use Rattle.basket_csv.proofs.PairLemmas.{all_baskets, few_groups}
 use Rattle.basket_csv.proofs.ReadLemmas.{passed_on}
 use Rattle.basket_csv.proofs.pairs.PairsRecordCollector.finish.Goals as goal
@@ -30,5 +30,5 @@ returns-clause-said c = λ start rows h.
     let names = names_of_pairs start.known pairs in
     let same = ap (flat_map (λ group. basket_of_numbers group.items 1)) c.deref.ensures.value ∙ all_baskets (λ group. group.items) c.args.self.groups.items names (gather pairs) h.groups in
     let has = subst (HasGathered c.in_ok-gathered_from.field-0 false) same c.in_ok-gathered_from.ensures.baskets in
-    let (is, gathered) = subst (λ r. AnswersBy (Gathers false baskets) r (if_light baskets)) c.in_ok-baskets.was (c.finish.ensures.baskets false baskets has) in
+    let (is, gathered) = subst (λ r. ReturnsBy (Gathers false baskets) r (if_light baskets)) c.in_ok-baskets.was (c.finish.ensures.baskets false baskets has) in
     ap (λ l. with_names l names) is ∙ ap (λ bs. Ok (bs, names)) (sym (gathered.2 refl)) ∙ ap (λ ns. Ok (c.in_ok-baskets.baskets.rest, ns)) (sym (c.in_ok-into_names.ensures ∙ h.names))

@@ -3,7 +3,8 @@ use Rattle.std.proofs.lemmas.List.{take_all, length-drop}
 use Rattle.std.proofs.lemmas.Result.{err_from_is_err_and}
 use Rattle.std.specs.Prelude.{MatchResult}
 use Rattle.basket_read.specs.Fimi.{settled_fault}
-use Rattle.basket_read.specs.Text.{GoesOn, Tells}
+use Rattle.basket_read.specs.Fault.{ReturnsFault}
+use Rattle.basket_read.specs.Text.{GoesOn}
 use Rattle.basket_read.specs.Input.{IsInputSoFar}
 use Rattle.basket_read.proofs.TextLemmas.{take_rest}
 use Rattle.basket_read.proofs.InputLemmas.{some_after, settled_in_piece}
@@ -14,7 +15,7 @@ take_text-requires-clause-some g c = some_after c.args.self.now c.loop-place.sel
 
 pub returns-in-Decided : goal.returns-in-Decided
 returns-in-Decided g c = λ past bytes r.
-    subst (λ l. MatchResult c.take_text.result (λ _. GoesOn c.args.counting past (λ now. IsInputSoFar c.take_text.new.self now l)) (λ fault. Tells fault (settled_fault l)))
+    subst (λ l. MatchResult c.take_text.result (λ _. GoesOn c.args.counting past (λ now. IsInputSoFar c.take_text.new.self now l)) (λ fault. ReturnsFault fault (settled_fault l)))
     (ap (λ l. (bytes ++ take c.loop-place.place c.args.piece.now) ++ l)
     (take_all (length c.args.piece.now - c.loop-place.place) (drop c.loop-place.place c.args.piece.now) (omega (arith, length-drop c.loop-place.place c.args.piece.now)))
     ∙ take_rest bytes c.args.piece.now c.loop-place.place)

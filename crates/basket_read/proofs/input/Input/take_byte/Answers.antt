@@ -2,7 +2,7 @@ use Rattle.std.proofs.Common.{length, [], ◌∷◌, ◌++◌, ap, ◌∙◌, ar
 use Rattle.std.proofs.lemmas.Result.{err_from_is_err_and}
 use Rattle.basket_read.specs.Fimi.{first_fault, settled_fault}
 use Rattle.basket_read.specs.declared.input.Front.TheVariants.{Empty, OneByte, TwoBytes}
-use Rattle.basket_read.specs.Text.{Tells}
+use Rattle.basket_read.specs.Fault.{ReturnsFault}
 use Rattle.basket_read.specs.Input.{IsInputSoFar}
 use Rattle.basket_read.proofs.TextLemmas.{not_counting}
 use Rattle.basket_read.proofs.InputLemmas.{has_room, at_front, settled-decided, fault_few, no_mark, half_of_one, half_of_two}
@@ -30,5 +30,5 @@ returns-then-byte-3 c = λ past bytes r _.
 
 pub returns-in-Decided : goal.returns-in-Decided
 returns-in-Decided c = λ past bytes r.
-    not_counting past c.take_text.result (λ now. IsInputSoFar c.take_text.new.self now (bytes ++ c.args.byte ∷ [])) (λ fault. Tells fault (settled_fault (bytes ++ c.args.byte ∷ [])))
+    not_counting past c.take_text.result (λ now. IsInputSoFar c.take_text.new.self now (bytes ++ c.args.byte ∷ [])) (λ fault. ReturnsFault fault (settled_fault (bytes ++ c.args.byte ∷ [])))
     (c.take_text.ensures past bytes r)

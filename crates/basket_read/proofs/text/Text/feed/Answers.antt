@@ -3,7 +3,8 @@ use Rattle.std.proofs.lemmas.List.{length-take, take_all}
 use Rattle.std.proofs.lemmas.Bool.{ltb-false}
 use Rattle.std.proofs.lemmas.Result.{err_from_is_err_and}
 use Rattle.basket_read.specs.Fimi.{first_fault}
-use Rattle.basket_read.specs.Text.{GoesOn, IsTextSoFar, Tells}
+use Rattle.basket_read.specs.Fault.{ReturnsFault}
+use Rattle.basket_read.specs.Text.{GoesOn, IsTextSoFar}
 use Rattle.basket_read.proofs.RoomLemmas.{room_after}
 use Rattle.basket_read.proofs.RunLemmas.{behind_both}
 use Rattle.basket_read.proofs.TextLemmas.{take_next, fault_in_piece}
@@ -31,7 +32,7 @@ returns-in_err-take-in-Some c = λ past bytes t.
     (c.in_ok-taken.ensures.text before.0 (bytes ++ take c.loop-taken.taken c.args.piece.now) before.2) in
     let p = err_from_is_err_and c.from_residual-in_err-take-in-Some.result c.from_residual-in_err-take-in-Some.ensures.1 in
     rw (p.1, p.2) (fault_in_piece bytes c.args.piece.now i c.in_err-take-in-Some.field-0.0 here.0
-    (subst (λ byte. Tells c.in_err-take-in-Some.field-0.0 (first_fault ((bytes ++ take i c.args.piece.now) ++ byte ∷ []))) (here.1 0) (c.in_err-take-in-Some.ensures before.0 (bytes ++ take i c.args.piece.now) so_far)))
+    (subst (λ byte. ReturnsFault c.in_err-take-in-Some.field-0.0 (first_fault ((bytes ++ take i c.args.piece.now) ++ byte ∷ []))) (here.1 0) (c.in_err-take-in-Some.ensures before.0 (bytes ++ take i c.args.piece.now) so_far)))
 
 pub returns-in-None : goal.returns-in-None
 returns-in-None c = λ past bytes t.
