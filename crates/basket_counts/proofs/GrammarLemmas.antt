@@ -1,13 +1,12 @@
 -- Fronts of good texts are good, and the first fault is that of the byte that ends one badly.
-use Rattle.std.proofs.Common.{◌≡◌, ℕ, true, ◌&&◌, not, List, [], ◌∷◌, ◌++◌, refl, sym, ap, ◌∙◌, inl, inr}
+use Rattle.std.proofs.Common.{◌≡◌, ℕ, true, ◌&&◌, not, List, [], ◌∷◌, ◌++◌, refl, sym, ◌∙◌}
 use Rattle.std.specs.List.{list_all}
-use Rattle.std.proofs.lemmas.Bool.{cases_Bool, and_parts, and_from}
+use Rattle.std.proofs.lemmas.Bool.{and_parts, and_from}
 use Rattle.basket_sets.specs.Database.{MOST_WEIGHT}
 use Rattle.basket_sets.proofs.theory.Numerals.{all_push}
-use Rattle.basket_read.specs.Cut.{Cut, cut_at}
 use Rattle.basket_read.specs.Fimi.{is_blank, is_nil, are_numbers}
 use Rattle.basket_counts.specs.Counts.{is_open, is_close, is_count, is_tail_of, is_tail, is_line_of, is_line, is_good, fault_at}
-use Rattle.basket_read.proofs.theory.Cuts.{cut_ended, cut_joined}
+use Rattle.basket_read.proofs.theory.Cuts.{good_before}
 use Rattle.basket_read.proofs.theory.Numbers.{within_front, numbers_front}
 use Rattle.basket_read.specs.Grammar.{FrontsAreGood, GoodIsFaultless, FirstFaultIsExact}
 use Rattle.basket_read.proofs.theory.Grammar as grammar
@@ -29,12 +28,7 @@ before_byte (count ∷ []) last byte h =
 before_byte (count ∷ other ∷ others) last byte h = absurd cc
 
 tail_front : (tail : List ℕ) (byte : ℕ) → is_tail (tail ++ byte ∷ []) ≡ true → is_tail tail ≡ true
-tail_front tail byte h =
-    let t = cut_at is_close tail in
-    elim (cases_Bool (is_close byte)) [
-      | inl e ↦ before_close t.ended t.last (sym (ap (λ (k : Cut). is_tail_of k.ended k.last) (cut_ended is_close tail byte e)) ∙ h)
-      | inr e ↦ before_byte t.ended t.last byte (sym (ap (λ (k : Cut). is_tail_of k.ended k.last) (cut_joined is_close tail byte e)) ∙ h)
-    ]
+tail_front = good_before is_close is_tail_of before_close before_byte
 
 -- a line before a `(`
 before_open : (heads : List (List ℕ)) (last : List ℕ) → is_line_of (heads ++ last ∷ []) [] ≡ true → is_line_of heads last ≡ true
@@ -50,12 +44,7 @@ before_other (text ∷ []) last byte h =
 before_other (text ∷ other ∷ others) last byte h = absurd cc
 
 pub line_front : (line : List ℕ) (byte : ℕ) → is_line (line ++ byte ∷ []) ≡ true → is_line line ≡ true
-line_front line byte h =
-    let k = cut_at is_open line in
-    elim (cases_Bool (is_open byte)) [
-      | inl e ↦ before_open k.ended k.last (sym (ap (λ (j : Cut). is_line_of j.ended j.last) (cut_ended is_open line byte e)) ∙ h)
-      | inr e ↦ before_other k.ended k.last byte (sym (ap (λ (j : Cut). is_line_of j.ended j.last) (cut_joined is_open line byte e)) ∙ h)
-    ]
+line_front = good_before is_open is_line_of before_open before_other
 
 pub line_fronts_are_good : FrontsAreGood is_line
 line_fronts_are_good = grammar.line_fronts_are_good is_line fault_at refl line_front

@@ -1,7 +1,7 @@
 -- How a line goes on.
 use Rattle.std.proofs.Common.{◌≡◌, ℕ, ◌+◌, ◌*◌, ◌-◌, Bool, true, false, ◌&&◌, not, leb, List, [], ◌∷◌, ◌++◌, cond, Option, Some, None, refl, sym, ap, ◌∙◌, inl, inr, arith}
 use Rattle.std.specs.List.{list_all}
-use Rattle.std.proofs.lemmas.Bool.{cases_Bool, and_parts, and_from, and_right, eqb-true, le-leb, leb-true}
+use Rattle.std.proofs.lemmas.Bool.{cases_Bool, and_parts, and_from, and_right, le-leb, leb-true}
 use Rattle.basket_sets.specs.Number.{is_digit, value_of}
 use Rattle.basket_sets.specs.Database.{MOST_WEIGHT}
 use Rattle.basket_sets.proofs.theory.Numerals.{all_push, and_true, value_push}
@@ -13,7 +13,7 @@ use Rattle.basket_counts.specs.declared.tail.Tail.{Tail}
 use Rattle.basket_counts.specs.declared.tail.Tail.TheVariants.{Absent, Opened, Count, Closed}
 use Rattle.basket_counts.specs.Counts.{is_open, is_close, is_count, is_tail_of, is_tail, is_line_of, is_line, count_fault, digit_fault, bare_entry, entry, count_before, entry_of_parts, entry_of}
 use Rattle.basket_counts.specs.Line.{LineState, count_begun, tail_in, tail_at, tail_with, state_of_parts, line_at, digit_added, blank_added, close_added, is_there, said_by, said_at, digit_fault_in, IsLineSoFar, IsTaken}
-use Rattle.basket_read.proofs.theory.Cuts.{cut, cut_ended, cut_joined}
+use Rattle.basket_read.proofs.theory.Cuts.{cut, cut_ended, cut_joined, stands_nowhere}
 use Rattle.basket_read.proofs.theory.Grammar as grammar
 use Rattle.basket_read.proofs.theory.Numbers.{other_byte, digit_is_no_blank, blank_is_no_digit, within_push, within_ends, ended_at, refuses_other, numbers_joined}
 
@@ -193,11 +193,7 @@ module _ (old : SetLine) (line : List ℕ) (so_far : IsLineSoFar old line) where
         }
       where
         no_open : is_tail (last ++ byte ∷ []) ≡ true → is_open byte ≡ false
-        no_open good = elim (cases_Bool (is_open byte)) [
-          | inl e ↦ let c = cut_at is_close last in absurd (unlike
-              (sym (ap (λ b. is_tail (last ++ b ∷ [])) (eqb-true byte 40 e) ∙ ap (λ (k : Cut). is_tail_of k.ended k.last) (cut_joined is_close last 40 refl) ∙ other_told c.ended c.last 40 refl refl) ∙ good))
-          | inr e ↦ e
-        ]
+        no_open = stands_nowhere is_close is_tail_of 40 refl (λ ended last. other_told ended last 40 refl refl) last byte
 
     pub tail_refused : (byte : ℕ) → None ≡ tail_with last byte → is_line (line ++ byte ∷ []) ≡ false
     tail_refused byte is =
@@ -210,11 +206,7 @@ module _ (old : SetLine) (line : List ℕ) (so_far : IsLineSoFar old line) where
 
 -- a line feed stands in no line
 pub no_line_feed : (line : List ℕ) (byte : ℕ) → is_line (line ++ byte ∷ []) ≡ true → is_line_feed byte ≡ false
-no_line_feed line byte h = elim (cases_Bool (is_line_feed byte)) [
-  | inl e ↦ let k = cut_at is_open line in
-      absurd (unlike (sym (ap (λ b. is_line (line ++ b ∷ [])) (eqb-true byte 10 e) ∙ ap (λ (j : Cut). is_line_of j.ended j.last) (cut_joined is_open line 10 refl) ∙ ends k.ended k.last) ∙ h))
-  | inr e ↦ e
-]
+no_line_feed = stands_nowhere is_open is_line_of 10 refl ends
   where
     ends : (heads : List (List ℕ)) (rest : List ℕ) → is_line_of heads (rest ++ 10 ∷ []) ≡ false
     ends [] rest = refuses_other rest 10 refl refl

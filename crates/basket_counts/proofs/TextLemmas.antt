@@ -1,15 +1,13 @@
 -- How a text goes on with one more byte.
-use Rattle.std.proofs.Common.{◌≡◌, ◌≢◌, ℕ, ◌+◌, ◌<◌, ◌≤◌, true, false, List, [], ◌∷◌, ◌++◌, length, take, take-add, drop, get_or, suc, cond, Some, refl, sym, ap, ◌∙◌, subst, append_assoc, arith}
+use Rattle.std.proofs.Common.{◌≡◌, ◌≢◌, ℕ, ◌+◌, ◌<◌, ◌≤◌, true, false, List, [], ◌∷◌, ◌++◌, length, take, take-add, drop, suc, cond, Some, refl, sym, ap, ◌∙◌, subst, append_assoc, arith}
 use Rattle.std.specs.List.{list_all}
 use Rattle.std.proofs.lemmas.Bool.{and_from}
-use Rattle.std.proofs.lemmas.List.{append-nil, length-append, take_more, take-append-drop}
+use Rattle.std.proofs.lemmas.List.{append-nil, length-append}
 use Rattle.basket_sets.specs.Number.{is_digit}
 use Rattle.basket_sets.proofs.theory.Numerals.{all_push}
-use Rattle.basket_read.specs.declared.fault.ReadFault.{ReadFault}
 use Rattle.basket_read.specs.declared.fault.ReadFault.TheVariants.{Byte}
 use Rattle.basket_read.specs.Cut.{Cut, cut_at}
 use Rattle.basket_read.specs.Fimi.{is_line_feed}
-use Rattle.basket_read.specs.Fault.{ReturnsFault}
 use Rattle.basket_counts.specs.declared.listed_sets.ListedSets.{ListedSets}
 use Rattle.basket_counts.specs.declared.line.SetLine.{SetLine}
 use Rattle.basket_counts.specs.declared.text.SetText.{SetText}
@@ -111,13 +109,3 @@ pub run_taken : (text : SetText) (line : SetLine) (number : ℕ) (bytes piece : 
 run_taken text line number bytes piece i count t e took =
     subst (IsTextSoFar (record text { line = line }) number) (ap (λ l. take i bytes ++ take count l) e ∙ sym (take-add i count bytes))
     (goes_on text number (take i bytes) t line (take count piece) (took (cut_at is_line_feed (take i bytes)).last (line_so_far text number (take i bytes) t)))
-
--- all bytes up to a place and the byte there
-pub up_to : (bytes : List ℕ) (i : ℕ) → i < length bytes → take i bytes ++ get_or bytes i 0 ∷ [] ≡ take (i + 1) bytes
-up_to bytes i below = sym (take_more bytes i 0 below)
-
--- a fault at a byte is that of all bytes
-pub fault_of_all : (number : ℕ) (bytes : List ℕ) (i : ℕ) (fault : ReadFault) → i < length bytes → ReturnsFault fault (fault_from number (take i bytes ++ get_or bytes i 0 ∷ [])) → ReturnsFault fault (fault_from number bytes)
-fault_of_all number bytes i fault below told no_memory =
-    ap (fault_from number) (sym (take-append-drop (i + 1) bytes))
-    ∙ grammar.first_fault_stays is_line (fault_at_from number) refl (take (i + 1) bytes) (drop (i + 1) bytes) fault (ap (fault_from number) (sym (up_to bytes i below)) ∙ told no_memory)

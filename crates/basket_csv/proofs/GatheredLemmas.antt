@@ -1,26 +1,13 @@
 -- Sets of numbers, and how many baskets are gathered.
-use Rattle.std.proofs.Common.{◌≡◌, ◌≢◌, ◌≤◌, ℕ, Bool, false, List, [], ◌∷◌, ◌++◌, length, inl, refl, ap, subst, arith}
+use Rattle.std.proofs.Common.{◌≡◌, ◌≤◌, Bool, false, List, [], ◌∷◌, ◌++◌, length, ap, subst, arith}
 use Rattle.std.specs.List.{flat_map}
 use Rattle.std.proofs.lemmas.List.{length-append}
-use Rattle.basket_read.specs.Fimi.{basket_of_numbers}
 use Rattle.basket_read.specs.Text.{HasBaskets}
-use Rattle.basket_sets.specs.Itemset.{rising}
 use Rattle.basket_sets.specs.declared.weighted.Weighted.{Weighted}
-use Rattle.basket_sets.proofs.theory.Members.{Member}
-use Rattle.basket_sets.proofs.theory.Rising.{Member-into_rising}
 use Rattle.basket_csv.specs.declared.gathered.GatheredBaskets.{GatheredBaskets}
 use Rattle.basket_csv.specs.GatheredBaskets.{HasGathered}
 
--- a set of some numbers is not empty
-pub rising_nonempty : (numbers : List ℕ) → numbers ≢ [] → rising numbers ≢ []
-rising_nonempty [] some e = some refl
-rising_nonempty (number ∷ numbers) some e = absurd (subst (Member number) e (Member-into_rising (number ∷ numbers) number (inl refl)))
-
 -- ---- how many baskets are gathered
-
-pub one_basket : (numbers : List ℕ) (weight : ℕ) → length (basket_of_numbers numbers weight) ≤ 1
-one_basket [] weight = omega arith
-one_basket (number ∷ numbers) weight = omega arith
 
 pub one_each : {A : Type 0} (of : A → List Weighted) → ((a : A) → length (of a) ≤ 1) → (list : List A) → length (flat_map of list) ≤ length list
 one_each of one [] = omega arith

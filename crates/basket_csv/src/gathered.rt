@@ -46,7 +46,7 @@ impl GatheredBaskets {
     }
 
     /// Adds the basket of the numbers, which may come in any order and repeat, unless there is none.
-    #[tactic(auto, using(crate::proofs::GatheredLemmas::rising_nonempty))]
+    #[tactic(auto, using(basket_read::proofs::theory::Numbers::rising_nonempty))]
     pub fn add(&mut self, numbers: &[u32], weight: u32) -> Result<(), ReadFault>
         requires weighs { 1 ≤ weight }
         requires few { self.old.heavy ≡ false → length self.old.baskets < MOST_BASKETS }

@@ -1,12 +1,12 @@
 -- Fronts of good texts are good, and the first fault is that of the byte that ends one badly.
-use Rattle.std.proofs.Common.{◌≡◌, ℕ, true, false, ◌&&◌, leb, List, [], ◌∷◌, ◌++◌, refl, sym, ap, ◌∙◌, inl, inr}
+use Rattle.std.proofs.Common.{◌≡◌, ℕ, true, false, ◌&&◌, leb, List, [], ◌∷◌, ◌++◌, refl, ◌∙◌}
 use Rattle.std.specs.List.{list_all}
-use Rattle.std.proofs.lemmas.Bool.{cases_Bool, and_parts, and_from, and_right, eqb-true}
+use Rattle.std.proofs.lemmas.Bool.{and_parts, and_from, and_right}
 use Rattle.basket_sets.specs.Number.{value_of}
 use Rattle.basket_sets.proofs.theory.Numerals.{all_push}
-use Rattle.basket_read.specs.Cut.{Cut, cut_at}
+use Rattle.basket_read.specs.Cut.{cut_at}
 use Rattle.basket_read.specs.Fimi.{is_blank, is_times, is_line_feed, is_nil, is_number, are_numbers, is_weight, is_line_of, is_line, is_good, fault_at}
-use Rattle.basket_read.proofs.theory.Cuts.{cut_ended, cut_joined}
+use Rattle.basket_read.proofs.theory.Cuts.{good_before, stands_nowhere}
 use Rattle.basket_read.proofs.theory.Numbers.{numbers_front, refuses_other}
 use Rattle.basket_read.specs.Grammar.{FrontsAreGood, GoodIsFaultless, FirstFaultIsExact}
 use Rattle.basket_read.proofs.theory.Grammar as grammar
@@ -36,29 +36,16 @@ before_other (weight ∷ []) text byte h =
 before_other (weight ∷ other ∷ others) text byte h = absurd cc
 
 pub line_front : (line : List ℕ) (byte : ℕ) → is_line (line ++ byte ∷ []) ≡ true → is_line line ≡ true
-line_front line byte h =
-    let k = cut_at is_times line in
-    elim (cases_Bool (is_times byte)) [
-      | inl e ↦ before_times k.ended k.last (sym (ap (λ (j : Cut). is_line_of j.ended j.last) (cut_ended is_times line byte e)) ∙ h)
-      | inr e ↦ before_other k.ended k.last byte (sym (ap (λ (j : Cut). is_line_of j.ended j.last) (cut_joined is_times line byte e)) ∙ h)
-    ]
+line_front = good_before is_times is_line_of before_times before_other
 
 -- a line feed stands in no line
 pub no_line_feed : (line : List ℕ) (byte : ℕ) → is_line (line ++ byte ∷ []) ≡ true → is_line_feed byte ≡ false
-no_line_feed line byte h = elim (cases_Bool (is_line_feed byte)) [ inl e ↦ absurd (unlike (sym (bad (eqb-true byte 10 e)) ∙ h)) | inr e ↦ e ]
+no_line_feed = stands_nowhere is_times is_line_of 10 refl ends
   where
-    unlike : false ≡ true → ⊥
-    unlike e = cc
-
     ends : (heads : List (List ℕ)) (last : List ℕ) → is_line_of heads (last ++ 10 ∷ []) ≡ false
     ends [] last = refuses_other last 10 refl refl
     ends (weight ∷ []) last = and_right (is_weight weight) (are_numbers (last ++ 10 ∷ [])) (refuses_other last 10 refl refl)
     ends (weight ∷ other ∷ others) last = refl
-
-    bad : byte ≡ 10 → is_line (line ++ byte ∷ []) ≡ false
-    bad e =
-        let k = cut_at is_times line in
-        ap (λ b. is_line (line ++ b ∷ [])) e ∙ ap (λ (j : Cut). is_line_of j.ended j.last) (cut_joined is_times line 10 refl) ∙ ends k.ended k.last
 
 -- ---- a text
 

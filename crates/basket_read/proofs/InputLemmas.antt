@@ -17,7 +17,7 @@ use Rattle.basket_read.specs.Laws.{SettledFaultsStay, UnsettledMayBeGood}
 use Rattle.basket_read.specs.Fault.{ReturnsFault}
 use Rattle.basket_read.specs.Text.{GoesOn, IsTextSoFar, HasRoom}
 use Rattle.basket_read.specs.Input.{is_decided, IsFront, text_behind, IsInputSoFar, IsSomeInput}
-use Rattle.basket_read.proofs.TextLemmas.{take_rest, take_next}
+use Rattle.basket_read.proofs.TextLemmas.{take_rest}
 use Rattle.basket_read.proofs.theory.Grammar as grammar
 
 -- ---- what is decided at the front
@@ -248,7 +248,7 @@ pub settled_in_piece : (bytes piece : List ℕ) (i : ℕ) (fault : ReadFault) �
     → ReturnsFault fault (settled_fault ((bytes ++ take i piece) ++ get_or piece i 0 ∷ [])) → ReturnsFault fault (settled_fault (bytes ++ piece))
 settled_in_piece bytes piece i fault below told no_memory =
     ap settled_fault (sym (take_rest bytes piece (i + 1)))
-    ∙ settled_stays (bytes ++ take (i + 1) piece) (drop (i + 1) piece) fault (ap settled_fault (sym (take_next bytes piece i below)) ∙ told no_memory)
+    ∙ settled_stays (bytes ++ take (i + 1) piece) (drop (i + 1) piece) fault (ap settled_fault (sym (grammar.take_next bytes piece i below)) ∙ told no_memory)
 
 -- ---- whatever follows
 

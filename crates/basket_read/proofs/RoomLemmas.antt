@@ -1,5 +1,5 @@
 -- An input of few bytes has few lines and few baskets.
-use Rattle.std.proofs.Common.{◌≡◌, ◌≢◌, ℕ, ◌+◌, ◌*◌, ◌<◌, ◌≤◌, ◌^◌, Bool, true, false, List, [], ◌∷◌, ◌++◌, length, cond, fold, suc, ltb, eqb, refl, ap, ◌∙◌, subst, inl, inr, arith}
+use Rattle.std.proofs.Common.{◌≡◌, ℕ, ◌+◌, ◌*◌, ◌<◌, ◌≤◌, ◌^◌, Bool, true, false, List, [], ◌∷◌, ◌++◌, length, cond, fold, suc, ap, ◌∙◌, subst, inl, inr, arith}
 use Rattle.std.specs.List.{flat_map}
 use Rattle.std.proofs.lemmas.Bool.{cases_lt}
 use Rattle.std.proofs.lemmas.Grind.{not_there, flat_map-append}
@@ -7,14 +7,14 @@ use Rattle.std.proofs.lemmas.List.{append-nil, length-append}
 use Rattle.std.proofs.lemmas.List.Sums.{sum_by-append}
 use Rattle.std.proofs.Math.Logic.{∥∥₁_map}
 use Rattle.basket_sets.specs.declared.weighted.Weighted.{Weighted}
-use Rattle.basket_sets.specs.Itemset.{rising, with_item}
 use Rattle.basket_sets.specs.Database.{MOST_BASKETS, MOST_WEIGHT}
 use Rattle.basket_sets.specs.Support.{total_of, weight_at}
 use Rattle.basket_read.specs.declared.text.Text.{Text}
 use Rattle.basket_read.specs.Cut.{Cut, cut_more, cut_at}
-use Rattle.basket_read.specs.Fimi.{is_line_feed, is_times, basket_of, basket_of_numbers, numbers_of, weight_before}
+use Rattle.basket_read.specs.Fimi.{is_line_feed, is_times, basket_of, numbers_of, weight_before}
 use Rattle.basket_read.specs.Text.{HasBaskets, IsTextSoFar, HasRoom}
 use Rattle.basket_read.proofs.theory.Cuts.{cut, size_after}
+use Rattle.basket_read.proofs.theory.Numbers.{one_basket}
 
 -- a bound that follows from what is there
 merely_below : {A : Type 0} (a b : ℕ) → ∥ A ∥₁ → (A → a < b) → a < b
@@ -51,11 +51,7 @@ few_lines text more room =
 -- a basket has a number, and so its line a byte
 basket_size : (line : List ℕ) → 2 * length (basket_of line) ≤ length line + 1
 basket_size [] = omega arith
-basket_size (byte ∷ line) = let one = at (numbers_of (cut_at is_times (byte ∷ line)).last) (weight_before (cut_at is_times (byte ∷ line)).ended) in omega arith
-  where
-    at : (numbers : List ℕ) (weight : ℕ) → length (basket_of_numbers numbers weight) ≤ 1
-    at [] weight = omega arith
-    at (number ∷ numbers) weight = omega arith
+basket_size (byte ∷ line) = let one = one_basket (numbers_of (cut_at is_times (byte ∷ line)).last) (weight_before (cut_at is_times (byte ∷ line)).ended) in omega arith
 
 -- two bytes for each basket, and those of the last line
 abbrev bytes_of : Cut → ℕ
@@ -87,17 +83,3 @@ pub room_after : (text new : Text) (before : List ℕ) (more : ℕ) (all : ℕ) 
     → ((past : List Weighted) (bytes : List ℕ) → IsTextSoFar text past bytes → (now : List Weighted) × IsTextSoFar new now (bytes ++ before)) → HasRoom new more
 room_after text new before more all few room step =
     ∥∥₁_map room (λ w. let new_text = step w.0 w.1 w.2 in (new_text.0, w.1 ++ before, new_text.1, let sum = length-append w.1 before in let small = w.3 in omega arith))
-
--- a set of some numbers is not empty
-pub rising_nonempty : (numbers : List ℕ) → numbers ≢ [] → rising numbers ≢ []
-rising_nonempty [] some e = some refl
-rising_nonempty (number ∷ numbers) some e = with_nonempty number (rising numbers) e
-  where
-    with_nonempty : (item : ℕ) (items : List ℕ) → with_item item items ≢ []
-    with_nonempty item [] e = absurd cc
-    with_nonempty item (first ∷ others) e = at (ltb item first) (eqb item first) e
-      where
-        at : (below same : Bool) → cond below (item ∷ first ∷ others) (cond same (first ∷ others) (first ∷ with_item item others)) ≢ []
-        at true same e = absurd cc
-        at false true e = absurd cc
-        at false false e = absurd cc

@@ -10,7 +10,6 @@ use Rattle.basket_sets.specs.Number.{is_digit, value_of}
 use Rattle.basket_sets.proofs.theory.Numerals.{all_push, value_push}
 use Rattle.basket_read.specs.Fimi.{MOST_NUMBER}
 use Rattle.basket_read.specs.Number.{number_with}
-use Rattle.basket_read.proofs.TextLemmas.{take_next}
 use Rattle.basket_read.proofs.theory.Grammar as grammar
 
 -- ---- a piece
@@ -46,7 +45,7 @@ pub value_more : (bytes word : List ℕ) (i value longer digit : ℕ) → i < le
     → value_of (word ++ take i bytes) ≡ value → value_of (word ++ take (i + 1) bytes) ≡ longer
 value_more bytes word i value longer digit below byte longer_is value_is =
     let same : get_or bytes i 0 - 48 ≡ digit = omega arith in
-    ap value_of (sym (take_next word bytes i below)) ∙ value_push (word ++ take i bytes) (get_or bytes i 0)
+    ap value_of (sym (grammar.take_next word bytes i below)) ∙ value_push (word ++ take i bytes) (get_or bytes i 0)
     ∙ (λ j. value_is j * 10 + same j) ∙ sym (grammar.chosen longer (value * 10 + digit) _ longer_is).1
 
 -- a few digits write a small number

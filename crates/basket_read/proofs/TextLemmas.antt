@@ -1,17 +1,15 @@
 -- How a text goes on with one more byte, and what its first fault is.
-use Rattle.std.proofs.Common.{◌≡◌, ◌≢◌, ◌≤◌, arith, ℕ, ◌+◌, ◌<◌, Bool, true, false, List, [], ◌∷◌, ◌++◌, length, cond, Some, Result, Ok, Err, refl, sym, ap, ◌∙◌, subst, append_assoc, take, drop, get_or}
+use Rattle.std.proofs.Common.{◌≡◌, ℕ, ◌+◌, Bool, true, false, List, [], ◌∷◌, ◌++◌, length, cond, Some, Result, Ok, Err, refl, sym, ap, ◌∙◌, subst, append_assoc, take, drop}
 use Rattle.std.specs.List.{flat_map, list_all}
 use Rattle.std.specs.Prelude.{IfOk, MatchResult}
 use Rattle.std.proofs.lemmas.Bool.{and_from, le-leb, lt-leb}
-use Rattle.std.proofs.lemmas.List.{append-nil, length-append, take_more, take-append-drop}
+use Rattle.std.proofs.lemmas.List.{append-nil, length-append, take-append-drop}
 use Rattle.std.proofs.lemmas.Grind.{flat_map-append}
-use Rattle.std.proofs.lemmas.List.Sums.{sum_by-append}
 use Rattle.basket_sets.specs.declared.weighted.Weighted.{Weighted}
-use Rattle.basket_sets.specs.Itemset.{rising}
 use Rattle.basket_sets.specs.Number.{is_digit}
 use Rattle.basket_sets.proofs.theory.Numerals.{all_push}
-use Rattle.basket_sets.specs.Database.{weighted, MOST_WEIGHT}
-use Rattle.basket_sets.specs.Support.{total_of, weight_at}
+use Rattle.basket_sets.specs.Database.{MOST_WEIGHT}
+use Rattle.basket_sets.specs.Support.{total_of}
 use Rattle.basket_read.specs.declared.fault.ReadFault.{ReadFault}
 use Rattle.basket_read.specs.declared.fault.ReadFault.TheVariants.{Byte, Number, Heavy}
 use Rattle.basket_read.specs.declared.line.Line.{Line}
@@ -99,38 +97,11 @@ pub heavy_answer : (heavy : Bool) (database baskets : List Weighted) → heavy �
 heavy_answer false database baskets e h = absurd cc
 heavy_answer true database baskets e h = ap (λ b. cond b (Ok baskets) (Err Heavy)) (lt-leb (total_of baskets) MOST_WEIGHT h)
 
--- a basket is counted at once, behind baskets that were
-pub counted_line : (heavy : Bool) (past kept baskets basket : List Weighted) → heavy ≡ false → kept ≡ [] → HasBaskets heavy (past ++ kept) baskets
-    → total_of past + total_of basket ≤ MOST_WEIGHT → HasBaskets heavy ((past ++ basket) ++ kept) (baskets ++ basket)
-counted_line true past kept baskets basket e none h light = absurd cc
-counted_line false past kept baskets basket e none h light =
-    let same : past ≡ baskets = sym (append-nil past) ∙ ap (λ l. past ++ l) (sym none) ∙ h.0 in (
-      ap (λ l. (past ++ basket) ++ l) none ∙ append-nil (past ++ basket) ∙ ap (λ l. l ++ basket) same,
-      let sum = sum_by-append (weight_at []) baskets basket in let whole = ap total_of same in omega arith,
-    )
-
--- the basket of some numbers
-pub said_some : (numbers : List ℕ) (weight : ℕ) → numbers ≢ [] → basket_of_numbers numbers weight ≡ weighted (rising numbers) weight ∷ []
-said_some [] weight some = absurd (some refl)
-said_some (number ∷ numbers) weight some = refl
-
 -- a piece in two parts, behind what was before it
 pub take_rest : (bytes piece : List ℕ) (i : ℕ) → (bytes ++ take i piece) ++ drop i piece ≡ bytes ++ piece
 take_rest bytes piece i = append_assoc bytes (take i piece) (drop i piece) ∙ ap (λ l. bytes ++ l) (take-append-drop i piece)
 
--- a byte of a piece, behind those before it
-pub take_next : (bytes piece : List ℕ) (i : ℕ) → i < length piece → (bytes ++ take i piece) ++ get_or piece i 0 ∷ [] ≡ bytes ++ take (i + 1) piece
-take_next bytes piece i below = append_assoc bytes (take i piece) (get_or piece i 0 ∷ []) ∙ ap (λ l. bytes ++ l) (sym (take_more piece i 0 below))
-
--- a fault at a byte of a piece is that of the piece
-pub fault_in_piece : (bytes piece : List ℕ) (i : ℕ) (fault : ReadFault) → i < length piece
-    → ReturnsFault fault (first_fault ((bytes ++ take i piece) ++ get_or piece i 0 ∷ [])) → ReturnsFault fault (first_fault (bytes ++ piece))
-fault_in_piece bytes piece i fault below told no_memory =
-    ap first_fault
-    (ap (λ l. bytes ++ l) (sym (take-append-drop (i + 1) piece)) ∙ sym (append_assoc bytes (take (i + 1) piece) (drop (i + 1) piece)))
-    ∙ grammar.first_fault_stays is_line fault_at refl (bytes ++ take (i + 1) piece) (drop (i + 1) piece) fault (ap first_fault (sym (take_next bytes piece i below)) ∙ told no_memory)
-
--- and so is a fault in its front
+-- a fault in the front of a piece is that of the piece
 pub fault_in_front : (bytes front rest piece : List ℕ) (fault : ReadFault) → front ++ rest ≡ piece → ReturnsFault fault (first_fault (bytes ++ front)) → ReturnsFault fault (first_fault (bytes ++ piece))
 fault_in_front bytes front rest piece fault whole told no_memory =
     ap first_fault (ap (λ l. bytes ++ l) (sym whole) ∙ sym (append_assoc bytes front rest)) ∙ grammar.first_fault_stays is_line fault_at refl (bytes ++ front) rest fault (told no_memory)

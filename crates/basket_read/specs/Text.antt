@@ -1,5 +1,5 @@
 -- What a text that is being read stands for.
-use Rattle.std.specs.Prelude.{◌≡◌, ◌<◌, ◌≤◌, ◌+◌, ℕ, Bool, true, false, List, [], ◌++◌, length, None, Result, Ok, unwrap_or}
+use Rattle.std.specs.Prelude.{◌≡◌, ◌<◌, ◌≤◌, ◌+◌, ℕ, Bool, true, false, List, [], ◌++◌, length, None, Result, Ok, MatchResult, unwrap_or}
 use Rattle.std.specs.List.{flat_map}
 use Rattle.basket_sets.specs.declared.weighted.Weighted.{Weighted}
 use Rattle.basket_sets.specs.Support.{total_of}
@@ -9,7 +9,7 @@ use Rattle.basket_read.specs.declared.fault.ReadFault.{ReadFault}
 use Rattle.basket_read.specs.declared.item_counts.ItemCounts.{ItemCounts}
 use Rattle.basket_read.specs.declared.text.Text.{Text}
 use Rattle.basket_read.specs.Cut.{cut_at}
-use Rattle.basket_read.specs.Fault.{ReturnsBy}
+use Rattle.basket_read.specs.Fault.{ReturnsBy, ReturnsFault}
 use Rattle.basket_read.specs.Fimi.{is_line_feed, basket_of, basket_of_numbers, first_fault, MOST_BYTES}
 use Rattle.basket_read.specs.Line.{LineState, line_state, line_at}
 
@@ -52,6 +52,11 @@ basket_said line = basket_of_numbers line.numbers.ended (unwrap_or line.weight 1
 -- what is past goes on from what was past: more of it only where baskets are counted
 abbrev pub GoesOn : Bool → List Weighted → (List Weighted → Type 0) → Type 0
 GoesOn counting past P = (now : List Weighted) × (counting ≡ false → now ≡ past) × P now
+
+-- a text that has read more is of these bytes too, behind those that it was of, or the fault is the first of them all
+abbrev pub ReadsOn : {A : Type 0} → Text → Bool → List ℕ → Result A ReadFault → (A → Text) → Type 0
+ReadsOn text counting piece result new = (past : List Weighted) (bytes : List ℕ) → IsTextSoFar text past bytes →
+    MatchResult result (λ a. GoesOn counting past (λ now. IsTextSoFar (new a) now (bytes ++ piece))) (λ fault. ReturnsFault fault (first_fault (bytes ++ piece)))
 
 -- the bytes end a line, whatever stands before them
 abbrev pub EndsLine : List ℕ → Type 0

@@ -4,7 +4,7 @@ ghost use Rattle.std.specs.Thread.{IsSync};
 ghost use Rattle.basket_sets.specs.declared.weighted.Weighted.{Weighted};
 ghost use Rattle.basket_read.specs.Fault.{ReturnsFault};
 ghost use Rattle.basket_read.specs.Fimi.{first_fault};
-ghost use Rattle.basket_read.specs.Text.{GoesOn, HasRoom, IsTextSoFar};
+ghost use Rattle.basket_read.specs.Text.{HasRoom, ReadsOn};
 
 use crate::fault::ReadFault;
 use crate::lines::{feed_part, feed_shared};
@@ -20,8 +20,7 @@ pub(crate) trait Feeder {
     fn feed(&self, text: &mut Text, piece: &[u8], counting: bool) -> Result<(), ReadFault>
         requires ready { is_ready self.now }
         requires room { HasRoom text.old (length piece.now) }
-        ensures { (past : List Weighted) (bytes : List ℕ) → IsTextSoFar text.old past bytes →
-            MatchResult result (λ _. GoesOn counting past (λ now. IsTextSoFar text.new now (bytes ++ piece.now))) (λ fault. ReturnsFault fault (first_fault (bytes ++ piece.now))) };
+        ensures { ReadsOn text.old counting piece.now result (λ _. text.new) };
 }
 
 /// The thread that reads.

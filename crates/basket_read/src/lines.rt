@@ -4,7 +4,7 @@ ghost use Rattle.std.specs.Thread.{IsSync};
 ghost use Rattle.basket_sets.specs.declared.weighted.Weighted.{Weighted};
 ghost use Rattle.basket_read.specs.Fimi.{first_fault, MOST_BYTES};
 ghost use Rattle.basket_read.specs.Fault.{ReturnsFault};
-ghost use Rattle.basket_read.specs.Text.{EndsLine, GoesOn, HasRoom, IsTextSoFar};
+ghost use Rattle.basket_read.specs.Text.{EndsLine, GoesOn, HasRoom, IsTextSoFar, ReadsOn};
 
 use crate::fault::ReadFault;
 use crate::text::Text;
@@ -24,8 +24,7 @@ pub fn feed_shared<R: Threads + Sync>(
     counting: bool,
 ) -> Result<Text, ReadFault>
     requires { HasRoom text (length piece.now) }
-    ensures { (past : List Weighted) (bytes : List ℕ) → IsTextSoFar text past bytes →
-        MatchResult result (λ read. GoesOn counting past (λ now. IsTextSoFar read now (bytes ++ piece.now))) (λ fault. ReturnsFault fault (first_fault (bytes ++ piece.now))) }
+    ensures { ReadsOn text counting piece.now result (λ read. read) }
 {
     let Some(end) = middle_of(piece, workers) else {
         feed_part(&mut text, piece, counting)?;
@@ -60,8 +59,7 @@ fn feed_halves<R: Threads + Sync>(
     requires front { HasRoom text (length front.now) }
     requires rest { length rest.now ≤ MOST_BYTES }
     requires several { 2 ≤ workers }
-    ensures front { (past : List Weighted) (bytes : List ℕ) → IsTextSoFar text past bytes →
-        MatchResult result.0 (λ read. GoesOn counting past (λ now. IsTextSoFar read now (bytes ++ front.now))) (λ fault. ReturnsFault fault (first_fault (bytes ++ front.now))) }
+    ensures front { ReadsOn text counting front.now result.0 (λ read. read) }
     ensures rest { IfOk result.1 (λ read. GoesOn counting [] (λ now. IsTextSoFar read now rest.now)) }
 {
     let few = workers / 2;
@@ -75,8 +73,7 @@ fn feed_halves<R: Threads + Sync>(
         { feed_shared(rt, Text::new(alloc, rest.len()), rest, others, counting) },
         || -> Result<Text, ReadFault>
             requires { IsSync R.row × HasRoom text (length front.now) }
-            ensures { (past : List Weighted) (bytes : List ℕ) → IsTextSoFar text past bytes →
-                MatchResult result (λ read. GoesOn counting past (λ now. IsTextSoFar read now (bytes ++ front.entry.now))) (λ fault. ReturnsFault fault (first_fault (bytes ++ front.entry.now))) }
+            ensures { ReadsOn text counting front.entry.now result (λ read. read) }
         { feed_shared(rt, text, front, few, counting) },
     );
     (text, read)
@@ -86,8 +83,7 @@ fn feed_halves<R: Threads + Sync>(
 /// block before the next.
 pub fn feed_part(text: &mut Text, piece: &[u8], counting: bool) -> Result<(), ReadFault>
     requires { HasRoom text.old (length piece.now) }
-    ensures { (past : List Weighted) (bytes : List ℕ) → IsTextSoFar text.old past bytes →
-        MatchResult result (λ _. GoesOn counting past (λ now. IsTextSoFar text.new now (bytes ++ piece.now))) (λ fault. ReturnsFault fault (first_fault (bytes ++ piece.now))) }
+    ensures { ReadsOn text.old counting piece.now result (λ _. text.new) }
 {
     let mut taken = 0;
     while taken < piece.len() {

@@ -8,7 +8,7 @@ ghost use Rattle.basket_read.specs.Fimi.{is_line_feed, first_fault, baskets_of, 
 ghost use Rattle.basket_sets.specs.Number.{is_digit};
 ghost use Rattle.basket_read.specs.Line.{line_state, line_at};
 ghost use Rattle.basket_read.specs.Fault.{ReturnsFault};
-ghost use Rattle.basket_read.specs.Text.{CountsBehind, GoesOn, HasBaskets, HasJoined, HasRoom, HasRoomFor, IsTextSoFar};
+ghost use Rattle.basket_read.specs.Text.{CountsBehind, GoesOn, HasBaskets, HasJoined, HasRoom, HasRoomFor, IsTextSoFar, ReadsOn};
 
 mod line_end;
 
@@ -56,8 +56,7 @@ impl Text {
     /// Takes more of the text, up to its first fault, and may count baskets of its lines at once.
     pub fn feed(&mut self, piece: &[u8], counting: bool) -> Result<(), ReadFault>
         requires { HasRoom self.old (length piece.now) }
-        ensures { (past : List Weighted) (bytes : List ℕ) → IsTextSoFar self.old past bytes →
-            MatchResult result (λ _. GoesOn counting past (λ now. IsTextSoFar self.new now (bytes ++ piece.now))) (λ fault. ReturnsFault fault (first_fault (bytes ++ piece.now))) }
+        ensures { ReadsOn self.old counting piece.now result (λ _. self.new) }
     {
         let mut taken = 0;
         loop {
@@ -89,8 +88,7 @@ impl Text {
     #[inline(always)]
     fn take(&mut self, byte: u8, counting: bool) -> Result<(), ReadFault>
         requires { HasRoom self.old 1 }
-        ensures { (past : List Weighted) (bytes : List ℕ) → IsTextSoFar self.old past bytes →
-            MatchResult result (λ _. GoesOn counting past (λ now. IsTextSoFar self.new now (bytes ++ byte ∷ []))) (λ fault. ReturnsFault fault (first_fault (bytes ++ byte ∷ []))) }
+        ensures { ReadsOn self.old counting (byte ∷ []) result (λ _. self.new) }
     {
         if byte == b'\n' {
             self.end_line(counting)?;

@@ -1,10 +1,11 @@
 -- How a cut list goes on.
-use Rattle.std.proofs.Common.{◌≡◌, ℕ, Bool, true, false, List, [], ◌∷◌, ◌++◌, cond, refl, sym, ap, ◌∙◌, append_assoc, ◌+◌, ◌≤◌, length, fold, suc, arith}
+use Rattle.std.proofs.Common.{◌≡◌, ℕ, Bool, true, false, List, [], ◌∷◌, ◌++◌, cond, eqb, refl, sym, ap, ◌∙◌, inl, inr, append_assoc, ◌+◌, ◌≤◌, length, fold, suc, arith}
 use Rattle.std.specs.List.{list_all}
-use Rattle.std.proofs.lemmas.Bool.{and_parts}
+use Rattle.std.proofs.lemmas.Bool.{cases_Bool, and_parts, and_from, ne_eqb}
 use Rattle.std.proofs.lemmas.List.{append-nil, length-append}
 use Rattle.std.proofs.lemmas.List.Sums.{fold_push, fold-append}
-use Rattle.basket_read.specs.Cut.{Cut, cut_more, cut_at}
+use Rattle.basket_sets.proofs.theory.Numerals.{all_push}
+use Rattle.basket_read.specs.Cut.{Cut, cut_more, cut_at, parts_of}
 use Rattle.basket_read.specs.Grammar.{FrontsAreGood}
 
 abbrev pub cut : List (List ℕ) → List ℕ → Cut
@@ -46,6 +47,42 @@ cut_on_by p q xs (y ∷ ys) other h =
     ap (cut_at p) (sym (append_assoc xs (y ∷ []) ys)) ∙ cut_on_by p q (xs ++ y ∷ []) ys other parts.1
     ∙ ap (λ (k : Cut). cut k.ended (k.last ++ ys)) (cut_joined p xs y (other y parts.0))
     ∙ ap (cut (cut_at p xs).ended) (append_assoc (cut_at p xs).last (y ∷ []) ys)
+
+-- ---- lists that are good by their parts
+
+module _ (p : ℕ → Bool) (good : List (List ℕ) → List ℕ → Bool) where
+  abbrev by_parts : List ℕ → Bool
+  by_parts xs = good (cut_at p xs).ended (cut_at p xs).last
+
+  -- a list is good if it is with one element more, whether this ends the last part or joins it
+  pub good_before : ((ended : List (List ℕ)) (last : List ℕ) → good (ended ++ last ∷ []) [] ≡ true → good ended last ≡ true)
+      → ((ended : List (List ℕ)) (last : List ℕ) (x : ℕ) → good ended (last ++ x ∷ []) ≡ true → good ended last ≡ true)
+      → (xs : List ℕ) (x : ℕ) → by_parts (xs ++ x ∷ []) ≡ true → by_parts xs ≡ true
+  good_before before_end before_other xs x h =
+      let k = cut_at p xs in
+      elim (cases_Bool (p x)) [
+        | inl e ↦ before_end k.ended k.last (sym (ap (λ (j : Cut). good j.ended j.last) (cut_ended p xs x e)) ∙ h)
+        | inr e ↦ before_other k.ended k.last x (sym (ap (λ (j : Cut). good j.ended j.last) (cut_joined p xs x e)) ∙ h)
+      ]
+
+  -- an element that ends no good part stands in no good list
+  pub stands_nowhere : (k : ℕ) → p k ≡ false → ((ended : List (List ℕ)) (last : List ℕ) → good ended (last ++ k ∷ []) ≡ false)
+      → (xs : List ℕ) (x : ℕ) → by_parts (xs ++ x ∷ []) ≡ true → eqb x k ≡ false
+  stands_nowhere k other bad xs x h =
+      ne_eqb x k (λ e. unlike (sym (ap (λ y. by_parts (xs ++ y ∷ [])) e ∙ ap (λ (j : Cut). good j.ended j.last) (cut_joined p xs k other) ∙ bad (cut_at p xs).ended (cut_at p xs).last) ∙ h))
+    where
+      unlike : false ≡ true → ⊥
+      unlike e = cc
+
+-- each part of a list is good if each is with one element more
+pub parts_good_before : (p : ℕ → Bool) (good : List ℕ → Bool) → ((part : List ℕ) (x : ℕ) → good (part ++ x ∷ []) ≡ true → good part ≡ true)
+    → (xs : List ℕ) (x : ℕ) → list_all good (parts_of p (xs ++ x ∷ [])) ≡ true → list_all good (parts_of p xs) ≡ true
+parts_good_before p good front =
+    good_before p (λ ended last. list_all good (ended ++ last ∷ []))
+    (λ ended last h. (and_parts (list_all good (ended ++ last ∷ [])) (good []) (sym (all_push good (ended ++ last ∷ []) []) ∙ h)).0)
+    (λ ended last x h.
+    let p = and_parts (list_all good ended) (good (last ++ x ∷ [])) (sym (all_push good ended (last ++ x ∷ [])) ∙ h) in
+    all_push good ended last ∙ and_from (list_all good ended) (good last) p.0 (front last x p.1))
 
 abbrev pub size : Cut → ℕ
 size k = length k.ended + length k.last

@@ -1,15 +1,16 @@
 -- Texts of lines: their first fault, and what a byte more does.
-use Rattle.std.proofs.Common.{◌≡◌, ◌≢◌, ℕ, Bool, true, false, ◌&&◌, List, [], ◌∷◌, ◌++◌, cond, Option, Some, None, refl, sym, ap, ◌∙◌, subst, inl, inr, append_assoc}
+use Rattle.std.proofs.Common.{◌≡◌, ◌≢◌, ℕ, ◌+◌, ◌<◌, Bool, true, false, ◌&&◌, List, [], ◌∷◌, ◌++◌, length, take, drop, get_or, take-append-drop, cond, Option, Some, None, refl, sym, ap, ◌∙◌, subst, append_assoc}
 use Rattle.std.specs.List.{list_all}
-use Rattle.std.proofs.lemmas.Bool.{cases_Bool, and_parts, and_from}
-use Rattle.std.proofs.lemmas.List.{append-nil}
+use Rattle.std.proofs.lemmas.Bool.{and_parts}
+use Rattle.std.proofs.lemmas.List.{append-nil, take_more}
 use Rattle.std.proofs.lemmas.List.Folds.{list_all-append}
 use Rattle.basket_sets.proofs.theory.Numerals.{all_push}
 use Rattle.basket_read.specs.declared.fault.ReadFault.{ReadFault}
+use Rattle.basket_read.specs.Fault.{ReturnsFault}
 use Rattle.basket_read.specs.Cut.{Cut, cut_at, parts_of}
 use Rattle.basket_read.specs.Fimi.{is_line_feed, or_else}
 use Rattle.basket_read.specs.Grammar.{fault_behind, FrontsAreGood, GoodIsFaultless, HasFault, FirstFaultIsExact}
-use Rattle.basket_read.proofs.theory.Cuts.{cut_ended, cut_joined, cut_behind}
+use Rattle.basket_read.proofs.theory.Cuts.{cut_ended, cut_joined, cut_behind, parts_good_before}
 
 -- what a choice gave
 pub chosen : {S : Type 0} (s x : S) (b : Bool) → ◌≡◌ {A = Option S} (Some s) (cond b (Some x) None) → (b ≡ true) × (s ≡ x)
@@ -19,6 +20,10 @@ chosen s x false e = absurd cc
 pub refused : {S : Type 0} (x : S) (b : Bool) → ◌≡◌ {A = Option S} None (cond b (Some x) None) → b ≡ false
 refused x true e = absurd cc
 refused x false e = refl
+
+-- a byte of a piece, behind those before it
+pub take_next : (bytes piece : List ℕ) (i : ℕ) → i < length piece → (bytes ++ take i piece) ++ get_or piece i 0 ∷ [] ≡ bytes ++ take (i + 1) piece
+take_next bytes piece i below = append_assoc bytes (take i piece) (get_or piece i 0 ∷ []) ∙ ap (λ l. bytes ++ l) (sym (take_more piece i 0 below))
 
 abbrev pub found : Bool → Option ReadFault → ReadFault → Option ReadFault
 found good later fault = cond good later (Some fault)
@@ -67,6 +72,13 @@ module _ (is_line : List ℕ → Bool) (fault_at : List ℕ → ℕ → ReadFaul
   -- what follows a fault changes nothing
   pub first_fault_stays : (a b : List ℕ) (fault : ReadFault) → after [] a ≡ Some fault → after [] (a ++ b) ≡ Some fault
   first_fault_stays a b fault e = fault_after-append [] a b ∙ ap (λ f. or_else f (after a b)) e
+
+  -- a fault at a byte of a piece is that of the piece
+  pub fault_in_piece : (bytes piece : List ℕ) (i : ℕ) (fault : ReadFault) → i < length piece
+      → ReturnsFault fault (after [] ((bytes ++ take i piece) ++ get_or piece i 0 ∷ [])) → ReturnsFault fault (after [] (bytes ++ piece))
+  fault_in_piece bytes piece i fault below told no_memory =
+      ap (λ l. after [] (bytes ++ l)) (sym (take-append-drop (i + 1) piece)) ∙ ap (after []) (sym (append_assoc bytes (take (i + 1) piece) (drop (i + 1) piece)))
+      ∙ first_fault_stays (bytes ++ take (i + 1) piece) (drop (i + 1) piece) fault (ap (after []) (sym (take_next bytes piece i below)) ∙ told no_memory)
 
   first_fault_push : (text : List ℕ) (byte : ℕ) (well : Bool) → after [] text ≡ None → good (text ++ byte ∷ []) ≡ well
       → after [] (text ++ byte ∷ []) ≡ cond well None (Some (fault_at text byte))
@@ -143,21 +155,10 @@ module _ (is_line : List ℕ → Bool) (fault_at : List ℕ → ℕ → ReadFaul
     line_fronts_are_good front (byte ∷ rest) h =
         line_front front byte (line_fronts_are_good (front ++ byte ∷ []) rest (ap is_line (append_assoc front (byte ∷ []) rest) ∙ h))
 
-    text_front : (text : List ℕ) (byte : ℕ) → good (text ++ byte ∷ []) ≡ true → good text ≡ true
-    text_front text byte h =
-        let k = cut_at is_line_feed text in
-        elim (cases_Bool (is_line_feed byte)) [
-          | inl e ↦ (and_parts (good text) (is_line []) (sym (all_push is_line (k.ended ++ k.last ∷ []) [])
-              ∙ sym (ap (λ (j : Cut). list_all is_line (j.ended ++ j.last ∷ [])) (cut_ended is_line_feed text byte e)) ∙ h)).0
-          | inr e ↦ let p = and_parts (list_all is_line k.ended) (is_line (k.last ++ byte ∷ [])) (sym (all_push is_line k.ended (k.last ++ byte ∷ []))
-              ∙ sym (ap (λ (j : Cut). list_all is_line (j.ended ++ j.last ∷ [])) (cut_joined is_line_feed text byte e)) ∙ h) in
-              all_push is_line k.ended k.last ∙ and_from (list_all is_line k.ended) (is_line k.last) p.0 (line_front k.last byte p.1)
-        ]
-
     pub fronts_are_good : FrontsAreGood good
     fronts_are_good front [] h = ap good (sym (append-nil front)) ∙ h
     fronts_are_good front (byte ∷ rest) h =
-        text_front front byte (fronts_are_good (front ++ byte ∷ []) rest (ap good (append_assoc front (byte ∷ []) rest) ∙ h))
+        parts_good_before is_line_feed is_line line_front front byte (fronts_are_good (front ++ byte ∷ []) rest (ap good (append_assoc front (byte ∷ []) rest) ∙ h))
 
     -- a good text has no fault behind any front
     faultless_behind : (before text : List ℕ) → good (before ++ text) ≡ true → after before text ≡ None

@@ -1,17 +1,20 @@
 -- How blanks and numbers go on.
-use Rattle.std.proofs.Common.{◌≡◌, ◌≢◌, ℕ, ◌+◌, ◌*◌, ◌-◌, ◌≤◌, Bool, true, false, ◌&&◌, ◌||◌, not, leb, eqb, List, [], ◌∷◌, ◌++◌, map, filter, None, refl, sym, ap, ◌∙◌, subst, inl, inr, append_assoc, arith}
+use Rattle.std.proofs.Common.{◌≡◌, ◌≢◌, ℕ, ◌+◌, ◌*◌, ◌-◌, ◌≤◌, Bool, true, false, ◌&&◌, ◌||◌, not, leb, eqb, List, [], ◌∷◌, ◌++◌, length, map, filter, None, refl, sym, ap, ◌∙◌, subst, inl, inr, append_assoc, arith}
 use Rattle.std.specs.List.{list_all}
 use Rattle.std.proofs.lemmas.Bool.{cases_Bool, and_parts, and_from, and_right, leb-true, le-leb, ne_eqb}
 use Rattle.std.proofs.lemmas.List.{append-nil, map-append}
 use Rattle.std.proofs.lemmas.List.Elements.{filter-append}
 use Rattle.std.proofs.lemmas.List.Folds.{list_all-append}
+use Rattle.basket_sets.specs.Itemset.{rising}
 use Rattle.basket_sets.specs.Number.{is_digit, value_of}
+use Rattle.basket_sets.proofs.theory.Members.{Member}
 use Rattle.basket_sets.proofs.theory.Numerals.{all_push, value_push}
+use Rattle.basket_sets.proofs.theory.Rising.{Member-into_rising}
 use Rattle.basket_read.specs.declared.numbers.Numbers.{Numbers}
 use Rattle.basket_read.specs.Cut.{Cut, cut_at}
-use Rattle.basket_read.specs.Fimi.{is_blank, is_nil, is_number, are_numbers, numbers_of, fault_at, MOST_NUMBER}
+use Rattle.basket_read.specs.Fimi.{is_blank, is_nil, is_number, are_numbers, numbers_of, basket_of_numbers, fault_at, MOST_NUMBER}
 use Rattle.basket_read.specs.Numbers.{numbers_state, begun_of, values_of, state_of, numbers_at, ended_with, number_ended, IsNumbersSoFar}
-use Rattle.basket_read.proofs.theory.Cuts.{cut, cut_ended, cut_joined, cut_on, cut_on_by}
+use Rattle.basket_read.proofs.theory.Cuts.{cut, cut_ended, cut_joined, cut_on, cut_on_by, parts_good_before}
 use Rattle.basket_read.proofs.theory.Grammar as grammar
 
 -- ---- bytes
@@ -132,14 +135,7 @@ takes_blanks numbers text (byte ∷ other ∷ blanks) good b some is =
 -- ---- fronts
 
 pub numbers_front : (text : List ℕ) (byte : ℕ) → are_numbers (text ++ byte ∷ []) ≡ true → are_numbers text ≡ true
-numbers_front text byte h =
-    let c = cut_at is_blank text in
-    elim (cases_Bool (is_blank byte)) [
-      | inl e ↦ (and_parts (all_numbers c) (is_number []) (sym (ap all_numbers (cut_ended is_blank text byte e) ∙ all_push is_number (c.ended ++ c.last ∷ []) []) ∙ h)).0
-      | inr e ↦ let p = and_parts (list_all is_number c.ended) (is_number (c.last ++ byte ∷ []))
-          (sym (ap all_numbers (cut_joined is_blank text byte e) ∙ all_push is_number c.ended (c.last ++ byte ∷ [])) ∙ h) in
-          all_push is_number c.ended c.last ∙ and_from (list_all is_number c.ended) (is_number c.last) p.0 (within_front MOST_NUMBER c.last byte p.1)
-    ]
+numbers_front = parts_good_before is_blank is_number (within_front MOST_NUMBER)
 
 -- numbers join the last part of a list that is cut at another byte
 pub numbers_joined : (k : ℕ) → is_digit k ≡ false → is_blank k ≡ false → (xs run : List ℕ) → are_numbers ((cut_at (λ byte. eqb byte k) xs).last ++ run) ≡ true
@@ -147,3 +143,15 @@ pub numbers_joined : (k : ℕ) → is_digit k ≡ false → is_blank k ≡ false
 numbers_joined k d b =
     cut_on (λ byte. eqb byte k) are_numbers (grammar.line_fronts_are_good are_numbers fault_at refl numbers_front)
     (λ text byte h. ne_eqb byte k (λ e. unlike (sym (refuses_other text k d b) ∙ ap (λ x. are_numbers (text ++ x ∷ [])) (sym e) ∙ h)))
+
+-- ---- sets of numbers
+
+-- a set of some numbers is not empty
+pub rising_nonempty : (numbers : List ℕ) → numbers ≢ [] → rising numbers ≢ []
+rising_nonempty [] some e = some refl
+rising_nonempty (number ∷ numbers) some e = absurd (subst (Member number) e (Member-into_rising (number ∷ numbers) number (inl refl)))
+
+-- some numbers are one basket, or none
+pub one_basket : (numbers : List ℕ) (weight : ℕ) → length (basket_of_numbers numbers weight) ≤ 1
+one_basket [] weight = omega arith
+one_basket (number ∷ numbers) weight = omega arith

@@ -1,9 +1,8 @@
 //! The end of a line of a text.
-ghost use Rattle.std.specs.Prelude.{◌≡◌, ◌<◌, ℕ, List, [], ◌++◌, length, false, OnOk, IfErr, IsTrue};
+ghost use Rattle.std.specs.Prelude.{◌≡◌, ◌≢◌, ◌<◌, ℕ, List, [], ◌++◌, length, false, OnOk, IfErr};
 ghost use Rattle.basket_sets.specs.declared.weighted.Weighted.{Weighted};
 ghost use Rattle.basket_sets.specs.Database.{MOST_BASKETS};
 ghost use Rattle.basket_sets.specs.ItemTable.{HasCounted};
-ghost use Rattle.basket_sets.specs.Support.{total_of};
 ghost use Rattle.basket_read.specs.Line.{line_state, line_at, line_ended};
 ghost use Rattle.basket_read.specs.Text.{basket_said, GoesOn, HasAlso, HasBaskets};
 
@@ -23,58 +22,41 @@ impl Text {
         ensures err { IfErr result (λ fault. fault ≡ ReadFault.Memory) }
     {
         self.line.end()?;
-        if self.count_line(counting) {
-            self.line.clear();
-            return Ok(());
+        if !self.line.numbers().is_empty() {
+            self.add_line(counting)?;
         }
-        self.keep_line()?;
         self.line.clear();
         Ok(())
     }
 
-    /// Counts the basket of the line that has ended, if it is to be counted, no baskets are kept, all
-    /// together don't weigh too much, its numbers rise and the table has a slot for each of them.
-    /// Returns whether it was counted.
+    /// Adds the basket of the line that has ended, unless all together weigh too much. It is counted
+    /// at once if it is to be, no baskets are kept, its numbers rise and the table has a slot for each.
     #[inline]
-    fn count_line(&mut self, counting: bool) -> bool
-        ensures lines { self.new.lines ≡ self.old.lines }
-        ensures line { self.new.line ≡ self.old.line }
-        ensures counted { IsTrue result → (past baskets : List Weighted) → HasCounted self.old.table past → HasBaskets self.old.heavy (past ++ self.old.baskets) baskets →
-            GoesOn counting past (HasAlso self.new (baskets ++ basket_said (line_state self.old.line))) }
-        ensures left { result ≡ false → self.new ≡ self.old }
-    {
-        let weight = u64::from(self.line.weight());
-        let room = Database::MAX_WEIGHT.saturating_sub(self.table.total());
-        if !counting || self.heavy || !self.baskets.is_empty() || weight > room {
-            return false;
-        }
-        self.table.add_rising(self.line.numbers(), weight)
-    }
-
-    /// Adds the basket of the line that has ended, if it has a number.
-    #[inline]
-    fn keep_line(&mut self) -> Result<(), ReadFault>
-        requires { self.old.heavy ≡ false → length self.old.baskets < MOST_BASKETS }
+    #[tactic(auto, using(crate::proofs::theory::Numbers::rising_nonempty))]
+    fn add_line(&mut self, counting: bool) -> Result<(), ReadFault>
+        requires few { self.old.heavy ≡ false → length self.old.baskets < MOST_BASKETS }
+        requires some { (line_state self.old.line).numbers.ended ≢ [] }
         ensures line { self.new.line ≡ self.old.line }
         ensures lines { self.new.lines ≡ self.old.lines }
-        ensures table { self.new.table ≡ self.old.table }
-        ensures baskets { (past baskets : List Weighted) → self.old.table.total ≡ total_of past → HasBaskets self.old.heavy (past ++ self.old.baskets) baskets →
-            OnOk result (HasBaskets self.new.heavy (past ++ self.new.baskets) (baskets ++ basket_said (line_state self.old.line))) }
+        ensures baskets { (past baskets : List Weighted) → HasCounted self.old.table past → HasBaskets self.old.heavy (past ++ self.old.baskets) baskets →
+            OnOk result (GoesOn counting past (HasAlso self.new (baskets ++ basket_said (line_state self.old.line)))) }
         ensures err { IfErr result (λ fault. fault ≡ ReadFault.Memory) }
     {
         let numbers = self.line.numbers();
-        if !numbers.is_empty() {
-            let weight = u64::from(self.line.weight());
-            let room = Database::MAX_WEIGHT.saturating_sub(self.table.total());
-            if weight > room.saturating_sub(self.baskets.total()) {
-                self.heavy = true;
-            }
-            if !self.heavy {
-                let basket = Itemset::from_items(self.alloc, numbers)?;
-                if self.baskets.push(basket, weight).is_err() {
-                    return Err(ReadFault::Memory);
-                }
-            }
+        let weight = u64::from(self.line.weight());
+        let room = Database::MAX_WEIGHT.saturating_sub(self.table.total());
+        if weight > room.saturating_sub(self.baskets.total()) {
+            self.heavy = true;
+        }
+        if self.heavy {
+            return Ok(());
+        }
+        if counting && self.baskets.is_empty() && self.table.add_rising(numbers, weight) {
+            return Ok(());
+        }
+        let basket = Itemset::from_items(self.alloc, numbers)?;
+        if self.baskets.push(basket, weight).is_err() {
+            return Err(ReadFault::Memory);
         }
         Ok(())
     }

@@ -1,7 +1,8 @@
 use Rattle.std.proofs.Common.{arith, take}
 use Rattle.std.proofs.lemmas.List.{length-take}
 use Rattle.basket_read.specs.Fimi.{basket_of_numbers}
-use Rattle.basket_csv.proofs.GatheredLemmas.{kept_few, one_basket, one_each}
+use Rattle.basket_read.proofs.theory.Numbers.{one_basket}
+use Rattle.basket_csv.proofs.GatheredLemmas.{kept_few, one_each}
 use Rattle.basket_csv.proofs.pairs.gathered_from.Goals as goal
 
 pub add-requires-clause-few : goal.add-requires-clause-few

@@ -2,7 +2,8 @@ use Rattle.std.proofs.Common.{◌++◌, arith, refl, sym, subst, ◌∙◌}
 use Rattle.csv.specs.Records.{fields_of}
 use Rattle.basket_csv.specs.Csv.{all_names, basket_of}
 use Rattle.basket_csv.specs.Names.{in_order}
-use Rattle.basket_csv.proofs.GatheredLemmas.{kept_few, one_basket, one_each}
+use Rattle.basket_read.proofs.theory.Numbers.{one_basket}
+use Rattle.basket_csv.proofs.GatheredLemmas.{kept_few, one_each}
 use Rattle.basket_csv.proofs.BasketLemmas.{FaultIs, added, no_fault, before_names}
 use Rattle.basket_csv.proofs.baskets.BasketsRecordCollector.add.Goals as goal
 

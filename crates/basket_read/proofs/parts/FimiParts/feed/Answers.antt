@@ -2,16 +2,15 @@ use Rattle.std.proofs.Common.{[], false, ◌++◌, Err, ap}
 use Rattle.basket_read.specs.Input.{IsInputSoFar}
 use Rattle.basket_read.proofs.TextLemmas.{uncounted}
 use Rattle.basket_read.proofs.InputLemmas.{settled_stays, some_on, faultless_input}
-use Rattle.basket_read.proofs.PartsLemmas.{fault_told, fed_told, fed_input, input_is}
 use Rattle.basket_read.proofs.parts.FimiParts.feed.Goals as goal
 
 pub returns-in-Some-clause-exact : goal.returns-in-Some-clause-exact
-returns-in-Some-clause-exact c = λ bytes fed _. settled_stays bytes c.args.piece.now c.in-Some.fault (fault_told c.args.self.now bytes fed c.in-Some.fault c.in-Some.is)
+returns-in-Some-clause-exact c = λ bytes fed _. settled_stays bytes c.args.piece.now c.in-Some.fault (rw c.in-Some.is at fed)
 
 pub returns-in-Some-clause-fed : goal.returns-in-Some-clause-fed
 returns-in-Some-clause-fed c = λ bytes fed _.
-    fed_told c.args.self.now.refusal c.args.self.now.input (bytes ++ c.args.piece.now) c.in-Some.fault c.in-Some.is
-    (settled_stays bytes c.args.piece.now c.in-Some.fault (fault_told c.args.self.now bytes fed c.in-Some.fault c.in-Some.is))
+    rw c.in-Some.is
+    (settled_stays bytes c.args.piece.now c.in-Some.fault (rw c.in-Some.is at fed))
 
 pub invariant_of-self : goal.invariant_of-self
 invariant_of-self c = record {
@@ -20,16 +19,16 @@ invariant_of-self c = record {
 
 pub returns-in-Ok-clause-exact : goal.returns-in-Ok-clause-exact
 returns-in-Ok-clause-exact c = λ bytes fed.
-    faultless_input c.take.new.self [] (bytes ++ c.args.piece.now) (uncounted [] (λ now. IsInputSoFar c.take.new.self now (bytes ++ c.args.piece.now)) (c.in-Ok.ensures [] bytes (input_is c.args.self.now bytes fed c.in_default.is)))
+    faultless_input c.take.new.self [] (bytes ++ c.args.piece.now) (uncounted [] (λ now. IsInputSoFar c.take.new.self now (bytes ++ c.args.piece.now)) (c.in-Ok.ensures [] bytes (rw c.in_default.is at fed)))
 
 pub returns-in-Ok-clause-fed : goal.returns-in-Ok-clause-fed
 returns-in-Ok-clause-fed c = λ bytes fed _.
-    fed_input c.args.self.now.refusal c.take.new.self (bytes ++ c.args.piece.now) c.in_default.is
-    (uncounted [] (λ now. IsInputSoFar c.take.new.self now (bytes ++ c.args.piece.now)) (c.in-Ok.ensures [] bytes (input_is c.args.self.now bytes fed c.in_default.is)))
+    rw c.in_default.is
+    (uncounted [] (λ now. IsInputSoFar c.take.new.self now (bytes ++ c.args.piece.now)) (c.in-Ok.ensures [] bytes (rw c.in_default.is at fed)))
 
 pub returns-in-Err-clause-exact : goal.returns-in-Err-clause-exact
-returns-in-Err-clause-exact c = λ bytes fed. c.in-Err.ensures [] bytes (input_is c.args.self.now bytes fed c.in_default.is)
+returns-in-Err-clause-exact c = λ bytes fed. c.in-Err.ensures [] bytes (rw c.in_default.is at fed)
 
 pub returns-in-Err-clause-fed : goal.returns-in-Err-clause-fed
 returns-in-Err-clause-fed c = λ bytes fed no_memory.
-    c.in-Err.ensures [] bytes (input_is c.args.self.now bytes fed c.in_default.is) (λ e. no_memory (ap Err e))
+    c.in-Err.ensures [] bytes (rw c.in_default.is at fed) (λ e. no_memory (ap Err e))

@@ -1,13 +1,13 @@
-use Rattle.std.proofs.Common.{◌+◌, ◌++◌, ◌∷◌, [], take, length, subst, sym, arith, ◌∙◌}
+use Rattle.std.proofs.Common.{◌+◌, ◌++◌, ◌∷◌, [], take, length, refl, subst, sym, arith, ◌∙◌}
 use Rattle.std.proofs.lemmas.List.{length-take, take_all}
 use Rattle.std.proofs.lemmas.Bool.{ltb-false}
 use Rattle.std.proofs.lemmas.Result.{err_from_is_err_and}
-use Rattle.basket_read.specs.Fimi.{first_fault}
 use Rattle.basket_read.specs.Fault.{ReturnsFault}
 use Rattle.basket_read.specs.Text.{GoesOn, IsTextSoFar}
 use Rattle.basket_read.proofs.RoomLemmas.{room_after}
 use Rattle.basket_read.proofs.RunLemmas.{behind_both}
-use Rattle.basket_read.proofs.TextLemmas.{take_next, fault_in_piece}
+use Rattle.basket_read.specs.Fimi.{fault_at, first_fault, is_line}
+use Rattle.basket_read.proofs.theory.Grammar.{fault_in_piece, take_next}
 use Rattle.basket_read.proofs.text.Text.feed.Goals as goal
 
 pub take-requires : goal.take-requires
@@ -31,7 +31,7 @@ returns-in_err-take-in-Some c = λ past bytes t.
     let so_far = subst (IsTextSoFar c.take_run.new.self before.0) (behind_both bytes c.args.piece.now c.loop-taken.taken c.in_ok-taken.field-0)
     (c.in_ok-taken.ensures.text before.0 (bytes ++ take c.loop-taken.taken c.args.piece.now) before.2) in
     let p = err_from_is_err_and c.from_residual-in_err-take-in-Some.result c.from_residual-in_err-take-in-Some.ensures.1 in
-    rw (p.1, p.2) (fault_in_piece bytes c.args.piece.now i c.in_err-take-in-Some.field-0.0 here.0
+    rw (p.1, p.2) (fault_in_piece is_line fault_at refl bytes c.args.piece.now i c.in_err-take-in-Some.field-0.0 here.0
     (subst (λ byte. ReturnsFault c.in_err-take-in-Some.field-0.0 (first_fault ((bytes ++ take i c.args.piece.now) ++ byte ∷ []))) (here.1 0) (c.in_err-take-in-Some.ensures before.0 (bytes ++ take i c.args.piece.now) so_far)))
 
 pub returns-in-None : goal.returns-in-None
