@@ -23,7 +23,6 @@ returns-clause-exact g c = λ working.
 pub returns-clause-light : goal.returns-clause-light
 returns-clause-light g c =
     let start : Start = record { first = first_number c.args.dialect.header; weighted = c.args.weight; known = c.args.known; counting = true } in
-    let say = records_say c.args.dialect.separator c.args.dialect.header (basket_fault c.args.weight) (baskets_said c.args.weight c.args.known) in
     light_items true c.say.result _ (c.say.ensures.said start refl (c.in_ok-baskets.ensures.read start refl refl refl))
 
 pub returns-clause-read_is_failed : goal.returns-clause-read_is_failed
