@@ -53,7 +53,7 @@ basket_said line = basket_of_numbers line.numbers.ended (unwrap_or line.weight 1
 abbrev pub GoesOn : Bool → List Weighted → (List Weighted → Type 0) → Type 0
 GoesOn counting past P = (now : List Weighted) × (counting ≡ false → now ≡ past) × P now
 
--- a text that has read more is of these bytes too, behind those that it was of, or the fault is the first of them all
+-- a text that reads more has these bytes after those that it had, or the fault is the first one of them all
 abbrev pub ReadsOn : {A : Type 0} → Text → Bool → List ℕ → Result A ReadFault → (A → Text) → Type 0
 ReadsOn text counting piece result new = (past : List Weighted) (bytes : List ℕ) → IsTextSoFar text past bytes →
     MatchResult result (λ a. GoesOn counting past (λ now. IsTextSoFar (new a) now (bytes ++ piece))) (λ fault. ReturnsFault fault (first_fault (bytes ++ piece)))

@@ -18,12 +18,9 @@ pub const MAX_BLOCK: usize = 1_048_576;
 /// The block of `read_fimi`.
 pub(crate) const BLOCK: usize = 65_536;
 
-/// How many bytes a batch has if its baskets are kept, since they take more than their text.
-const BATCH: usize = 2_097_152;
-
-/// How many bytes a batch has if its baskets are counted, since each batch has a table for each
-/// worker.
-const COUNTING_BATCH: usize = 8_388_608;
+/// How many bytes workers read side by side before the next are taken in. With fewer, threads are
+/// started more often, and it may take milliseconds until all of them run.
+const BATCH: usize = 8_388_608;
 
 /// Reads a FIMI input to its end, in blocks of 65,536 bytes.
 pub fn read_fimi<S: Source>(alloc: Global, reader: &mut S) -> Result<Database, ReadFault>
@@ -88,5 +85,5 @@ pub fn count_fimi_shared<R: Threads + Sync, S: Source>(
         return count_fimi(alloc, reader);
     }
     let feeder = Workers { rt, count: workers };
-    read_batches(&feeder, alloc, reader, COUNTING_BATCH, true)
+    read_batches(&feeder, alloc, reader, BATCH, true)
 }
