@@ -15,7 +15,7 @@ use Rattle.basket.specs.declared.fault.RunFault.{RunFault}
 use Rattle.basket.specs.declared.fault.RunFault.TheVariants.{Input, Sets, Uncounted, Mine, Write}
 use Rattle.basket.specs.Outcome.{outcome, outcome_of, outcome_for, of_mining}
 use Rattle.basket_plan.specs.Plan.{Question}
-use Rattle.basket.specs.Engine.{FailsInput, IsContentsFault, IsOutcomeFault, IsReadable, MakesReport, RefusesInput, RefusesSets, WritesFront, WritesReport}
+use Rattle.basket.specs.Engine.{FailsInput, IsContentsFault, IsOutcomeFault, IsReadable, MakesReport, RefusesInput, RefusesSets, WritesPrefix, WritesReport}
 
 abbrev input_fault : ReadFault → Result Unit RunFault → ReadFault
 input_fault other (Err (Input fault)) = fault
@@ -86,10 +86,10 @@ pub writes_report : (left : Option (List ℕ)) (question : Question) (before aft
 writes_report None question before after text is taken = tt
 writes_report (Some bytes) question before after text is taken = (text, is, taken)
 
-pub writes_front : (left : Option (List ℕ)) (question : Question) (before after : Option (List ℕ)) (text : List ℕ)
-    → IfSome left (λ bytes. outcome bytes question ≡ Ok text) → ((n : ℕ) × (n ≤ length text) × Appends before after (take n text)) → WritesFront left question before after
-writes_front None question before after text is front = tt
-writes_front (Some bytes) question before after text is (n, small, front) = (text, n, is, small, front)
+pub writes_prefix : (left : Option (List ℕ)) (question : Question) (before after : Option (List ℕ)) (text : List ℕ)
+    → IfSome left (λ bytes. outcome bytes question ≡ Ok text) → ((n : ℕ) × (n ≤ length text) × Appends before after (take n text)) → WritesPrefix left question before after
+writes_prefix None question before after text is taken = tt
+writes_prefix (Some bytes) question before after text is (n, small, taken) = (text, n, is, small, taken)
 
 abbrev answer : RunFault → Result Unit RunFault
 answer fault = Err fault

@@ -73,8 +73,8 @@ abbrev pub WritesCounts : Layout → Option (List ℕ) → Option (List ℕ) →
 WritesCounts layout asked left before after = OfBoth asked left (λ sets bytes. (text : List ℕ) × (count_outcome layout sets bytes ≡ Ok text) × Appends before after text)
 
 -- the writer took a prefix of them, which may be all of it
-abbrev pub WritesCountsFront : Layout → Option (List ℕ) → Option (List ℕ) → Option (List ℕ) → Option (List ℕ) → Type 0
-WritesCountsFront layout asked left before after =
+abbrev pub WritesCountsPrefix : Layout → Option (List ℕ) → Option (List ℕ) → Option (List ℕ) → Option (List ℕ) → Type 0
+WritesCountsPrefix layout asked left before after =
     OfBoth asked left (λ sets bytes. (text : List ℕ) × (count : ℕ) × (count_outcome layout sets bytes ≡ Ok text) × (count ≤ length text) × Appends before after (take count text))
 
 -- the bytes of the sets have no fault, if they are known

@@ -18,8 +18,8 @@ abbrev pub WritesReport : Option (List ℕ) → Question → Option (List ℕ) �
 WritesReport left question before after = IfSome left (λ bytes. (text : List ℕ) × (outcome bytes question ≡ Ok text) × Appends before after text)
 
 -- the writer took a prefix of that report, which may be all of it
-abbrev pub WritesFront : Option (List ℕ) → Question → Option (List ℕ) → Option (List ℕ) → Type 0
-WritesFront left question before after =
+abbrev pub WritesPrefix : Option (List ℕ) → Question → Option (List ℕ) → Option (List ℕ) → Type 0
+WritesPrefix left question before after =
     IfSome left (λ bytes. (text : List ℕ) × (count : ℕ) × (outcome bytes question ≡ Ok text) × (count ≤ length text) × Appends before after (take count text))
 
 -- except if memory is out, the outcome is that fault of the input

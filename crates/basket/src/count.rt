@@ -4,7 +4,7 @@ ghost use Rattle.std.specs.Io.KnownBytes.{Keeps};
 ghost use Rattle.basket_read.specs.declared.fault.ReadFault.{ReadFault as InputFault};
 ghost use Rattle.basket_report.specs.Report.{report_of};
 ghost use Rattle.basket.specs.Contents.{wording_with};
-ghost use Rattle.basket.specs.Count.{IsCountFault, IsCountsFault, IsSumsFault, MakesCounts, WritesCounts, WritesCountsFront, counts_in, counts_over};
+ghost use Rattle.basket.specs.Count.{IsCountFault, IsCountsFault, IsSumsFault, MakesCounts, WritesCounts, WritesCountsPrefix, counts_in, counts_over};
 ghost use Rattle.basket.specs.Prepared.{prepared_text};
 ghost use Rattle.mine_sets.specs.Asked.{asked_of};
 
@@ -44,7 +44,7 @@ pub fn run_count<R: RandomSource + Threads + Sync, S: Source, T: Source, W: Sink
 
     // What is written, for readers and a writer that report their bytes.
     ensures report { OnOk result (WritesCounts plan.now.layout (S.left sets.old) (T.left reader.old) (W.taken writer.old) (W.taken writer.new)) }
-    ensures front { result ≡ Err RunFault.Write → WritesCountsFront plan.now.layout (S.left sets.old) (T.left reader.old) (W.taken writer.old) (W.taken writer.new) }
+    ensures prefix { result ≡ Err RunFault.Write → WritesCountsPrefix plan.now.layout (S.left sets.old) (T.left reader.old) (W.taken writer.old) (W.taken writer.new) }
     ensures whole { result ≡ Err RunFault.Write → W.ends_in_flush writer.new ≡ true → WritesCounts plan.now.layout (S.left sets.old) (T.left reader.old) (W.taken writer.old) (W.taken writer.new) }
     ensures flushed { OnOk result (W.ends_in_flush writer.new ≡ true) }
     ensures nothing { IfErr result (λ fault. fault ≢ RunFault.Write → Keeps (W.taken writer.old) (W.taken writer.new)) }

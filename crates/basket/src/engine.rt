@@ -2,7 +2,7 @@ ghost use Rattle.std.specs.Prelude.{◌≡◌, ◌≢◌, ◌↔◌, true, false
 ghost use Rattle.std.specs.Io.KnownBytes.{Keeps};
 ghost use Rattle.basket_core.specs.declared.fault.MineFault.{MineFault as MiningFault};
 ghost use Rattle.basket_read.specs.declared.fault.ReadFault.{ReadFault as InputFault};
-ghost use Rattle.basket.specs.Engine.{IsContentsFault, MakesReport, WritesReport, WritesFront, RefusesInput, RefusesSets, FailsInput};
+ghost use Rattle.basket.specs.Engine.{IsContentsFault, MakesReport, WritesReport, WritesPrefix, RefusesInput, RefusesSets, FailsInput};
 ghost use Rattle.basket.specs.Prepared.{prepared_text};
 ghost use Rattle.basket.specs.Outcome.{report_of_baskets, outcome_for};
 
@@ -41,7 +41,7 @@ pub fn run<R: RandomSource + Threads + Sync, S: Source, W: Sink>(
 
     // What is written, for a reader and a writer that report their bytes.
     ensures report { OnOk result (WritesReport (S.left reader.old) plan.now.question (W.taken writer.old) (W.taken writer.new)) }
-    ensures front { result ≡ Err RunFault.Write → WritesFront (S.left reader.old) plan.now.question (W.taken writer.old) (W.taken writer.new) }
+    ensures prefix { result ≡ Err RunFault.Write → WritesPrefix (S.left reader.old) plan.now.question (W.taken writer.old) (W.taken writer.new) }
     ensures whole { result ≡ Err RunFault.Write → W.ends_in_flush writer.new ≡ true → WritesReport (S.left reader.old) plan.now.question (W.taken writer.old) (W.taken writer.new) }
     ensures flushed { OnOk result (W.ends_in_flush writer.new ≡ true) }
     ensures nothing { IfErr result (λ fault. fault ≢ RunFault.Write → Keeps (W.taken writer.old) (W.taken writer.new)) }

@@ -1,7 +1,7 @@
 //! A report that is made but not written yet.
 ghost use Rattle.std.specs.Prelude.{◌≡◌, ◌↔◌, List, true, false, IfOk, IsOk, OnErr, OnOk};
 ghost use Rattle.std.specs.Io.KnownBytes.{Appends};
-ghost use Rattle.basket_report.specs.Bytes.{TakesFront, joined};
+ghost use Rattle.basket_report.specs.Bytes.{TakesPrefix, joined};
 ghost use Rattle.basket_report.specs.Report.{report_of};
 ghost use Rattle.basket_report.specs.Style.{wording_of};
 ghost use Rattle.basket_rules.specs.Condensed.{closed_in, closed_of, maximal_in, maximal_of};
@@ -78,7 +78,7 @@ impl PreparedReport {
     pub fn write<R: Threads + Sync, W: Sink>(self, rt: &R, writer: &mut W) -> Result<(), Failed>
         requires { W.has_failed writer.old ≡ false }
         ensures ok { OnOk result (Appends (W.taken writer.old) (W.taken writer.new) (prepared_text self)) }
-        ensures err { OnErr result (TakesFront (W.taken writer.old) (W.taken writer.new) (prepared_text self)) }
+        ensures err { OnErr result (TakesPrefix (W.taken writer.old) (W.taken writer.new) (prepared_text self)) }
         ensures whole { W.ends_in_flush writer.new ≡ true → Appends (W.taken writer.old) (W.taken writer.new) (prepared_text self) }
         ensures flushed { OnOk result (W.ends_in_flush writer.new ≡ true) }
         ensures failed { (W.has_failed writer.new ≡ false) ↔ IsOk result }

@@ -8,7 +8,7 @@ use Rattle.basket_read.specs.Fimi.{is_blank, is_nil, are_numbers}
 use Rattle.basket_counts.specs.Counts.{is_open, is_close, is_count, is_tail_of, is_tail, is_line_of, is_line, is_good, fault_at}
 use Rattle.basket_read.proofs.theory.Cuts.{good_before}
 use Rattle.basket_read.proofs.theory.Numbers.{within_front, numbers_front}
-use Rattle.basket_read.specs.Grammar.{FrontsAreGood, GoodIsFaultless, FirstFaultIsExact}
+use Rattle.basket_read.specs.Grammar.{PrefixesAreGood, GoodIsFaultless, FirstFaultIsExact}
 use Rattle.basket_read.proofs.theory.Grammar as grammar
 
 -- ---- a line
@@ -46,13 +46,13 @@ before_other (text ∷ other ∷ others) last byte h = absurd cc
 pub line_front : (line : List ℕ) (byte : ℕ) → is_line (line ++ byte ∷ []) ≡ true → is_line line ≡ true
 line_front = good_before is_open is_line_of before_open before_other
 
-pub line_fronts_are_good : FrontsAreGood is_line
-line_fronts_are_good = grammar.line_fronts_are_good is_line fault_at refl line_front
+pub line_prefixes_are_good : PrefixesAreGood is_line
+line_prefixes_are_good = grammar.line_prefixes_are_good is_line fault_at refl line_front
 
 -- ---- a text
 
-pub fronts_are_good : FrontsAreGood is_good
-fronts_are_good = grammar.fronts_are_good is_line fault_at refl line_front
+pub prefixes_are_good : PrefixesAreGood is_good
+prefixes_are_good = grammar.prefixes_are_good is_line fault_at refl line_front
 
 pub good_is_faultless : GoodIsFaultless is_good fault_at
 good_is_faultless = grammar.good_is_faultless is_line fault_at refl line_front

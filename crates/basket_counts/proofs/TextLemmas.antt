@@ -17,7 +17,7 @@ use Rattle.basket_counts.specs.ListedSets.{HasEntries}
 use Rattle.basket_counts.specs.Text.{IsTextSoFar}
 use Rattle.basket_read.proofs.theory.Cuts.{cut, cut_ended, cut_on, size_after}
 use Rattle.basket_counts.proofs.LineLemmas.{no_line_feed, line_says, digit_says}
-use Rattle.basket_counts.proofs.GrammarLemmas.{line_front, line_fronts_are_good}
+use Rattle.basket_counts.proofs.GrammarLemmas.{line_front, line_prefixes_are_good}
 use Rattle.basket_read.proofs.theory.Grammar as grammar
 
 -- what more lines say
@@ -46,7 +46,7 @@ module _ (text : SetText) (number : ℕ) (bytes : List ℕ) (t : IsTextSoFar tex
   -- the text goes on as its line does
   pub goes_on : (line : SetLine) (run : List ℕ) → IsLineSoFar line (last ++ run) → IsTextSoFar (record text { line = line }) number (bytes ++ run)
   goes_on line run s =
-      let joined = cut_on is_line_feed is_line line_fronts_are_good no_line_feed bytes run s.good in
+      let joined = cut_on is_line_feed is_line line_prefixes_are_good no_line_feed bytes run s.good in
       record {
         faultless = (grammar.good_is_faultless is_line (fault_at_from number) refl line_front (bytes ++ run)).0
             (ap (λ (j : Cut). list_all is_line (j.ended ++ j.last ∷ [])) joined

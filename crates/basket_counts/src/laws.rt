@@ -1,16 +1,16 @@
 //! Laws on the grammar of counted sets and on their faults.
 ghost use Rattle.basket_counts.specs.Counts.{fault_at, is_good, is_line};
 ghost use Rattle.basket_counts.specs.Laws.{ListsAreReadBack};
-ghost use Rattle.basket_read.specs.Grammar.{FirstFaultIsExact, FrontsAreGood, GoodIsFaultless};
+ghost use Rattle.basket_read.specs.Grammar.{FirstFaultIsExact, PrefixesAreGood, GoodIsFaultless};
 
 /// Each prefix of a good line is one.
-pub fn line_fronts_are_good()
-    ensures { FrontsAreGood is_line }
+pub fn line_prefixes_are_good()
+    ensures { PrefixesAreGood is_line }
 {}
 
 /// Each prefix of a good text is good.
-pub fn fronts_are_good()
-    ensures { FrontsAreGood is_good }
+pub fn prefixes_are_good()
+    ensures { PrefixesAreGood is_good }
 {}
 
 /// A text is good, or it has a first fault, and not both.

@@ -12,7 +12,7 @@ use Rattle.basket_read.specs.declared.fault.ReadFault.{ReadFault}
 use Rattle.basket_read.specs.declared.fault.ReadFault.TheVariants.{Heavy, TooLong}
 use Rattle.basket_read.specs.Cut.{Cut, cut_at, cut_more}
 use Rattle.basket_read.specs.Fimi.{MARK, MOST_BYTES, answer_of, baskets_of, fault_at, fimi_of, first_fault, is_good, is_line_feed, or_else, text_of}
-use Rattle.basket_read.specs.Grammar.{FrontsAreGood, GoodIsFaultless}
+use Rattle.basket_read.specs.Grammar.{PrefixesAreGood, GoodIsFaultless}
 use Rattle.basket_read.specs.Laws.{LinesSayTheirs}
 use Rattle.basket_sets.specs.declared.weighted.Weighted.{Weighted}
 use Rattle.basket_sets.specs.Database.{MOST_WEIGHT}
@@ -74,7 +74,7 @@ has_text (a ∷ b ∷ c ∷ front) = go (starts_with nat_eq (a ∷ b ∷ c ∷ [
       before = λ rest. ap (λ m. cond m (with_line_feed front ++ rest) (with_line_feed (a ∷ b ∷ c ∷ front) ++ rest)) is;
     }
 
-module _ (fronts_are_good : FrontsAreGood is_good) (good_is_faultless : GoodIsFaultless is_good fault_at) (lines_say_theirs : LinesSayTheirs) where
+module _ (prefixes_are_good : PrefixesAreGood is_good) (good_is_faultless : GoodIsFaultless is_good fault_at) (lines_say_theirs : LinesSayTheirs) where
   -- a good text has no mark
   unmarked : (bytes : List ℕ) → is_good bytes ≡ true → text_of bytes ≡ bytes
   unmarked [] good = refl
@@ -87,7 +87,7 @@ module _ (fronts_are_good : FrontsAreGood is_good) (good_is_faultless : GoodIsFa
 
       go : (m : Bool) → starts_with nat_eq (byte ∷ bytes) MARK ≡ m → cond m (drop 3 (byte ∷ bytes)) (byte ∷ bytes) ≡ byte ∷ bytes
       go false is = refl
-      go true is = absurd (false≢true (subst (λ b. is_good (b ∷ []) ≡ true) (first is) (fronts_are_good (byte ∷ []) bytes good)))
+      go true is = absurd (false≢true (subst (λ b. is_good (b ∷ []) ≡ true) (first is) (prefixes_are_good (byte ∷ []) bytes good)))
 
   -- ---- inputs
 

@@ -11,7 +11,7 @@ use Rattle.basket_parts.specs.Laws.{CombiningKeepsCounts, CombiningKeepsFrequent
 use Rattle.basket_plan.specs.declared.layout.Form.TheVariants.{Fimi}
 use Rattle.basket_plan.specs.declared.layout.Layout.{Layout}
 use Rattle.basket_read.specs.Fimi.{MOST_BYTES, fault_at, fimi_of, is_good}
-use Rattle.basket_read.specs.Grammar.{FrontsAreGood, GoodIsFaultless}
+use Rattle.basket_read.specs.Grammar.{PrefixesAreGood, GoodIsFaultless}
 use Rattle.basket_read.specs.Laws.{LinesSayTheirs}
 use Rattle.basket_report.specs.Report.{report_of}
 use Rattle.basket_report.specs.Style.{Numbered}
@@ -63,12 +63,12 @@ some_parts [] last [] said none = cc
 some_parts (front ∷ fronts) last [] said none = cc
 some_parts fronts last (part ∷ parts) said none = cc
 
-pub runs_over_parts_agree : FrontsAreGood is_good → GoodIsFaultless is_good fault_at → LinesSayTheirs → CombiningKeepsSets → CombiningKeepsCounts → CombiningKeepsFrequent → RunsOverPartsAgree
-runs_over_parts_agree fronts_are_good good_is_faultless lines_say_theirs keeps_sets keeps_counts keeps_frequent fronts last asked baskets sets texts share question good read rise have counts few =
-    let cut = cuts_are_parts fronts_are_good good_is_faultless lines_say_theirs fronts last baskets good in
+pub runs_over_parts_agree : PrefixesAreGood is_good → GoodIsFaultless is_good fault_at → LinesSayTheirs → CombiningKeepsSets → CombiningKeepsCounts → CombiningKeepsFrequent → RunsOverPartsAgree
+runs_over_parts_agree prefixes_are_good good_is_faultless lines_say_theirs keeps_sets keeps_counts keeps_frequent fronts last asked baskets sets texts share question good read rise have counts few =
+    let cut = cuts_are_parts prefixes_are_good good_is_faultless lines_say_theirs fronts last baskets good in
     let parts = cut.0 in
     let whole = cut.2 in
-    let light = (from_ok fronts_are_good good_is_faultless lines_say_theirs (text_cut fronts last) baskets good).light in
+    let light = (from_ok prefixes_are_good good_is_faultless lines_say_theirs (text_cut fronts last) baskets good).light in
     let same = texts_are_counts question.layout asked sets read (parts_cut fronts last) parts texts cut.1 counts in
     ap (λ text. outcome text (of_counts_at question share)) same
     ∙ parts_answer_as_the_whole keeps_sets keeps_counts keeps_frequent parts share sets question (some_parts fronts last parts cut.1)

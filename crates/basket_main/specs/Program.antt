@@ -1,8 +1,8 @@
 -- What a program does with the words of its command line.
 use Rattle.std.specs.Prelude.{◌≡◌, ◌≢◌, ℕ, Bool, true, false, List, [], ◌∷◌, ◌++◌, Option, Some, None, Ok, Err, string_bytes, ⊤}
 use Rattle.std.specs.Io.KnownBytes.{Appends, Keeps}
-use Rattle.basket.specs.Count.{IsCountFault, WritesCounts, WritesCountsFront}
-use Rattle.basket.specs.Engine.{FailsInput, RefusesInput, RefusesSets, WritesFront, WritesReport}
+use Rattle.basket.specs.Count.{IsCountFault, WritesCounts, WritesCountsPrefix}
+use Rattle.basket.specs.Engine.{FailsInput, RefusesInput, RefusesSets, WritesPrefix, WritesReport}
 use Rattle.basket.specs.declared.fault.RunFault.{RunFault}
 use Rattle.basket.specs.declared.fault.RunFault.TheVariants.{Input, Mine, Write}
 use Rattle.basket_plan.specs.Command.{asks_help, invocation_of_words, is_help}
@@ -13,7 +13,7 @@ use Rattle.basket_plan.specs.declared.invocation.Invocation.{Invocation}
 use Rattle.basket_plan.specs.declared.invocation.Task.{Task}
 use Rattle.basket_plan.specs.declared.invocation.Task.TheVariants.{Report, Count}
 use Rattle.basket_read.specs.declared.fault.ReadFault.TheVariants.{Read}
-use Rattle.basket_report.specs.Bytes.{TakesFront}
+use Rattle.basket_report.specs.Bytes.{TakesPrefix}
 use Rattle.basket_main.specs.Log.{Grows}
 use Rattle.basket_main.specs.declared.ending.Ending.{Ending}
 use Rattle.basket_main.specs.declared.ending.Ending.TheVariants.{Refused, Unanswered, NotOpened, Ran}
@@ -56,8 +56,8 @@ WritesAll bytes (Report plan) input before after = WritesReport (bytes input) pl
 WritesAll bytes (Count plan sets) input before after = WritesCounts plan.layout (bytes sets) (bytes input) before after
 
 abbrev pub WritesSome : (Origin → Option (List ℕ)) → Task → Origin → Option (List ℕ) → Option (List ℕ) → Type 0
-WritesSome bytes (Report plan) input before after = WritesFront (bytes input) plan.question before after
-WritesSome bytes (Count plan sets) input before after = WritesCountsFront plan.layout (bytes sets) (bytes input) before after
+WritesSome bytes (Report plan) input before after = WritesPrefix (bytes input) plan.question before after
+WritesSome bytes (Count plan sets) input before after = WritesCountsPrefix plan.layout (bytes sets) (bytes input) before after
 
 -- the text of help if that was asked for, or the report of what was run, then flushed; a prefix of these if the output failed, and all of a report if only the flush failed; else nothing
 abbrev pub Writes : (Origin → Option (List ℕ)) → Ending → Bool → Option (List ℕ) → Option (List ℕ) → Type 0
@@ -65,7 +65,7 @@ Writes bytes (Ran invocation (Ok x)) flushed before after = WritesAll bytes invo
 Writes bytes (Ran invocation (Err Write)) flushed before after =
     WritesSome bytes invocation.task invocation.input before after × (flushed ≡ true → WritesAll bytes invocation.task invocation.input before after)
 Writes bytes (Refused (Help text)) flushed before after = Appends before after (string_bytes text)
-Writes bytes (Unanswered text) flushed before after = TakesFront before after (string_bytes text)
+Writes bytes (Unanswered text) flushed before after = TakesPrefix before after (string_bytes text)
 Writes bytes _ flushed before after = Keeps before after
 
 -- ---- the fault of a run

@@ -8,7 +8,7 @@ use Rattle.basket_read.specs.Cut.{cut_at}
 use Rattle.basket_read.specs.Fimi.{is_blank, is_times, is_line_feed, is_nil, is_number, are_numbers, is_weight, is_line_of, is_line, is_good, fault_at}
 use Rattle.basket_read.proofs.theory.Cuts.{good_before, stands_nowhere}
 use Rattle.basket_read.proofs.theory.Numbers.{numbers_front, refuses_other}
-use Rattle.basket_read.specs.Grammar.{FrontsAreGood, GoodIsFaultless, FirstFaultIsExact}
+use Rattle.basket_read.specs.Grammar.{PrefixesAreGood, GoodIsFaultless, FirstFaultIsExact}
 use Rattle.basket_read.proofs.theory.Grammar as grammar
 
 -- ---- a line
@@ -49,8 +49,8 @@ no_line_feed = stands_nowhere is_times is_line_of 10 refl ends
 
 -- ---- a text
 
-pub fronts_are_good : FrontsAreGood is_good
-fronts_are_good = grammar.fronts_are_good is_line fault_at refl line_front
+pub prefixes_are_good : PrefixesAreGood is_good
+prefixes_are_good = grammar.prefixes_are_good is_line fault_at refl line_front
 
 pub good_is_faultless : GoodIsFaultless is_good fault_at
 good_is_faultless = grammar.good_is_faultless is_line fault_at refl line_front

@@ -39,7 +39,7 @@ module _ (text : Text) (past : List Weighted) (bytes : List ℕ) (t : IsTextSoFa
   pub goes_on : (line : Line) (run : List ℕ) → IsLineSoFar line (last ++ run) → IsTextSoFar (with_line line) past (bytes ++ run)
   goes_on line run s =
       let k = cut_at is_line_feed bytes in
-      let joined = cut_on is_line_feed is_line (grammar.line_fronts_are_good is_line fault_at refl line_front) no_line_feed bytes run s.good in
+      let joined = cut_on is_line_feed is_line (grammar.line_prefixes_are_good is_line fault_at refl line_front) no_line_feed bytes run s.good in
       record {
         faultless = (good_is_faultless (bytes ++ run)).0
             (ap (λ (j : Cut). list_all is_line (j.ended ++ j.last ∷ [])) joined

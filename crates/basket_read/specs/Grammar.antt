@@ -1,15 +1,15 @@
--- Texts of bytes, by which of them are good and by the fault of a byte behind a good one.
+-- Texts of bytes, by which of them are good and by the fault of a byte after a good one.
 use Rattle.std.specs.Prelude.{◌≡◌, ◌↔◌, ℕ, Bool, true, false, List, [], ◌∷◌, ◌++◌, if◌then◌else◌, Option, Some, None}
 use Rattle.basket_read.specs.declared.fault.ReadFault.{ReadFault}
 
--- the first fault in a text that goes on after a good front: at the first byte with which the text so far is not good
+-- the first fault in a text that goes on after a good prefix: at the first byte with which the text so far is not good
 abbrev pub fault_behind : (List ℕ → Bool) → (List ℕ → ℕ → ReadFault) → List ℕ → List ℕ → Option ReadFault
 fault_behind is_good fault_at before [] = None
 fault_behind is_good fault_at before (byte ∷ text) = if is_good (before ++ byte ∷ []) then fault_behind is_good fault_at (before ++ byte ∷ []) text else Some (fault_at before byte)
 
--- each front of a good text is good
-abbrev pub FrontsAreGood : (List ℕ → Bool) → Type 0
-FrontsAreGood is_good = (front rest : List ℕ) → is_good (front ++ rest) ≡ true → is_good front ≡ true
+-- each prefix of a good text is good
+abbrev pub PrefixesAreGood : (List ℕ → Bool) → Type 0
+PrefixesAreGood is_good = (prefix rest : List ℕ) → is_good (prefix ++ rest) ≡ true → is_good prefix ≡ true
 
 -- a text is good, or it has a first fault, and not both
 abbrev pub GoodIsFaultless : (List ℕ → Bool) → (List ℕ → ℕ → ReadFault) → Type 0

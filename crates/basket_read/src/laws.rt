@@ -1,11 +1,11 @@
 //! Laws on the grammar of FIMI texts and on their faults.
 ghost use Rattle.basket_read.specs.Fimi.{fault_at, is_good};
-ghost use Rattle.basket_read.specs.Grammar.{FirstFaultIsExact, FrontsAreGood, GoodIsFaultless};
+ghost use Rattle.basket_read.specs.Grammar.{FirstFaultIsExact, PrefixesAreGood, GoodIsFaultless};
 ghost use Rattle.basket_read.specs.Laws.{LinesSayTheirs, SettledFaultsStay, UnsettledMayBeGood};
 
 /// Each prefix of a good text is good.
-pub fn fronts_are_good()
-    ensures { FrontsAreGood is_good }
+pub fn prefixes_are_good()
+    ensures { PrefixesAreGood is_good }
 {}
 
 /// A text is good, or it has a first fault, and not both.

@@ -7,7 +7,7 @@ use Rattle.std.proofs.lemmas.List.{length-append}
 use Rattle.std.proofs.KnownBytes.{Appends-trans}
 use Rattle.std.specs.Io.KnownBytes.{Appends, Keeps}
 use Rattle.basket_stream.specs.declared.failed.Failed.{Failed}
-use Rattle.basket_report.specs.Bytes.{IsWritten, TakesFront}
+use Rattle.basket_report.specs.Bytes.{IsWritten, TakesPrefix}
 use Rattle.basket_report.proofs.TextLemmas.{take_past}
 
 -- what is kept afterwards is all of it
@@ -18,13 +18,13 @@ kept (Some x) (Some y) None text all same = absurd same
 kept (Some x) (Some y) (Some z) text all same = same ∙ all
 
 -- where all is taken and then kept, so is a front
-pub front_on_err : (result : Result Unit Failed) (before now after : Option (List ℕ)) (text : List ℕ) → Appends before now text → Keeps now after → OnErr result (TakesFront before after text)
+pub front_on_err : (result : Result Unit Failed) (before now after : Option (List ℕ)) (text : List ℕ) → Appends before now text → Keeps now after → OnErr result (TakesPrefix before after text)
 front_on_err (Ok x) before now after text all same = tt
 front_on_err (Err fault) before now after text all same = (length text, omega arith, subst (Appends before after) (sym (take-length text)) (kept before now after text all same))
 
 -- bytes are written, as far as the writer goes
 pub more_written : (start before after : Option (List ℕ)) (was_failed was_flush failed flush : Bool) (text bytes : List ℕ) (result : Result Unit Failed) → was_failed ≡ false → IsWritten start before was_failed was_flush text
-    → OnOk result (Appends before after bytes) → OnErr result (TakesFront before after bytes) → OnErr result (flush ≡ false) → (failed ≡ false) ↔ IsOk result → IsWritten start after failed flush (text ++ bytes)
+    → OnOk result (Appends before after bytes) → OnErr result (TakesPrefix before after bytes) → OnErr result (flush ≡ false) → (failed ≡ false) ↔ IsOk result → IsWritten start after failed flush (text ++ bytes)
 more_written start before after was_failed was_flush failed flush text bytes (Ok x) fresh is ok err last told = record {
   working = λ e. Appends-trans start before after text bytes (is.working fresh) ok;
   failed = λ e. absurd (false≢true (sym (told.1 refl) ∙ e));

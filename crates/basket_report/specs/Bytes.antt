@@ -9,11 +9,11 @@ abbrev pub joined : List (Vec ℕ Global) → List ℕ
 joined texts = flat_map (λ text. text.items) texts
 
 -- the writer took a prefix of the text, which may be all of it
-abbrev pub TakesFront : Option (List ℕ) → Option (List ℕ) → List ℕ → Type 0
-TakesFront before after text = (count : ℕ) × (count ≤ length text) × Appends before after (take count text)
+abbrev pub TakesPrefix : Option (List ℕ) → Option (List ℕ) → List ℕ → Type 0
+TakesPrefix before after text = (count : ℕ) × (count ≤ length text) × Appends before after (take count text)
 
 -- the text was written since the start, or a prefix of it if a write has failed
 pub record IsWritten (start taken : Option (List ℕ)) (has_failed ends_in_flush : Bool) (text : List ℕ) : Type 0 where
   pub working : has_failed ≡ false → Appends start taken text
-  pub failed : has_failed ≡ true → TakesFront start taken text
+  pub failed : has_failed ≡ true → TakesPrefix start taken text
   pub at_write : has_failed ≡ true → ends_in_flush ≡ false

@@ -1,7 +1,7 @@
 //! Bytes that are written.
 ghost use Rattle.std.specs.Prelude.{◌≡◌, ◌↔◌, ◌++◌, ℕ, List, Option, true, false, IsOk, OnErr, OnOk};
 ghost use Rattle.std.specs.Io.KnownBytes.{Appends};
-ghost use Rattle.basket_report.specs.Bytes.{IsWritten, TakesFront, joined};
+ghost use Rattle.basket_report.specs.Bytes.{IsWritten, TakesPrefix, joined};
 
 use basket_core::{Failed, Sink};
 
@@ -20,7 +20,7 @@ pub fn send_bytes<W: Sink>(writer: &mut W, bytes: &[u8])
 pub fn write_bytes<W: Sink>(writer: &mut W, bytes: &[u8]) -> Result<(), Failed>
     requires { W.has_failed writer.old ≡ false }
     ensures ok { OnOk result (Appends (W.taken writer.old) (W.taken writer.new) bytes.now) }
-    ensures err { OnErr result (TakesFront (W.taken writer.old) (W.taken writer.new) bytes.now) }
+    ensures err { OnErr result (TakesPrefix (W.taken writer.old) (W.taken writer.new) bytes.now) }
     ensures last { OnErr result (W.ends_in_flush writer.new ≡ false) }
     ensures failed { (W.has_failed writer.new ≡ false) ↔ IsOk result }
 {
@@ -40,7 +40,7 @@ pub fn write_bytes<W: Sink>(writer: &mut W, bytes: &[u8]) -> Result<(), Failed>
 pub fn write_texts<W: Sink>(writer: &mut W, texts: &[Vec<u8>]) -> Result<(), Failed>
     requires { W.has_failed writer.old ≡ false }
     ensures ok { OnOk result (Appends (W.taken writer.old) (W.taken writer.new) (joined texts.now)) }
-    ensures err { OnErr result (TakesFront (W.taken writer.old) (W.taken writer.new) (joined texts.now)) }
+    ensures err { OnErr result (TakesPrefix (W.taken writer.old) (W.taken writer.new) (joined texts.now)) }
     ensures whole { W.ends_in_flush writer.new ≡ true → Appends (W.taken writer.old) (W.taken writer.new) (joined texts.now) }
     ensures flushed { OnOk result (W.ends_in_flush writer.new ≡ true) }
     ensures failed { (W.has_failed writer.new ≡ false) ↔ IsOk result }

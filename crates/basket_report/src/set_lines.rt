@@ -1,7 +1,7 @@
 //! The lines of sets, which are written as they are made.
 ghost use Rattle.std.specs.Prelude.{◌≡◌, ◌↔◌, ◌≤◌, ◌<◌, ◌+◌, ◌++◌, ℕ, List, Option, All, true, false, length, take, IsOk, OnErr, OnOk};
 ghost use Rattle.std.specs.Io.KnownBytes.{Appends};
-ghost use Rattle.basket_report.specs.Bytes.{IsWritten, TakesFront};
+ghost use Rattle.basket_report.specs.Bytes.{IsWritten, TakesPrefix};
 ghost use Rattle.basket_report.specs.Lines.{set_line};
 ghost use Rattle.basket_report.specs.Report.{report_of, set_of};
 ghost use Rattle.basket_report.specs.Strip.{HasLines};
@@ -54,7 +54,7 @@ impl SetLines {
     ) -> Result<(), Failed>
         requires { W.has_failed writer.old ≡ false }
         ensures ok { OnOk result (Appends (W.taken writer.old) (W.taken writer.new) (report_of Numbered sets.now)) }
-        ensures err { OnErr result (TakesFront (W.taken writer.old) (W.taken writer.new) (report_of Numbered sets.now)) }
+        ensures err { OnErr result (TakesPrefix (W.taken writer.old) (W.taken writer.new) (report_of Numbered sets.now)) }
         ensures whole { W.ends_in_flush writer.new ≡ true → Appends (W.taken writer.old) (W.taken writer.new) (report_of Numbered sets.now) }
         ensures flushed { OnOk result (W.ends_in_flush writer.new ≡ true) }
         ensures failed { (W.has_failed writer.new ≡ false) ↔ IsOk result }

@@ -6,7 +6,7 @@ use Rattle.std.proofs.lemmas.List.{append-nil, length-append}
 use Rattle.std.proofs.lemmas.List.Sums.{fold_push, fold-append}
 use Rattle.basket_sets.proofs.theory.Numerals.{all_push}
 use Rattle.basket_read.specs.Cut.{Cut, cut_more, cut_at, parts_of}
-use Rattle.basket_read.specs.Grammar.{FrontsAreGood}
+use Rattle.basket_read.specs.Grammar.{PrefixesAreGood}
 
 abbrev pub cut : List (List ℕ) → List ℕ → Cut
 cut ended last = record { ended = ended; last = last }
@@ -27,7 +27,7 @@ cut_joined p xs x h =
     ∙ ap (λ b. cond b (cut ((cut_at p xs).ended ++ (cut_at p xs).last ∷ []) []) (cut (cut_at p xs).ended ((cut_at p xs).last ++ x ∷ []))) h
 
 -- and so do several with which the last part is good, if no separator stands in a good part
-pub cut_on : (p : ℕ → Bool) (good : List ℕ → Bool) → FrontsAreGood good → ((part : List ℕ) (x : ℕ) → good (part ++ x ∷ []) ≡ true → p x ≡ false)
+pub cut_on : (p : ℕ → Bool) (good : List ℕ → Bool) → PrefixesAreGood good → ((part : List ℕ) (x : ℕ) → good (part ++ x ∷ []) ≡ true → p x ≡ false)
     → (xs run : List ℕ) → good ((cut_at p xs).last ++ run) ≡ true → cut_at p (xs ++ run) ≡ cut (cut_at p xs).ended ((cut_at p xs).last ++ run)
 cut_on p good fronts none xs [] h = ap (cut_at p) (append-nil xs) ∙ ap (cut (cut_at p xs).ended) (sym (append-nil (cut_at p xs).last))
 cut_on p good fronts none xs (x ∷ run) h =

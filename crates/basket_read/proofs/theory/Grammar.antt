@@ -9,7 +9,7 @@ use Rattle.basket_read.specs.declared.fault.ReadFault.{ReadFault}
 use Rattle.basket_read.specs.Fault.{ReturnsFault}
 use Rattle.basket_read.specs.Cut.{Cut, cut_at, parts_of}
 use Rattle.basket_read.specs.Fimi.{is_line_feed, or_else}
-use Rattle.basket_read.specs.Grammar.{fault_behind, FrontsAreGood, GoodIsFaultless, HasFault, FirstFaultIsExact}
+use Rattle.basket_read.specs.Grammar.{fault_behind, PrefixesAreGood, GoodIsFaultless, HasFault, FirstFaultIsExact}
 use Rattle.basket_read.proofs.theory.Cuts.{cut_ended, cut_joined, cut_behind, parts_good_before}
 
 -- what a choice gave
@@ -150,22 +150,22 @@ module _ (is_line : List ℕ → Bool) (fault_at : List ℕ → ℕ → ReadFaul
   -- ---- fronts
 
   module _ (line_front : (line : List ℕ) (byte : ℕ) → is_line (line ++ byte ∷ []) ≡ true → is_line line ≡ true) where
-    pub line_fronts_are_good : FrontsAreGood is_line
-    line_fronts_are_good front [] h = ap is_line (sym (append-nil front)) ∙ h
-    line_fronts_are_good front (byte ∷ rest) h =
-        line_front front byte (line_fronts_are_good (front ++ byte ∷ []) rest (ap is_line (append_assoc front (byte ∷ []) rest) ∙ h))
+    pub line_prefixes_are_good : PrefixesAreGood is_line
+    line_prefixes_are_good front [] h = ap is_line (sym (append-nil front)) ∙ h
+    line_prefixes_are_good front (byte ∷ rest) h =
+        line_front front byte (line_prefixes_are_good (front ++ byte ∷ []) rest (ap is_line (append_assoc front (byte ∷ []) rest) ∙ h))
 
-    pub fronts_are_good : FrontsAreGood good
-    fronts_are_good front [] h = ap good (sym (append-nil front)) ∙ h
-    fronts_are_good front (byte ∷ rest) h =
-        parts_good_before is_line_feed is_line line_front front byte (fronts_are_good (front ++ byte ∷ []) rest (ap good (append_assoc front (byte ∷ []) rest) ∙ h))
+    pub prefixes_are_good : PrefixesAreGood good
+    prefixes_are_good front [] h = ap good (sym (append-nil front)) ∙ h
+    prefixes_are_good front (byte ∷ rest) h =
+        parts_good_before is_line_feed is_line line_front front byte (prefixes_are_good (front ++ byte ∷ []) rest (ap good (append_assoc front (byte ∷ []) rest) ∙ h))
 
     -- a good text has no fault behind any front
     faultless_behind : (before text : List ℕ) → good (before ++ text) ≡ true → after before text ≡ None
     faultless_behind before [] h = refl
     faultless_behind before (byte ∷ text) h =
         let whole = ap good (append_assoc before (byte ∷ []) text) ∙ h in
-        ap (λ b. found b (after (before ++ byte ∷ []) text) (fault_at before byte)) (fronts_are_good (before ++ byte ∷ []) text whole)
+        ap (λ b. found b (after (before ++ byte ∷ []) text) (fault_at before byte)) (prefixes_are_good (before ++ byte ∷ []) text whole)
         ∙ faultless_behind (before ++ byte ∷ []) text whole
 
     pub good_is_faultless : GoodIsFaultless good fault_at

@@ -141,7 +141,7 @@ numbers_front = parts_good_before is_blank is_number (within_front MOST_NUMBER)
 pub numbers_joined : (k : ℕ) → is_digit k ≡ false → is_blank k ≡ false → (xs run : List ℕ) → are_numbers ((cut_at (λ byte. eqb byte k) xs).last ++ run) ≡ true
     → cut_at (λ byte. eqb byte k) (xs ++ run) ≡ cut (cut_at (λ byte. eqb byte k) xs).ended ((cut_at (λ byte. eqb byte k) xs).last ++ run)
 numbers_joined k d b =
-    cut_on (λ byte. eqb byte k) are_numbers (grammar.line_fronts_are_good are_numbers fault_at refl numbers_front)
+    cut_on (λ byte. eqb byte k) are_numbers (grammar.line_prefixes_are_good are_numbers fault_at refl numbers_front)
     (λ text byte h. ne_eqb byte k (λ e. unlike (sym (refuses_other text k d b) ∙ ap (λ x. are_numbers (text ++ x ∷ [])) (sym e) ∙ h)))
 
 -- ---- sets of numbers

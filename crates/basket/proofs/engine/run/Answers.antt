@@ -1,7 +1,7 @@
 use Rattle.std.proofs.Common.{◌∙◌, sym}
 use Rattle.std.proofs.lemmas.Result.{err_from_is_err_and}
 use Rattle.basket.specs.Prepared.{prepared_text}
-use Rattle.basket.proofs.EngineLemmas.{not_write, told_by_reader, told_failed, told_input, told_mine, told_read, write_is_no_mining, writes_front, writes_report}
+use Rattle.basket.proofs.EngineLemmas.{not_write, told_by_reader, told_failed, told_input, told_mine, told_read, write_is_no_mining, writes_prefix, writes_report}
 use Rattle.basket.proofs.engine.run.Goals as goal
 
 pub returns-in-Err-clause-input : goal.returns-in-Err-clause-input
@@ -19,8 +19,8 @@ returns-in-Err-clause-read g c = told_read c.args.plan.now.question (g.S.Source.
 pub returns-in-Err-clause-mine : goal.returns-in-Err-clause-mine
 returns-in-Err-clause-mine g c = told_mine c.args.plan.now.question (g.S.Source.left c.args.reader.now) _ _ c.in-Err.fault c.in-Err.ensures
 
-pub returns-in-Err-clause-front : goal.returns-in-Err-clause-front
-returns-in-Err-clause-front g c = λ is. absurd (not_write c.args.plan.now.question (g.S.Source.left c.args.reader.now) _ _ c.in-Err.fault c.in-Err.ensures is)
+pub returns-in-Err-clause-prefix : goal.returns-in-Err-clause-prefix
+returns-in-Err-clause-prefix g c = λ is. absurd (not_write c.args.plan.now.question (g.S.Source.left c.args.reader.now) _ _ c.in-Err.fault c.in-Err.ensures is)
 
 pub returns-in-Err-clause-whole : goal.returns-in-Err-clause-whole
 returns-in-Err-clause-whole g c = λ is. absurd (not_write c.args.plan.now.question (g.S.Source.left c.args.reader.now) _ _ c.in-Err.fault c.in-Err.ensures is)
@@ -31,8 +31,8 @@ returns-in-Err-clause-write g c = (
   λ failed. absurd (let working = c.requires.writer in cc),
 )
 
-pub returns-in_err-write-clause-front : goal.returns-in_err-write-clause-front
-returns-in_err-write-clause-front g c is = writes_front (g.S.Source.left c.args.reader.now) c.args.plan.now.question _ _ (prepared_text c.in-Ok.made) c.in-Ok.ensures.1 c.in_err-write.ensures.err
+pub returns-in_err-write-clause-prefix : goal.returns-in_err-write-clause-prefix
+returns-in_err-write-clause-prefix g c is = writes_prefix (g.S.Source.left c.args.reader.now) c.args.plan.now.question _ _ (prepared_text c.in-Ok.made) c.in-Ok.ensures.1 c.in_err-write.ensures.err
 
 pub returns-in_err-write-clause-whole : goal.returns-in_err-write-clause-whole
 returns-in_err-write-clause-whole g c = λ is flush.

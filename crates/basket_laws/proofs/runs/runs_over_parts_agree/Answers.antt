@@ -3,4 +3,4 @@ use Rattle.basket_laws.proofs.runs.runs_over_parts_agree.Goals as goal
 
 pub returns : goal.returns
 returns c =
-    runs_over_parts_agree c.fronts_are_good.ensures c.good_is_faultless.ensures c.lines_say_theirs.ensures c.combining_keeps_sets.ensures c.combining_keeps_counts.ensures c.combining_keeps_frequent.ensures
+    runs_over_parts_agree c.prefixes_are_good.ensures c.good_is_faultless.ensures c.lines_say_theirs.ensures c.combining_keeps_sets.ensures c.combining_keeps_counts.ensures c.combining_keeps_frequent.ensures

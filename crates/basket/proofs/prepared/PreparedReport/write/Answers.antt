@@ -1,10 +1,10 @@
 use Rattle.std.proofs.Common.{sym, subst}
 use Rattle.std.specs.Prelude.{OnErr}
-use Rattle.basket_report.specs.Bytes.{TakesFront}
+use Rattle.basket_report.specs.Bytes.{TakesPrefix}
 use Rattle.basket.specs.declared.prepared.PreparedReport.{PreparedReport}
 use Rattle.basket.specs.Prepared.{prepared_text}
 use Rattle.basket.proofs.prepared.PreparedReport.write.Goals as goal
 
 pub returns-in-Sets-clause-err : goal.returns-in-Sets-clause-err
 returns-in-Sets-clause-err g c =
-    subst (λ (made : PreparedReport). OnErr c.write.result (TakesFront (g.W.Sink.taken c.args.writer.now) (g.W.Sink.taken c.write.new.writer) (prepared_text made))) (sym c.in-Sets.is) c.write.ensures.err
+    subst (λ (made : PreparedReport). OnErr c.write.result (TakesPrefix (g.W.Sink.taken c.args.writer.now) (g.W.Sink.taken c.write.new.writer) (prepared_text made))) (sym c.in-Sets.is) c.write.ensures.err
