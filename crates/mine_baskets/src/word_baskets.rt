@@ -112,7 +112,6 @@ impl WordBaskets {
     /// The words, in order.
     pub fn words(&self) -> &[Word]
         ensures baskets { word_places self.now.ranks result.now ≡ self.now.baskets }
-        ensures ranked { AreRankBaskets self.now }
         ensures few { self.now.ranks ≤ WORD_RANKS }
         ensures some { All (λ (word : Bits). 1 ≤ word.weight) result.now }
         ensures light { sum_by (λ (word : Bits). word.weight) result.now ≤ MOST_WEIGHT }

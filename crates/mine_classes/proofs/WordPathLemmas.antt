@@ -51,16 +51,6 @@ pair_support count rank other words low less =
     ∙ ap (λ b. cond (has (ranks_in count w.bits) rank) (cond b w.weight 0) 0) (has_in count w.bits other (omega arith))
     ∙ ap (λ b. cond b (rank_weight other w) 0) (has_in count w.bits rank low))
 
-one_rank : (a : Bool) (weight : ℕ) → cond (a && true) weight 0 ≡ cond a weight 0
-one_rank true weight = refl
-one_rank false weight = refl
-
-pub rank_support : (count rank : ℕ) (words : List Word) → rank < count → support_of (word_places count words) (rank ∷ []) ≡ sum_by (rank_weight rank) words
-rank_support count rank words low =
-    word_sum (weight_at (rank ∷ [])) count words
-    ∙ sum_by-same (λ (w : Word). weight_at (rank ∷ []) (word_place count w)) (rank_weight rank) words (λ w.
-    one_rank (has (ranks_in count w.bits) rank) w.weight ∙ ap (λ b. cond b w.weight 0) (has_in count w.bits rank low))
-
 pub rank_weight_le : (rank : ℕ) (word : Word) → rank_weight rank word ≤ word.weight
 rank_weight_le rank word = at_most (has_rank word.bits rank)
   where

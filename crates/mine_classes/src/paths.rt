@@ -7,7 +7,7 @@ ghost use Rattle.mine_baskets.specs.ListBaskets.{AreRankBaskets};
 ghost use Rattle.mine_classes.specs.Pairs.{pairs_of};
 ghost use Rattle.mine_classes.specs.Paths.{IsConditional, IsOrdered, is_branch};
 
-use crate::conditional::{Conditional, below_few};
+use crate::conditional::Conditional;
 use crate::rank_places::RankPlaces;
 use crate::runs::Runs;
 use crate::sums::Sums;
@@ -139,9 +139,6 @@ fn below_words(
     requires pairs { pairs.now ≡ pairs_of baskets.now.baskets least rank }
     ensures { IfOk result (IsConditional baskets.now.baskets least rank) }
 {
-    if pairs.len() <= 1 {
-        return below_few(alloc, word_paths::support(baskets, rank), pairs);
-    }
     let below = word_paths::below(alloc, baskets, rank, pairs)?;
     Ok(below)
 }

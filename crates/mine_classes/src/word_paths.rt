@@ -1,11 +1,10 @@
 //! Baskets of up to 64 ranks, each as the bits of a word: their pairs, and those of a rank.
-ghost use Rattle.std.specs.Prelude.{◌≡◌, ◌≤◌, ◌<◌, ◌+◌, ◌∷◌, [], ℕ, All, IfOk, IsTrue, length, map, slice_index, sum_by};
+ghost use Rattle.std.specs.Prelude.{◌≡◌, ◌≤◌, ◌<◌, ◌+◌, ℕ, All, IfOk, IsTrue, length, map, slice_index, sum_by};
 ghost use Rattle.std.specs.List.{flat_map, list_all, range_with_len};
 ghost use Rattle.basket_ranks.specs.Codes.{decoded_place};
 ghost use Rattle.basket_sets.specs.Counts.{AllBelow};
 ghost use Rattle.basket_sets.specs.Database.{MOST_WEIGHT};
 ghost use Rattle.basket_sets.specs.Itemset.{IsRising, contains, has};
-ghost use Rattle.basket_sets.specs.Support.{support_of};
 ghost use Rattle.mine_baskets.specs.declared.words.TheConstants.{WORD_RANKS};
 ghost use Rattle.mine_baskets.specs.declared.words.Word.{Word as Bits};
 ghost use Rattle.mine_classes.specs.Conditional.{kept_place};
@@ -26,15 +25,6 @@ pub fn is_single_branch(baskets: &WordBaskets) -> bool
     ensures { result ≡ is_branch baskets.now.baskets }
 {
     are_fronts(baskets.words(), baskets.ranks())
-}
-
-/// The support of a rank, which is the weight of the words that have it.
-pub fn support(baskets: &WordBaskets, rank: u32) -> u64
-    requires { rank < baskets.now.ranks }
-    ensures support { result ≡ support_of baskets.now.baskets (rank ∷ []) }
-    ensures ranked { AreRankBaskets baskets.now }
-{
-    weight_having(baskets.words(), rank)
 }
 
 /// The ranks below the rank that are frequent together with it, by a least support, each with the
@@ -112,21 +102,6 @@ fn is_front(word: &Word, count: u32) -> bool
         }
     }
     true
-}
-
-/// The weight of the words that have a rank.
-fn weight_having(words: &[Word], rank: u32) -> u64
-    requires rank { rank < WORD_RANKS }
-    requires light { sum_by (λ (word : Bits). word.weight) words.now ≤ MOST_WEIGHT }
-    ensures { result ≡ sum_by (rank_weight rank) words.now }
-{
-    let mut weight = 0;
-    for word in words {
-        if word.has(rank) {
-            weight += word.weight;
-        }
-    }
-    weight
 }
 
 /// For each rank below one, the weight of the words that have both.

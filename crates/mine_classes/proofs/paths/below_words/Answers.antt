@@ -1,15 +1,13 @@
-use Rattle.std.proofs.Common.{◌≡◌, ℕ, Bool, List, [], ◌∷◌, length, map, refl, subst, sym, ap, ◌∙◌, arith}
+use Rattle.std.proofs.Common.{◌≡◌, ℕ, Bool, List, length, map, subst, sym, ap, ◌∙◌, arith}
 use Rattle.std.specs.List.{flat_map}
 use Rattle.std.proofs.lemmas.List.{length-map}
 use Rattle.basket_ranks.specs.Codes.{decoded_place}
 use Rattle.basket_sets.specs.declared.weighted.Weighted.{Weighted}
 use Rattle.basket_sets.specs.Counts.{AllBelow}
 use Rattle.basket_sets.specs.Itemset.{IsRising, has}
-use Rattle.basket_sets.proofs.theory.Support.{support_falls}
 use Rattle.mine_classes.specs.Conditional.{kept_place}
 use Rattle.mine_baskets.specs.ListBaskets.{HaveSameWeights}
-use Rattle.mine_classes.specs.Pairs.{first_support, kept_ranks, pairs_of}
-use Rattle.mine_classes.proofs.FewLemmas.{first_falls}
+use Rattle.mine_classes.specs.Pairs.{kept_ranks, pairs_of}
 use Rattle.mine_classes.proofs.theory.Kept.{has_kept, kept_below, kept_rises, kept_short, pair_ranks}
 use Rattle.mine_classes.proofs.paths.below_words.Goals as goal
 
@@ -18,19 +16,6 @@ ranks_of pairs = map (λ (pair : ℕ × ℕ). pair.0) pairs
 
 are_kept : (baskets : List Weighted) (least rank : ℕ) (pairs : List (ℕ × ℕ)) → pairs ≡ pairs_of baskets least rank → ranks_of pairs ≡ kept_ranks baskets least rank
 are_kept baskets least rank pairs is = ap ranks_of is ∙ pair_ranks baskets least rank
-
-pub below_few-requires-clause-falls : goal.below_few-requires-clause-falls
-below_few-requires-clause-falls c =
-    let falls = first_falls c.args.baskets.now.baskets c.args.least c.args.rank in
-    omega (arith, falls, c.support.ensures.support, ap first_support c.requires.pairs)
-
-pub below_few-requires-clause-light : goal.below_few-requires-clause-light
-below_few-requires-clause-light c =
-    let all = support_falls c.args.baskets.now.baskets (c.args.rank ∷ []) [] refl in
-    omega (arith, all, c.support.ensures.support, c.support.ensures.ranked.light)
-
-pub returns-then-pairs-le1 : goal.returns-then-pairs-le1
-returns-then-pairs-le1 c = c.below_few.ensures c.args.baskets.now c.args.least c.args.rank c.support.ensures.ranked c.requires.pairs c.support.ensures.support
 
 pub below-requires-clause-rises : goal.below-requires-clause-rises
 below-requires-clause-rises c =
