@@ -4,7 +4,6 @@ mod KeyLemmas
 mod RecentLemmas
 mod FieldLemmas
 mod RecordLemmas
-mod GatheredLemmas
 mod RowLemmas
 mod BasketLemmas
 mod ReadLemmas

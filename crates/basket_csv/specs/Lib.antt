@@ -5,7 +5,6 @@ pub mod Recent
 pub mod Records
 pub mod Csv
 pub mod Row
-pub mod GatheredBaskets
 pub mod RecordCollector
 pub mod Baskets
 pub mod Counts

@@ -7,11 +7,10 @@ ghost use Rattle.basket_csv.specs.Baskets.{AreNamedCounts, HasRead};
 
 use crate::collector::RecordCollector;
 use crate::field::trim;
-use crate::gathered::GatheredBaskets;
 use crate::names::{Names, Numbering};
 use crate::row::{number_names, text_at};
 use crate::seed::Seed;
-use basket_read::{ItemCounts, ReadFault};
+use basket_read::{GatheredBaskets, ItemCounts, ReadFault};
 use basket_sets::parse_number;
 use csv::ByteRecord;
 use std::alloc::Global;
@@ -67,7 +66,7 @@ impl Baskets {
         Ok(Baskets {
             weighted,
             names: Numbering::of(alloc, seed, known)?,
-            gathered: GatheredBaskets::new(alloc, counting),
+            gathered: GatheredBaskets::new(alloc, counting, 0),
             numbers: Vec::new(alloc),
         })
     }

@@ -7,7 +7,6 @@ mod collector;
 mod counts;
 mod dialect;
 mod field;
-mod gathered;
 mod ids;
 mod key;
 pub mod laws;

@@ -5,18 +5,17 @@ ghost use Rattle.csv.specs.Records.{fields_of};
 ghost use Rattle.basket_read.specs.Fimi.{basket_of_numbers};
 ghost use Rattle.basket_sets.specs.Database.{MOST_BASKETS};
 ghost use Rattle.basket_csv.specs.Csv.{Named, pair_fault, pairs_of, pairs_said};
-ghost use Rattle.basket_csv.specs.GatheredBaskets.{HasGathered};
+ghost use Rattle.basket_read.specs.GatheredBaskets.{HasGathered};
 ghost use Rattle.basket_csv.specs.Row.{IsKnownPair};
 ghost use Rattle.basket_csv.specs.Pairs.{HasPairs, added_at};
 
 use crate::collector::RecordCollector;
 use crate::field::{is_name, trim};
-use crate::gathered::GatheredBaskets;
 use crate::ids::Ids;
 use crate::names::{Names, Numbering};
 use crate::row::{is_text_from, known_number, text_at};
 use crate::seed::Seed;
-use basket_read::ReadFault;
+use basket_read::{GatheredBaskets, ReadFault};
 use basket_sets::{Database, INLINE_ITEMS};
 use csv::ByteRecord;
 use smallvec::SmallVec;
@@ -50,7 +49,7 @@ fn gathered_from(alloc: Global, groups: &[Group]) -> Result<GatheredBaskets, Rea
     ensures baskets { IfOk result (λ gathered. HasGathered gathered false (flat_map (λ group. basket_of_numbers group.items 1) groups.now)) }
     ensures err { IfErr result (λ fault. fault ≡ ReadFault.Memory) }
 {
-    let mut gathered = GatheredBaskets::new(alloc, false);
+    let mut gathered = GatheredBaskets::new(alloc, false, 0);
     for group in groups {
         gathered.add(group, 1)?;
     }

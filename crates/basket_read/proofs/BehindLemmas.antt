@@ -1,14 +1,10 @@
 -- A text behind whole lines.
-use Rattle.std.proofs.Common.{◌≡◌, ℕ, ◌+◌, Bool, true, List, [], ◌∷◌, ◌++◌, length, cond, refl, sym, ap, ◌∙◌, subst, append_assoc, arith, ◌≤◌, false, ◌⊎◌, inl, inr}
+use Rattle.std.proofs.Common.{◌≡◌, ℕ, ◌+◌, Bool, true, List, [], ◌∷◌, ◌++◌, length, cond, refl, sym, ap, ◌∙◌, subst, append_assoc, arith, ◌≤◌, false}
 use Rattle.std.specs.List.{flat_map}
 use Rattle.std.specs.Option.{option_map}
 use Rattle.std.proofs.lemmas.Grind.{flat_map-append}
 use Rattle.std.proofs.lemmas.List.{append-nil, length-append}
-use Rattle.std.proofs.lemmas.List.Sums.{sum_by-append}
-use Rattle.basket_sets.specs.declared.weighted.Weighted.{Weighted}
-use Rattle.basket_sets.specs.Database.{MOST_BASKETS, MOST_WEIGHT}
-use Rattle.basket_sets.specs.ItemTable.{HasCounted, Tabled}
-use Rattle.basket_sets.specs.Support.{total_of, weight_at}
+use Rattle.std.proofs.Math.Logic.{∥∥₁_map}
 use Rattle.basket_sets.specs.Number.{is_digit}
 use Rattle.basket_read.specs.declared.fault.ReadFault.{ReadFault}
 use Rattle.basket_read.specs.declared.fault.ReadFault.TheVariants.{Byte, Number}
@@ -16,7 +12,8 @@ use Rattle.basket_read.specs.declared.text.Text.{Text}
 use Rattle.basket_read.specs.Cut.{Cut, cut_at}
 use Rattle.basket_read.specs.Fimi.{is_line_feed, is_line, is_good, basket_of, baskets_of, line_after, fault_at, fault_after, first_fault, or_else, MOST_BYTES}
 use Rattle.basket_read.specs.Line.{line_state, line_at}
-use Rattle.basket_read.specs.Text.{HasBaskets, HasJoined, IsTextSoFar, HasRoomFor}
+use Rattle.basket_read.specs.GatheredBaskets.{FitTogether, HasGathered}
+use Rattle.basket_read.specs.Text.{IsTextSoFar, HasRoomFor}
 use Rattle.basket_read.specs.Grammar.{fault_behind}
 use Rattle.basket_read.specs.Laws.{counted_on, LinesSayTheirs}
 use Rattle.basket_read.proofs.theory.Cuts.{cut, size_after, cut_behind}
@@ -77,61 +74,37 @@ lines_say_theirs front rest whole =
 
 -- ---- two texts that were read
 
-pub texts_joined : (text other new : Text) (past behind : List Weighted) (bytes more : List ℕ) → IsTextSoFar text past bytes → (cut_at is_line_feed bytes).last ≡ [] → IsTextSoFar other behind more
+pub texts_joined : (text other new : Text) (counting apart : Bool) (bytes more : List ℕ) → IsTextSoFar text counting bytes → (cut_at is_line_feed bytes).last ≡ [] → IsTextSoFar other apart more
     → new.lines ≡ text.lines + other.lines → line_state new.line ≡ line_state other.line
-    → HasJoined past behind new.table new.heavy new.baskets (flat_map basket_of (cut_at is_line_feed bytes).ended ++ flat_map basket_of (cut_at is_line_feed more).ended)
-    → (now : List Weighted) × (behind ≡ [] → now ≡ past) × IsTextSoFar new now (bytes ++ more)
-texts_joined text other new past behind bytes more t whole o lines line (now, same, counted, baskets) =
+    → HasGathered new.gathered counting (flat_map basket_of (cut_at is_line_feed bytes).ended ++ flat_map basket_of (cut_at is_line_feed more).ended)
+    → IsTextSoFar new counting (bytes ++ more)
+texts_joined text other new counting apart bytes more t whole o lines line gathered =
     let a = (cut_at is_line_feed bytes).ended in
     let k = cut_at is_line_feed more in
-    let joined = cut_behind is_line_feed bytes more whole in (
-      now,
-      same,
-      record {
-        faultless =
-            (lines_say_theirs bytes more whole).fault
-            ∙ (λ i. or_else (t.faultless i) (option_map (counted_on (length a)) (o.faultless i)));
-        lines = let sum = length-append a k.ended in let same_lines = ap (λ (j : Cut). length j.ended) joined in omega (arith, lines, t.lines, o.lines, sum, same_lines);
-        baskets = subst (HasBaskets new.heavy (now ++ new.baskets)) (sym (flat_map-append basket_of a k.ended) ∙ ap (λ (j : Cut). flat_map basket_of j.ended) (sym joined)) baskets;
-        counted = counted;
-        line = line ∙ o.line ∙ ap (λ (j : Cut). line_at j.last) (sym joined);
-      },
-    )
-
--- where no baskets are kept, or none behind them were counted, the counted ones stand before the others
-pub baskets_joined : (past kept behind baskets before more : List Weighted) → past ++ kept ≡ before → behind ++ baskets ≡ more → (kept ≡ []) ⊎ (behind ≡ [])
-    → (past ++ behind) ++ (kept ++ baskets) ≡ before ++ more
-baskets_joined past kept behind baskets before more e f (inl none) =
-    ap (λ l. (past ++ behind) ++ (l ++ baskets)) none ∙ append_assoc past behind baskets ∙ (λ i. (sym (append-nil past) ∙ ap (λ l. past ++ l) (sym none) ∙ e) i ++ f i)
-baskets_joined past kept behind baskets before more e f (inr none) =
-    ap (λ l. (past ++ l) ++ (kept ++ baskets)) none ∙ ap (λ l. l ++ (kept ++ baskets)) (append-nil past) ∙ sym (append_assoc past kept baskets)
-    ∙ (λ i. e i ++ (ap (λ l. l ++ baskets) (sym none) ∙ f) i)
-
-pub light_joined : (past kept behind baskets before more all : List Weighted) (table : Tabled) → HasBaskets false (past ++ kept) before → HasBaskets false (behind ++ baskets) more
-    → total_of past + total_of kept + (total_of behind + total_of baskets) ≤ MOST_WEIGHT → HasCounted table (past ++ behind) → all ≡ kept ++ baskets → (kept ≡ []) ⊎ (behind ≡ [])
-    → HasJoined past behind table false all (before ++ more)
-light_joined past kept behind baskets before more all table h k light counted is joins = (
-  past ++ behind,
-  λ none. ap (λ l. past ++ l) none ∙ append-nil past,
-  counted,
-  (
-    ap (λ l. (past ++ behind) ++ l) is ∙ baskets_joined past kept behind baskets before more h.0 k.0 joins,
-    let a = sum_by-append (weight_at []) past kept in let b = sum_by-append (weight_at []) behind baskets in let both = sum_by-append (weight_at []) before more in
-        let e = ap total_of h.0 in let f = ap total_of k.0 in omega arith,
-  ),
-)
+    let joined = cut_behind is_line_feed bytes more whole in
+    record {
+      faultless =
+          (lines_say_theirs bytes more whole).fault
+          ∙ (λ i. or_else (t.faultless i) (option_map (counted_on (length a)) (o.faultless i)));
+      lines = let sum = length-append a k.ended in let same_lines = ap (λ (j : Cut). length j.ended) joined in omega (arith, lines, t.lines, o.lines, sum, same_lines);
+      gathered = subst (HasGathered new.gathered counting) (sym (flat_map-append basket_of a k.ended) ∙ ap (λ (j : Cut). flat_map basket_of j.ended) (sym joined)) gathered;
+      line = line ∙ o.line ∙ ap (λ (j : Cut). line_at j.last) (sym joined);
+    }
 
 -- of so few bytes they have few lines and few baskets together
 pub few_joined : (text other : Text) → HasRoomFor text other → text.lines + other.lines ≤ MOST_BYTES
 few_joined text other room =
     merely_at_most (text.lines + other.lines) MOST_BYTES room
-    (λ w. let t = w.4.lines in let o = w.5.lines in let a = size_after is_line_feed (cut [] []) w.2 in let b = size_after is_line_feed (cut [] []) w.3 in let small = w.6 in omega arith)
+    (λ w. let t = w.2.1.lines in let o = w.3.1.lines in let a = size_after is_line_feed (cut [] []) w.0 in let b = size_after is_line_feed (cut [] []) w.1 in let small = w.4 in omega arith)
 
-pub few_baskets_joined : (text other : Text) → HasRoomFor text other → text.heavy ≡ false → other.heavy ≡ false → length text.baskets + length other.baskets ≤ MOST_BASKETS
-few_baskets_joined text other room light light_other =
-    merely_at_most (length text.baskets + length other.baskets) MOST_BASKETS room
-    (λ w.
-    let same = subst (λ b. HasBaskets b (w.0 ++ text.baskets) (flat_map basket_of (cut_at is_line_feed w.2).ended)) light w.4.baskets in
-    let also = subst (λ b. HasBaskets b (w.1 ++ other.baskets) (flat_map basket_of (cut_at is_line_feed w.3).ended)) light_other w.5.baskets in
-    let few = baskets_after (cut [] []) w.2 in let few_other = baskets_after (cut [] []) w.3 in let small = w.6 in
-    let long = ap length same.0 in let long_other = ap length also.0 in let parts = length-append w.0 text.baskets in let parts_other = length-append w.1 other.baskets in omega arith)
+pub fit_together : (text other : Text) → HasRoomFor text other → FitTogether text.gathered other.gathered
+fit_together text other room =
+    ∥∥₁_map room (λ w. (
+      w.2.0,
+      w.3.0,
+      flat_map basket_of (cut_at is_line_feed w.0).ended,
+      flat_map basket_of (cut_at is_line_feed w.1).ended,
+      w.2.1.gathered,
+      w.3.1.gathered,
+      let few = baskets_after (cut [] []) w.0 in let few_other = baskets_after (cut [] []) w.1 in let small = w.4 in omega arith,
+    ))

@@ -5,7 +5,6 @@ use Rattle.std.specs.List.{starts_with}
 use Rattle.std.proofs.lemmas.Bool.{or_cases, cases_lt, ne_eqb, eqb-false, lt-ltb, le-ltb}
 use Rattle.std.proofs.lemmas.List.{append-nil, length-append, length-drop, take_all, take-append-le}
 use Rattle.std.proofs.Math.Logic.{∥∥₁_map}
-use Rattle.basket_sets.specs.declared.weighted.Weighted.{Weighted}
 use Rattle.basket_read.specs.declared.fault.ReadFault.{ReadFault}
 use Rattle.basket_read.specs.declared.fault.ReadFault.TheVariants.{Byte, TooLong}
 use Rattle.basket_read.specs.declared.input.Front.{Front}
@@ -15,7 +14,7 @@ use Rattle.basket_read.specs.declared.text.Text.{Text}
 use Rattle.basket_read.specs.Fimi.{fault_at, is_line, MARK, text_of, MOST_BYTES, first_fault, or_else, fault_in, may_be_mark, settled_fault}
 use Rattle.basket_read.specs.Laws.{SettledFaultsStay, UnsettledMayBeGood}
 use Rattle.basket_read.specs.Fault.{ReturnsFault}
-use Rattle.basket_read.specs.Text.{GoesOn, IsTextSoFar, HasRoom}
+use Rattle.basket_read.specs.Text.{IsTextSoFar, HasRoom}
 use Rattle.basket_read.specs.Input.{is_decided, IsFront, text_behind, IsInputSoFar, IsSomeInput}
 use Rattle.basket_read.proofs.TextLemmas.{take_rest}
 use Rattle.basket_read.proofs.theory.Grammar as grammar
@@ -165,24 +164,24 @@ text_behind_le TwoBytes bytes = omega arith
 text_behind_le Decided bytes = text_of_le bytes
 
 -- the text has room for what the input has room for
-pub has_room : (input : Input) (more : ℕ) → ((past : List Weighted) (bytes : List ℕ) → IsInputSoFar input past bytes → length bytes + more ≤ MOST_BYTES) → IsSomeInput input → HasRoom input.text more
+pub has_room : (input : Input) (more : ℕ) → ((counting : Bool) (bytes : List ℕ) → IsInputSoFar input counting bytes → length bytes + more ≤ MOST_BYTES) → IsSomeInput input → HasRoom input.text more
 has_room input more few some =
-    ∥∥₁_map some (λ w. (w.0, text_behind input.front w.1, w.2.text, let shorter = text_behind_le input.front w.1 in let enough = few w.0 w.1 w.2 in omega arith))
+    ∥∥₁_map some (λ w. (text_behind input.front w.1, (w.0, w.2.text), let shorter = text_behind_le input.front w.1 in let enough = few w.0 w.1 w.2 in omega arith))
 
-module _ (input : Input) (past : List Weighted) (bytes : List ℕ) (r : IsInputSoFar input past bytes) where
-  pub at_front : (front : Front) → input.front ≡ front → IsFront front bytes × IsTextSoFar input.text past (text_behind front bytes)
-  at_front front e = (subst (λ f. IsFront f bytes) e r.front, subst (λ f. IsTextSoFar input.text past (text_behind f bytes)) e r.text)
+module _ (input : Input) (counting : Bool) (bytes : List ℕ) (r : IsInputSoFar input counting bytes) where
+  pub at_front : (front : Front) → input.front ≡ front → IsFront front bytes × IsTextSoFar input.text counting (text_behind front bytes)
+  at_front front e = (subst (λ f. IsFront f bytes) e r.front, subst (λ f. IsTextSoFar input.text counting (text_behind f bytes)) e r.text)
 
   -- behind the front the text goes on
-  pub with_text : (text : Text) (now : List Weighted) (piece : List ℕ) → input.front ≡ Decided → length bytes + length piece ≤ MOST_BYTES → IsTextSoFar text now (text_of bytes ++ piece)
-      → IsInputSoFar (record { front = input.front; taken = input.taken + length piece; text = text }) now (bytes ++ piece)
-  with_text text now piece e few t =
+  pub with_text : (text : Text) (piece : List ℕ) → input.front ≡ Decided → length bytes + length piece ≤ MOST_BYTES → IsTextSoFar text counting (text_of bytes ++ piece)
+      → IsInputSoFar (record { front = input.front; taken = input.taken + length piece; text = text }) counting (bytes ++ piece)
+  with_text text piece e few t =
       let h = (at_front Decided e).0 in
       record {
         front = subst (λ f. IsFront f (bytes ++ piece)) (sym e) (decided-append bytes piece h).1;
         taken = ap (λ n. n + length piece) r.taken ∙ sym (length-append bytes piece);
         few = let sum = length-append bytes piece in omega arith;
-        text = subst (λ f. IsTextSoFar text now (text_behind f (bytes ++ piece))) (sym e) (subst (IsTextSoFar text now) (sym (decided-append bytes piece h).0) t);
+        text = subst (λ f. IsTextSoFar text counting (text_behind f (bytes ++ piece))) (sym e) (subst (IsTextSoFar text counting) (sym (decided-append bytes piece h).0) t);
       }
 
   -- the fault of a text behind the front is that of the input
@@ -203,7 +202,7 @@ module _ (input : Input) (past : List Weighted) (bytes : List ℕ) (r : IsInputS
   pub faultless_input : settled_fault bytes ≡ None
   faultless_input = at input.front r.front r.text
     where
-      at : (front : Front) → IsFront front bytes → IsTextSoFar input.text past (text_behind front bytes) → settled_fault bytes ≡ None
+      at : (front : Front) → IsFront front bytes → IsTextSoFar input.text counting (text_behind front bytes) → settled_fault bytes ≡ None
       at Empty e t = ap settled_fault e
       at OneByte e t = ap settled_fault e
       at TwoBytes e t = ap settled_fault e
@@ -236,12 +235,8 @@ no_mark byte other = other_first byte [] (ne_eqb byte 239 other)
 
 -- after a part of a piece the input is of some bytes
 pub some_after : (input new : Input) (before : List ℕ) → IsSomeInput input
-    → ((past : List Weighted) (bytes : List ℕ) → IsInputSoFar input past bytes → IsInputSoFar new past (bytes ++ before)) → IsSomeInput new
+    → ((counting : Bool) (bytes : List ℕ) → IsInputSoFar input counting bytes → IsInputSoFar new counting (bytes ++ before)) → IsSomeInput new
 some_after input new before some step = ∥∥₁_map some (λ w. (w.0, w.1 ++ before, step w.0 w.1 w.2))
-
-pub some_on : (input new : Input) (counting : Bool) (before : List ℕ) → IsSomeInput input
-    → ((past : List Weighted) (bytes : List ℕ) → IsInputSoFar input past bytes → GoesOn counting past (λ now. IsInputSoFar new now (bytes ++ before))) → IsSomeInput new
-some_on input new counting before some step = ∥∥₁_map some (λ w. let on = step w.0 w.1 w.2 in (on.0, w.1 ++ before, on.2))
 
 -- a settled fault at a byte of a piece is that of the piece
 pub settled_in_piece : (bytes piece : List ℕ) (i : ℕ) (fault : ReadFault) → i < length piece

@@ -1,5 +1,6 @@
 pub mod theory
 mod NumbersLemmas
+mod GatheredLemmas
 mod LineLemmas
 mod TextLemmas
 mod RoomLemmas

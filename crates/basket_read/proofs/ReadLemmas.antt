@@ -1,6 +1,5 @@
 -- What a read of blocks answers.
-use Rattle.std.proofs.Common.{◌≡◌, ◌≢◌, ◌≤◌, ℕ, Bool, true, false, List, [], ◌++◌, cond, Option, Some, None, Result, Ok, Err, append-nil, refl, sym, ap, ◌∙◌, subst, leb, ltb, take, length}
-use Rattle.std.proofs.lemmas.Bool.{leb-true}
+use Rattle.std.proofs.Common.{◌≡◌, ◌≢◌, ℕ, Bool, true, false, List, [], ◌++◌, cond, Option, Some, None, Result, Ok, Err, append-nil, refl, sym, ap, ◌∙◌, subst, leb, ltb, take, length}
 use Rattle.std.proofs.lemmas.Option.{IfSome_then}
 use Rattle.std.specs.Prelude.{IfErr, IfOk, IfSome, IsErr, unwrap_or}
 use Rattle.std.specs.Io.KnownBytes.{Consumes, IsAtEnd, Keeps}
@@ -14,8 +13,8 @@ use Rattle.basket_read.specs.declared.fault.ReadFault.TheVariants.{Memory, Read,
 use Rattle.basket_read.specs.Fimi.{is_line, line_after, fault_at, first_fault, or_else, fault_in, text_of, settled_fault, baskets_of, answer_of, fimi_of, MOST_BYTES}
 use Rattle.basket_read.specs.ItemCounts.{AreLightCounts, Counts}
 use Rattle.basket_read.specs.Read.{CountsAs, FailsAfter, Reads, ReadsAs, Stops}
-use Rattle.basket_read.specs.Fault.{Returns, ReturnsFault}
-use Rattle.basket_read.specs.Text.{CountsBehind, GoesOn}
+use Rattle.basket_read.specs.Fault.{Returns, ReturnsBy, ReturnsFault}
+use Rattle.basket_read.specs.GatheredBaskets.{Gathers}
 use Rattle.basket_read.specs.declared.item_counts.ItemCounts.{ItemCounts}
 use Rattle.basket_read.proofs.InputLemmas.{settled_stays, fault-settled}
 use Rattle.basket_read.proofs.PartsLemmas.{answer_told, AreKept}
@@ -77,15 +76,6 @@ fails_after (Some all) None new given fault p kept is = absurd p
 fails_after (Some all) (Some rest) None given fault p kept is = absurd kept
 fails_after (Some all) (Some rest) (Some left) given fault p kept is = (given, p ∙ ap (λ l. given ++ l) (sym kept), is)
 
--- the baskets that an input says are light
-light_answer : (found : Option ReadFault) (all baskets : List Weighted) → answer_of found all ≡ Ok baskets → total_of baskets ≤ MOST_WEIGHT
-light_answer (Some fault) all baskets e = absurd cc
-light_answer None all baskets e = at (leb (total_of all) MOST_WEIGHT) refl e
-  where
-    at : (b : Bool) → leb (total_of all) MOST_WEIGHT ≡ b → cond b (Ok all) (Err Heavy) ≡ Ok baskets → total_of baskets ≤ MOST_WEIGHT
-    at true light e = let same : all ≡ baskets = cc in subst (λ l. total_of l ≤ MOST_WEIGHT) same (leb-true (total_of all) MOST_WEIGHT light)
-    at false light e = absurd cc
-
 -- ---- reading that stops
 
 unlike : {A : Type 0} (b : Bool) → b ≡ false → b ≡ true → A
@@ -120,17 +110,14 @@ module _ (counting : Bool) (old new : Option (List ℕ)) (failed : Bool) where
 
   -- at the end of the bytes
   pub ended : (now : Option (List ℕ)) (given taken : List ℕ) (answer : Result ItemCounts ReadFault) → failed ≡ false → Consumes old now given → Consumes now new taken → taken ≡ [] → IsAtEnd new
-      → GoesOn counting [] (λ past. CountsBehind past answer (fimi_of given)) → Reads counting old new failed answer
-  ended now given taken (Ok counts) working p q none end (past, off, is) = record {
+      → ReturnsBy (Gathers counting) answer (fimi_of given) → Reads counting old new failed answer
+  ended now given taken (Ok counts) working p q none end found = record {
     working = working;
     bytes = given;
     all = of_all_bytes old now new given taken (λ all. all ≡ given) p q none end refl;
-    past = past;
-    uncounted = off;
-    counted = is.0;
-    answer = is.1;
+    found = found;
   }
-  ended now given taken (Err fault) working p q none end (past, off, told) = record {
+  ended now given taken (Err fault) working p q none end told = record {
     exact = λ _. of_all_bytes old now new given taken (λ all. Returns (Err fault) (fimi_of all)) p q none end told;
     fails = unlike failed working;
     read_is_failed = λ e. absurd (not_answered given (subst (λ f. Returns (Err f) (fimi_of given)) e told (λ m. absurd cc)));
@@ -139,12 +126,11 @@ module _ (counting : Bool) (old new : Option (List ℕ)) (failed : Bool) where
   -- ---- what reading says of its answer
 
   exact : (answer : Result ItemCounts ReadFault) → Reads counting old new failed answer → failed ≡ false → IfSome old (λ bytes. Counts answer (fimi_of bytes))
-  exact (Ok counts) ends working = IfSome_then old ends.all (λ all same. (ends.past ++ counts.rest, ap fimi_of same ∙ ends.answer, (ends.past, ends.counted, refl)))
+  exact (Ok counts) ends working = let (baskets, is, gathered) = ends.found in IfSome_then old ends.all (λ all same. (baskets, ap fimi_of same ∙ is, gathered.0))
   exact (Err fault) stops working = stops.exact working
 
   light : (answer : Result ItemCounts ReadFault) → Reads counting old new failed answer → IfOk answer AreLightCounts
-  light (Ok counts) ends =
-      let all = ends.past ++ counts.rest in (all, (ends.past, ends.counted, refl), light_answer (fault_in ends.bytes) (baskets_of (text_of ends.bytes)) all ends.answer)
+  light (Ok counts) ends = let (baskets, is, gathered) = ends.found in (baskets, gathered.0, gathered.1)
   light (Err fault) stops = tt
 
   failed_after : (answer : Result ItemCounts ReadFault) → Reads counting old new failed answer → failed ≡ true → IfErr answer (λ fault. IfSome old (λ bytes. FailsAfter bytes new (Err fault)))
@@ -168,12 +154,12 @@ module _ (counting : Bool) (old new : Option (List ℕ)) (failed : Bool) where
     read_is_failed = read_is_failed answer reads;
   }
 
--- the same where the baskets are kept and answered alone
+-- the same if the baskets are kept and answered alone
 module _ (old new : Option (List ℕ)) (failed : Bool) where
   exact_kept : (read : Result ItemCounts ReadFault) (answer : Result (List Weighted) ReadFault) → AreKept read answer → Reads false old new failed read
       → failed ≡ false → IfSome old (λ bytes. Returns answer (fimi_of bytes))
   exact_kept (Ok counts) (Ok baskets) kept ends working =
-      IfSome_then old ends.all (λ all same. ap fimi_of same ∙ ends.answer ∙ ap Ok (ap (λ l. l ++ counts.rest) (ends.uncounted refl) ∙ sym kept))
+      let (all, is, gathered) = ends.found in IfSome_then old ends.all (λ bytes same. ap fimi_of same ∙ is ∙ ap Ok (sym (kept ∙ gathered.2 refl)))
   exact_kept (Ok counts) (Err fault) kept ends working = absurd kept
   exact_kept (Err fault) answer kept stops working = subst (λ a. IfSome old (λ bytes. Returns a (fimi_of bytes))) (sym kept) (stops.exact working)
 

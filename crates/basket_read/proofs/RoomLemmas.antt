@@ -1,19 +1,18 @@
 -- An input of few bytes has few lines and few baskets.
-use Rattle.std.proofs.Common.{◌≡◌, ℕ, ◌+◌, ◌*◌, ◌<◌, ◌≤◌, ◌^◌, Bool, true, false, List, [], ◌∷◌, ◌++◌, length, cond, fold, suc, ap, ◌∙◌, subst, inl, inr, arith}
+use Rattle.std.proofs.Common.{ℕ, ◌+◌, ◌*◌, ◌<◌, ◌≤◌, ◌^◌, Bool, true, false, List, [], ◌∷◌, ◌++◌, length, cond, fold, suc, ap, ◌∙◌, inl, inr, arith}
 use Rattle.std.specs.List.{flat_map}
 use Rattle.std.proofs.lemmas.Bool.{cases_lt}
 use Rattle.std.proofs.lemmas.Grind.{not_there, flat_map-append}
 use Rattle.std.proofs.lemmas.List.{append-nil, length-append}
-use Rattle.std.proofs.lemmas.List.Sums.{sum_by-append}
 use Rattle.std.proofs.Math.Logic.{∥∥₁_map}
-use Rattle.basket_sets.specs.declared.weighted.Weighted.{Weighted}
-use Rattle.basket_sets.specs.Database.{MOST_BASKETS, MOST_WEIGHT}
-use Rattle.basket_sets.specs.Support.{total_of, weight_at}
+use Rattle.basket_sets.specs.Database.{MOST_BASKETS}
 use Rattle.basket_read.specs.declared.text.Text.{Text}
 use Rattle.basket_read.specs.Cut.{Cut, cut_more, cut_at}
 use Rattle.basket_read.specs.Fimi.{is_line_feed, is_times, basket_of, numbers_of, weight_before}
-use Rattle.basket_read.specs.Text.{HasBaskets, IsTextSoFar, HasRoom}
+use Rattle.basket_read.specs.GatheredBaskets.{HasPlace}
+use Rattle.basket_read.specs.Text.{IsTextSoFar, HasRoom}
 use Rattle.basket_read.proofs.theory.Cuts.{cut, size_after}
+use Rattle.basket_read.proofs.theory.Gathered.{kept_few}
 use Rattle.basket_read.proofs.theory.Numbers.{one_basket}
 
 -- a bound that follows from what is there
@@ -29,24 +28,10 @@ merely_at_most a b h f = elim (cases_lt b a) [
   | inr le ↦ le
 ]
 
--- what the baskets that are past and those that are kept weigh together
-light_together : (text : Text) (past : List Weighted) (bytes : List ℕ) → IsTextSoFar text past bytes → text.heavy ≡ false
-    → total_of past + total_of text.baskets ≤ MOST_WEIGHT
-light_together text past bytes t light =
-    let same = subst (λ b. HasBaskets b (past ++ text.baskets) (flat_map basket_of (cut_at is_line_feed bytes).ended)) light t.baskets in
-    let sum = sum_by-append (weight_at []) past text.baskets in
-    let whole = ap total_of same.0 in
-    omega (arith, same.1)
-
-pub light_table : (text : Text) (more : ℕ) → HasRoom text more → text.heavy ≡ false → text.table.total + total_of text.baskets ≤ MOST_WEIGHT
-light_table text more room light =
-    merely_at_most (text.table.total + total_of text.baskets) MOST_WEIGHT room
-    (λ w. let together = light_together text w.0 w.1 w.2 light in omega (arith, w.2.counted.total))
-
 -- a line feed for each line that has ended
 pub few_lines : (text : Text) (more : ℕ) → HasRoom text (more + 1) → text.lines + 1 < 2 ^ 32
 few_lines text more room =
-    merely_below (text.lines + 1) (2 ^ 32) room (λ w. let t = w.2.lines in let e = size_after is_line_feed (cut [] []) w.1 in let small = w.3 in omega arith)
+    merely_below (text.lines + 1) (2 ^ 32) room (λ w. let t = w.1.1.lines in let e = size_after is_line_feed (cut [] []) w.0 in let small = w.2 in omega arith)
 
 -- a basket has a number, and so its line a byte
 basket_size : (line : List ℕ) → 2 * length (basket_of line) ≤ length line + 1
@@ -72,14 +57,13 @@ baskets_after c (x ∷ xs) = at (is_line_feed x) (baskets_after (cut (c.ended ++
         omega arith
     at false ended joined = let one = length-append c.last (x ∷ []) in omega arith
 
-pub few_baskets : (text : Text) (more : ℕ) → HasRoom text more → text.heavy ≡ false → length text.baskets < MOST_BASKETS
+pub few_baskets : (text : Text) (more : ℕ) → HasRoom text more → HasPlace text.gathered
 few_baskets text more room light =
-    merely_below (length text.baskets) MOST_BASKETS room
-    (λ w. let same = subst (λ b. HasBaskets b (w.0 ++ text.baskets) (flat_map basket_of (cut_at is_line_feed w.1).ended)) light w.2.baskets in
-    let few = baskets_after (cut [] []) w.1 in let small = w.3 in let length_same = ap length same.0 in let parts = length-append w.0 text.baskets in omega arith)
+    merely_below (length text.gathered.baskets) MOST_BASKETS room
+    (λ w. let kept = kept_few text.gathered w.1.0 _ w.1.1.gathered light in let few = baskets_after (cut [] []) w.0 in let small = w.2 in omega arith)
 
 -- after a part of a piece there is room for its rest
 pub room_after : (text new : Text) (before : List ℕ) (more : ℕ) (all : ℕ) → length before + more ≤ all → HasRoom text all
-    → ((past : List Weighted) (bytes : List ℕ) → IsTextSoFar text past bytes → (now : List Weighted) × IsTextSoFar new now (bytes ++ before)) → HasRoom new more
+    → ((counting : Bool) (bytes : List ℕ) → IsTextSoFar text counting bytes → IsTextSoFar new counting (bytes ++ before)) → HasRoom new more
 room_after text new before more all few room step =
-    ∥∥₁_map room (λ w. let new_text = step w.0 w.1 w.2 in (new_text.0, w.1 ++ before, new_text.1, let sum = length-append w.1 before in let small = w.3 in omega arith))
+    ∥∥₁_map room (λ w. (w.0 ++ before, (w.1.0, step w.1.0 w.0 w.1.1), let sum = length-append w.0 before in let small = w.2 in omega arith))

@@ -1,14 +1,18 @@
 -- Baskets that are gathered one after another.
-use Rattle.std.specs.Prelude.{◌≡◌, ◌≤◌, Bool, false, List, [], ◌++◌, Result, Ok}
+use Rattle.std.specs.Prelude.{◌≡◌, ◌≤◌, ◌<◌, ◌+◌, Bool, true, false, List, [], ◌++◌, length, Result, Ok}
 use Rattle.basket_sets.specs.declared.weighted.Weighted.{Weighted}
 use Rattle.basket_sets.specs.ItemTable.{HasCounted}
-use Rattle.basket_sets.specs.Database.{MOST_WEIGHT}
+use Rattle.basket_sets.specs.Database.{MOST_BASKETS, MOST_WEIGHT}
 use Rattle.basket_sets.specs.Support.{total_of}
 use Rattle.basket_read.specs.declared.fault.ReadFault.{ReadFault}
 use Rattle.basket_read.specs.declared.item_counts.ItemCounts.{ItemCounts}
+use Rattle.basket_read.specs.declared.gathered.GatheredBaskets.{GatheredBaskets}
 use Rattle.basket_read.specs.ItemCounts.{AreCountsOf}
-use Rattle.basket_read.specs.Text.{HasBaskets}
-use Rattle.basket_csv.specs.declared.gathered.GatheredBaskets.{GatheredBaskets}
+
+-- a database has the baskets, which don't weigh too much, or they are known to weigh too much
+abbrev pub HasBaskets : Bool → List Weighted → List Weighted → Type 0
+HasBaskets true database baskets = MOST_WEIGHT < total_of baskets
+HasBaskets false database baskets = (database ≡ baskets) × (total_of baskets ≤ MOST_WEIGHT)
 
 -- these are the baskets that were gathered; the first of them may be past, which were counted and are not kept, if baskets are counted
 pub record HasGathered (gathered : GatheredBaskets) (counting : Bool) (baskets : List Weighted) : Type 0 where
@@ -18,10 +22,20 @@ pub record HasGathered (gathered : GatheredBaskets) (counting : Bool) (baskets :
   pub counted : HasCounted gathered.table past
   pub kept : HasBaskets gathered.heavy (past ++ gathered.baskets) baskets
 
+-- one more basket may be kept
+abbrev pub HasPlace : GatheredBaskets → Type 0
+HasPlace gathered = gathered.heavy ≡ false → length gathered.baskets < MOST_BASKETS
+
+-- a database may have as many baskets as these and those that were gathered after them
+abbrev pub FitTogether : GatheredBaskets → GatheredBaskets → Type 0
+FitTogether gathered other =
+    ∥ ((counting : Bool) × (apart : Bool) × (baskets : List Weighted) × (more : List Weighted)
+    × HasGathered gathered counting baskets × HasGathered other apart more × (length baskets + length more ≤ MOST_BASKETS)) ∥₁
+
 -- these are the counts of some baskets, which a database may have, and all are kept unless baskets are counted
 abbrev pub AreGathered : Bool → ItemCounts → List Weighted → Type 0
 AreGathered counting counts baskets = AreCountsOf counts baskets × (total_of baskets ≤ MOST_WEIGHT) × (counting ≡ false → counts.rest ≡ baskets)
 
--- the same, and these baskets are what is said
-abbrev pub Gathers : Bool → List Weighted → ItemCounts → Result (List Weighted) ReadFault → Type 0
-Gathers counting baskets counts said = (said ≡ Ok baskets) × AreGathered counting counts baskets
+-- the same, and these baskets are the ones that are defined
+abbrev pub Gathers : Bool → ItemCounts → Result (List Weighted) ReadFault → Type 0
+Gathers counting counts defined = (baskets : List Weighted) × (defined ≡ Ok baskets) × AreGathered counting counts baskets

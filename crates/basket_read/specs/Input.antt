@@ -1,10 +1,11 @@
 -- What an input that comes in pieces stands for.
-use Rattle.std.specs.Prelude.{◌≡◌, ◌≤◌, ℕ, Bool, true, false, not, List, [], ◌∷◌, length}
-use Rattle.basket_sets.specs.declared.weighted.Weighted.{Weighted}
+use Rattle.std.specs.Prelude.{◌≡◌, ◌≤◌, ℕ, Bool, true, false, not, List, [], ◌∷◌, ◌++◌, length, Result, MatchResult}
+use Rattle.basket_read.specs.declared.fault.ReadFault.{ReadFault}
 use Rattle.basket_read.specs.declared.input.Front.{Front}
 use Rattle.basket_read.specs.declared.input.Front.TheVariants.{Empty, OneByte, TwoBytes, Decided}
 use Rattle.basket_read.specs.declared.input.Input.{Input}
-use Rattle.basket_read.specs.Fimi.{text_of, may_be_mark, MOST_BYTES}
+use Rattle.basket_read.specs.Fault.{ReturnsFault}
+use Rattle.basket_read.specs.Fimi.{text_of, may_be_mark, settled_fault, MOST_BYTES}
 use Rattle.basket_read.specs.Text.{IsTextSoFar}
 
 -- whether the bytes settle if the mark stands at their front
@@ -26,13 +27,18 @@ text_behind OneByte bytes = []
 text_behind TwoBytes bytes = []
 text_behind Decided bytes = text_of bytes
 
--- the input that was read is of these bytes, and has no fault that is settled; the baskets that are past were counted and are not kept
-pub record IsInputSoFar (input : Input) (past : List Weighted) (bytes : List ℕ) : Type 0 where
+-- the input that was read is of these bytes, and has no fault that is settled; its baskets are counted or not
+pub record IsInputSoFar (input : Input) (counting : Bool) (bytes : List ℕ) : Type 0 where
   pub front : IsFront input.front bytes
   pub taken : input.taken ≡ length bytes
   pub few : length bytes ≤ MOST_BYTES
-  pub text : IsTextSoFar input.text past (text_behind input.front bytes)
+  pub text : IsTextSoFar input.text counting (text_behind input.front bytes)
 
 -- the input that was read is of some bytes
 abbrev pub IsSomeInput : Input → Type 0
-IsSomeInput input = ∥ ((past : List Weighted) × (bytes : List ℕ) × IsInputSoFar input past bytes) ∥₁
+IsSomeInput input = ∥ ((counting : Bool) × (bytes : List ℕ) × IsInputSoFar input counting bytes) ∥₁
+
+-- an input that reads more has these bytes after those that it had, or the fault is the one that they all have whatever follows
+abbrev pub TakesOn : {A : Type 0} → Input → List ℕ → Result A ReadFault → Input → Type 0
+TakesOn input piece result new = (counting : Bool) (bytes : List ℕ) → IsInputSoFar input counting bytes →
+    MatchResult result (λ _. IsInputSoFar new counting (bytes ++ piece)) (λ fault. ReturnsFault fault (settled_fault (bytes ++ piece)))

@@ -8,6 +8,7 @@ pub mod Line
 pub mod Text
 pub mod Bytes
 pub mod ItemCounts
+pub mod GatheredBaskets
 pub mod Input
 pub mod Parts
 pub mod Read

@@ -1,5 +1,5 @@
 -- What the parts of an input stand for.
-use Rattle.std.specs.Prelude.{◌≡◌, List, [], ℕ, Option, Some, MatchOption}
+use Rattle.std.specs.Prelude.{◌≡◌, List, ℕ, false, Option, Some, MatchOption}
 use Rattle.basket_read.specs.declared.fault.ReadFault.{ReadFault}
 use Rattle.basket_read.specs.declared.parts.FimiParts.{FimiParts}
 use Rattle.basket_read.specs.Fimi.{settled_fault}
@@ -11,4 +11,4 @@ refusal_of parts = parts.refusal
 
 -- the parts stand for the bytes that they were fed: what was read is theirs, or the fault that was answered is
 abbrev pub IsFed : FimiParts → List ℕ → Type 0
-IsFed parts bytes = MatchOption parts.refusal (IsInputSoFar parts.input [] bytes) (λ fault. settled_fault bytes ≡ Some fault)
+IsFed parts bytes = MatchOption parts.refusal (IsInputSoFar parts.input false bytes) (λ fault. settled_fault bytes ≡ Some fault)

@@ -1,12 +1,12 @@
 -- What reading returns, by the bytes that the reader had and has left, and by whether it failed.
-use Rattle.std.specs.Prelude.{◌≡◌, ◌≢◌, ℕ, Bool, true, false, List, [], ◌++◌, Option, Some, Result, Ok, Err, IfErr, IfOk, IfSome, IsErr, MatchResult, unwrap_or}
+use Rattle.std.specs.Prelude.{◌≡◌, ◌≢◌, ℕ, Bool, true, false, List, Option, Some, Result, Ok, Err, IfErr, IfOk, IfSome, IsErr, MatchResult, unwrap_or}
 use Rattle.std.specs.Io.KnownBytes.{Consumes}
 use Rattle.basket_sets.specs.declared.weighted.Weighted.{Weighted}
-use Rattle.basket_sets.specs.ItemTable.{HasCounted}
 use Rattle.basket_read.specs.declared.fault.ReadFault.{ReadFault}
 use Rattle.basket_read.specs.declared.fault.ReadFault.TheVariants.{Memory, Read}
 use Rattle.basket_read.specs.declared.item_counts.ItemCounts.{ItemCounts}
 use Rattle.basket_read.specs.Fimi.{fault_in, fimi_of}
+use Rattle.basket_read.specs.GatheredBaskets.{Gathers}
 use Rattle.basket_read.specs.ItemCounts.{AreLightCounts, Counts}
 use Rattle.basket_read.specs.Fault.{Returns}
 
@@ -34,15 +34,12 @@ pub record CountsAs (defined : List ℕ → Result (List Weighted) ReadFault) (o
   pub failed_is_err : broken ≡ true → IsErr result
   pub read_is_failed : result ≡ Err Read → broken ≡ true
 
--- all bytes were read: the answer to them is the baskets that were counted, none unless they are to be, and those that are kept
+-- all bytes were read, and their baskets are those that were gathered
 pub record Ends (counting : Bool) (old : Option (List ℕ)) (failed : Bool) (counts : ItemCounts) : Type 0 where
   pub working : failed ≡ false
   pub bytes : List ℕ
   pub all : IfSome old (λ all. all ≡ bytes)
-  pub past : List Weighted
-  pub uncounted : counting ≡ false → past ≡ []
-  pub counted : HasCounted counts.table past
-  pub answer : fimi_of bytes ≡ Ok (past ++ counts.rest)
+  pub found : Gathers counting counts (fimi_of bytes)
 
 -- the fault is that of all bytes if the reader has not failed, else the one that is returned then
 pub record Stops (old new : Option (List ℕ)) (failed : Bool) (fault : ReadFault) : Type 0 where

@@ -10,8 +10,7 @@ use crate::item_counts::ItemCounts;
 use basket_stream::Source;
 use std::alloc::Global;
 
-/// Reads an input to its end in batches of this many bytes. The baskets of a batch may be counted
-/// before the next is read.
+/// Reads an input to its end in batches of this many bytes. Its baskets may be counted.
 pub(crate) fn read_batches<F: Feeder, S: Source>(
     feeder: &F,
     alloc: Global,
@@ -26,10 +25,10 @@ pub(crate) fn read_batches<F: Feeder, S: Source>(
     ensures { Reads counting (S.left reader.old) (S.left reader.new) (S.has_failed reader.new) result }
 {
     let mut buffer = Vec::new(alloc);
-    let mut input = Input::new(alloc);
+    let mut input = Input::new(alloc, counting);
     'reading: loop {
         let count = fill(reader, &mut buffer, most)?;
-        input.take(feeder, &buffer[..count], counting)?;
+        input.take(feeder, &buffer[..count])?;
         if reader.failed() {
             return Err(input.fault_so_far().unwrap_or(ReadFault::Read));
         }

@@ -7,7 +7,7 @@ ghost use Rattle.basket_read.specs.Fimi.{first_fault};
 ghost use Rattle.basket_read.specs.Text.{HasRoom, ReadsOn};
 
 use crate::fault::ReadFault;
-use crate::lines::{feed_part, feed_shared};
+use crate::lines::feed_shared;
 use crate::text::Text;
 use std::mem;
 use std::thread::Threads;
@@ -16,11 +16,11 @@ use std::thread::Threads;
 pub(crate) trait Feeder {
     ghost is_ready: { Self → Type 0 };
 
-    /// Takes more of a text, up to its first fault, and may count its baskets.
-    fn feed(&self, text: &mut Text, piece: &[u8], counting: bool) -> Result<(), ReadFault>
+    /// Takes more of a text, up to its first fault.
+    fn feed(&self, text: &mut Text, piece: &[u8]) -> Result<(), ReadFault>
         requires ready { is_ready self.now }
         requires room { HasRoom text.old (length piece.now) }
-        ensures { ReadsOn text.old counting piece.now result (λ _. text.new) };
+        ensures { ReadsOn text.old piece.now result (λ _. text.new) };
 }
 
 /// The thread that reads.
@@ -30,8 +30,8 @@ pub(crate) struct Alone;
 impl Feeder for Alone {
     ghost is_ready = { λ _. ⊤ };
 
-    fn feed(&self, text: &mut Text, piece: &[u8], counting: bool) -> Result<(), ReadFault> {
-        feed_part(text, piece, counting)
+    fn feed(&self, text: &mut Text, piece: &[u8]) -> Result<(), ReadFault> {
+        text.feed(piece)
     }
 }
 
@@ -45,10 +45,10 @@ pub(crate) struct Workers<'a, R> {
 impl<R: Threads + Sync> Feeder for Workers<'_, R> {
     ghost is_ready = { λ _. IsSync R.row };
 
-    fn feed(&self, text: &mut Text, piece: &[u8], counting: bool) -> Result<(), ReadFault> {
-        let empty = Text::new(text.alloc(), 0);
+    fn feed(&self, text: &mut Text, piece: &[u8]) -> Result<(), ReadFault> {
+        let empty = Text::new(text.alloc(), false, 0);
         let before = mem::replace(text, empty);
-        *text = feed_shared(self.rt, before, piece, self.count, counting)?;
+        *text = feed_shared(self.rt, before, piece, self.count)?;
         Ok(())
     }
 }

@@ -1,22 +1,20 @@
 //! Baskets that are gathered one after another.
-ghost use Rattle.std.specs.Prelude.{◌≡◌, ◌≤◌, ◌<◌, ◌+◌, Bool, [], ◌++◌, List, OnOk, IfErr, false, length};
-ghost use Rattle.basket_sets.specs.Database.{MOST_BASKETS, MOST_WEIGHT};
+ghost use Rattle.std.specs.Prelude.{◌≡◌, ◌≢◌, ◌≤◌, ◌<◌, ◌+◌, Bool, [], ◌∷◌, ◌++◌, List, OnOk, IfOk, IfErr, IsTrue, true, false, length, min};
+ghost use Rattle.basket_sets.specs.Database.{weighted, MOST_BASKETS, MOST_WEIGHT};
 ghost use Rattle.basket_sets.specs.declared.weighted.Weighted.{Weighted};
 ghost use Rattle.basket_sets.specs.ItemTable.{HasCounted};
 ghost use Rattle.basket_sets.specs.Support.{total_of};
-ghost use Rattle.basket_read.specs.Fimi.{basket_of_numbers, if_light};
-ghost use Rattle.basket_csv.specs.GatheredBaskets.{Gathers, HasGathered};
 ghost use Rattle.basket_read.specs.Fault.{ReturnsBy};
+ghost use Rattle.basket_read.specs.Fimi.{basket_of_numbers, if_light};
+ghost use Rattle.basket_read.specs.GatheredBaskets.{FitTogether, Gathers, HasGathered, HasPlace};
 
-use basket_read::{ItemCounts, ReadFault};
+use crate::fault::ReadFault;
+use crate::item_counts::ItemCounts;
 use basket_sets::{Database, ItemTable, Itemset};
 use std::alloc::{AllocError, Global};
 
-/// How many baskets are kept before they are counted.
-const BATCH: usize = 1_024;
-
 /// The baskets so far. If one can't be added, all are lost.
-#[derive(Drop)]
+#[derive(Debug, Drop)]
 pub struct GatheredBaskets {
     alloc: Global,
     /// Whether baskets are counted, and dropped then: they are past.
@@ -25,31 +23,52 @@ pub struct GatheredBaskets {
     baskets: Database,
     /// The counts of the baskets that are past.
     table: ItemTable,
-    /// How many are kept before they are counted: twice as many each time the table is too small.
-    most: usize,
+    /// How many were kept when the table was too small. It is tried again at twice as many.
+    refused: usize,
     /// Whether they weigh too much for a database, which then has not all of them.
     heavy: bool,
 }
 
 impl GatheredBaskets {
-    pub fn new(alloc: Global, counting: bool) -> Self
+    /// No baskets. Those that will come have about this many items together, if that is known.
+    pub fn new(alloc: Global, counting: bool, occurrences: usize) -> Self
         ensures { HasGathered result counting [] }
     {
         GatheredBaskets {
             alloc,
             counting,
             baskets: Database::new(alloc),
-            table: ItemTable::new(alloc),
-            most: BATCH,
+            table: ItemTable::expecting(alloc, occurrences),
+            refused: 0,
             heavy: false,
         }
     }
 
+    /// What they are allocated with.
+    pub fn alloc(&self) -> Global {
+        self.alloc
+    }
+
+    /// Whether the next basket may be counted: none can be past after one that is kept.
+    pub fn counts(&self) -> bool
+        ensures { IsTrue result → (self.now.counting ≡ true) × (self.now.baskets ≡ []) }
+    {
+        self.counting && self.baskets.is_empty()
+    }
+
+    /// What the baskets weigh together, or `u64::MAX` if it is more.
+    fn weight(&self) -> u64
+        ensures { result ≡ min (self.now.table.total + total_of self.now.baskets) 18446744073709551615 }
+    {
+        self.table.total().saturating_add(self.baskets.total())
+    }
+
     /// Adds the basket of the numbers, which may come in any order and repeat, unless there is none.
-    #[tactic(auto, using(basket_read::proofs::theory::Numbers::rising_nonempty))]
+    #[inline]
+    #[tactic(auto, using(crate::proofs::theory::Numbers::rising_nonempty))]
     pub fn add(&mut self, numbers: &[u32], weight: u32) -> Result<(), ReadFault>
         requires weighs { 1 ≤ weight }
-        requires few { self.old.heavy ≡ false → length self.old.baskets < MOST_BASKETS }
+        requires place { HasPlace self.old }
         ensures baskets { (counting : Bool) (baskets : List Weighted) → HasGathered self.old counting baskets
             → OnOk result (HasGathered self.new counting (baskets ++ basket_of_numbers numbers.now weight)) }
         ensures err { IfErr result (λ fault. fault ≡ ReadFault.Memory) }
@@ -58,43 +77,85 @@ impl GatheredBaskets {
             return Ok(());
         }
         let weight = u64::from(weight);
-        let room = Database::MAX_WEIGHT.saturating_sub(self.table.total());
-        if weight > room.saturating_sub(self.baskets.total()) {
+        if weight > Database::MAX_WEIGHT.saturating_sub(self.weight()) {
             self.heavy = true;
         }
         if self.heavy {
             return Ok(());
         }
+        if self.counts() && self.table.add_rising(numbers, weight) {
+            return Ok(());
+        }
         let basket = Itemset::from_items(self.alloc, numbers)?;
+        self.add_basket(basket, weight)
+    }
+
+    /// Adds a basket that doesn't make them too heavy. It is counted at once if it may be and the
+    /// table has a slot for each of its items.
+    fn add_basket(&mut self, basket: Itemset, weight: u64) -> Result<(), ReadFault>
+        requires nonempty { basket ≢ [] }
+        requires weighs { 1 ≤ weight }
+        requires few { length self.old.baskets < MOST_BASKETS }
+        requires light { self.old.table.total + total_of self.old.baskets + weight ≤ MOST_WEIGHT }
+        requires known { self.old.heavy ≡ false }
+        ensures baskets { (counting : Bool) (baskets : List Weighted) → HasGathered self.old counting baskets
+            → OnOk result (HasGathered self.new counting (baskets ++ weighted basket weight ∷ [])) }
+        ensures err { IfErr result (λ fault. fault ≡ ReadFault.Memory) }
+    {
+        if self.counts() && self.table.add_rising(basket.items(), weight) {
+            return Ok(());
+        }
         if self.baskets.push(basket, weight).is_err() {
             return Err(ReadFault::Memory);
         }
-        if self.counting && self.baskets.len() >= self.most {
-            self.count()?;
-        }
+        self.count()?;
         Ok(())
     }
 
-    /// Counts the baskets that are kept, unless the table would be too large for them.
+    /// Adds baskets that were gathered after these, and returns whether it did: some that are past
+    /// can't come after one that is kept.
+    pub fn append(&mut self, other: GatheredBaskets) -> Result<bool, AllocError>
+        requires { FitTogether self.old other }
+        ensures baskets { (counting apart : Bool) (baskets more : List Weighted) → HasGathered self.old counting baskets → HasGathered other apart more
+            → IfOk result (λ added. IsTrue added → HasGathered self.new counting (baskets ++ more)) }
+        ensures left { IfOk result (λ added. added ≡ false → self.new ≡ self.old) }
+    {
+        if other.counting && !self.counts() {
+            return Ok(false);
+        }
+        let weight = self.weight().saturating_add(other.weight());
+        if self.heavy || other.heavy || weight > Database::MAX_WEIGHT {
+            self.heavy = true;
+            return Ok(true);
+        }
+        self.table.append(&other.table)?;
+        self.baskets.append(other.baskets)?;
+        self.count()?;
+        Ok(true)
+    }
+
+    /// Counts the baskets that are kept, if they are to be counted and the table would not be too
+    /// large for them.
     fn count(&mut self) -> Result<(), AllocError>
         requires { self.old.table.total + total_of self.old.baskets ≤ MOST_WEIGHT }
         ensures counting { self.new.counting ≡ self.old.counting }
         ensures heavy { self.new.heavy ≡ self.old.heavy }
         ensures baskets { (past : List Weighted) → HasCounted self.old.table past
-            → OnOk result ((now : List Weighted) × HasCounted self.new.table now × (now ++ self.new.baskets ≡ past ++ self.old.baskets)) }
+            → OnOk result ((now : List Weighted) × (self.old.counting ≡ false → now ≡ past) × HasCounted self.new.table now × (now ++ self.new.baskets ≡ past ++ self.old.baskets)) }
     {
+        if !self.counting || self.baskets.len() / 2 < self.refused {
+            return Ok(());
+        }
         if self.table.add(self.baskets.baskets())? {
             self.baskets.clear();
-        } else {
-            self.most = self.most.saturating_mul(2);
         }
+        self.refused = self.baskets.len();
         Ok(())
     }
 
     /// All baskets, if they don't weigh too much: the counts of those that are past, and the others.
     pub fn finish(self) -> Result<ItemCounts, ReadFault>
-        ensures baskets { (counting : Bool) (baskets : List Weighted) → HasGathered self counting baskets →
-            ReturnsBy (Gathers counting baskets) result (if_light baskets) }
+        ensures baskets { (counting : Bool) (baskets : List Weighted) → HasGathered self counting baskets → ReturnsBy (Gathers counting) result (if_light baskets) }
         ensures err { IfErr result (λ fault. fault ≡ ReadFault.Heavy) }
     {
         let GatheredBaskets {

@@ -1,10 +1,9 @@
 //! An input of which not all has been read.
-ghost use Rattle.std.specs.Prelude.{◌≡◌, ◌≢◌, ◌+◌, ◌≤◌, ℕ, List, [], ◌∷◌, ◌++◌, length, MatchResult};
-ghost use Rattle.basket_read.specs.Fimi.{settled_fault, fault_in, fimi_of};
-ghost use Rattle.basket_read.specs.Fault.{ReturnsFault};
-ghost use Rattle.basket_read.specs.Text.{CountsBehind, GoesOn};
-ghost use Rattle.basket_sets.specs.declared.weighted.Weighted.{Weighted};
-ghost use Rattle.basket_read.specs.Input.{IsInputSoFar, IsSomeInput};
+ghost use Rattle.std.specs.Prelude.{◌≡◌, ◌≢◌, ◌+◌, ◌≤◌, ℕ, Bool, List, [], ◌∷◌, ◌++◌, length};
+ghost use Rattle.basket_read.specs.Fimi.{fault_in, fimi_of};
+ghost use Rattle.basket_read.specs.Fault.{ReturnsBy};
+ghost use Rattle.basket_read.specs.GatheredBaskets.{Gathers};
+ghost use Rattle.basket_read.specs.Input.{IsInputSoFar, IsSomeInput, TakesOn};
 
 use crate::bytes::{MARK, MAX_BYTES};
 use crate::fault::ReadFault;
@@ -42,31 +41,26 @@ pub struct Input {
 }
 
 impl Input {
-    pub fn new(alloc: Global) -> Self
-        ensures { IsInputSoFar result [] [] }
+    /// An input of which nothing has been read. Its baskets may be counted.
+    pub fn new(alloc: Global, counting: bool) -> Self
+        ensures { IsInputSoFar result counting [] }
     {
         Input {
             front: Front::Empty,
             taken: 0,
-            text: Text::new(alloc, 0),
+            text: Text::new(alloc, counting, 0),
         }
     }
 
-    /// Takes more of the input, up to its first fault, and may count its baskets.
-    pub fn take<F: Feeder>(
-        &mut self,
-        feeder: &F,
-        piece: &[u8],
-        counting: bool,
-    ) -> Result<(), ReadFault>
+    /// Takes more of the input, up to its first fault.
+    pub fn take<F: Feeder>(&mut self, feeder: &F, piece: &[u8]) -> Result<(), ReadFault>
         requires ready { F.is_ready feeder.now }
         requires some { IsSomeInput self.old }
-        ensures { (past : List Weighted) (bytes : List ℕ) → IsInputSoFar self.old past bytes →
-            MatchResult result (λ _. GoesOn counting past (λ now. IsInputSoFar self.new now (bytes ++ piece.now))) (λ fault. ReturnsFault fault (settled_fault (bytes ++ piece.now))) }
+        ensures { TakesOn self.old piece.now result self.new }
     {
         for (place, byte) in piece.iter().enumerate() {
             if let Front::Decided = self.front {
-                return self.take_text(feeder, &piece[place..], counting);
+                return self.take_text(feeder, &piece[place..]);
             }
             self.take_byte(*byte)?;
         }
@@ -76,15 +70,14 @@ impl Input {
     /// Takes a byte, after the mark or where it may be.
     fn take_byte(&mut self, byte: u8) -> Result<(), ReadFault>
         requires { IsSomeInput self.old }
-        ensures { (past : List Weighted) (bytes : List ℕ) → IsInputSoFar self.old past bytes →
-            MatchResult result (λ _. IsInputSoFar self.new past (bytes ++ byte ∷ [])) (λ fault. ReturnsFault fault (settled_fault (bytes ++ byte ∷ []))) }
+        ensures { TakesOn self.old (byte ∷ []) result self.new }
     {
         match self.front {
             Front::Empty => {
                 if byte == MARK[0] {
                     self.front = Front::OneByte;
                 } else {
-                    self.text.feed(&[byte], false)?;
+                    self.text.feed(&[byte])?;
                     self.front = Front::Decided;
                 }
                 self.taken = 1;
@@ -103,37 +96,31 @@ impl Input {
                 self.front = Front::Decided;
                 self.taken = 3;
             }
-            Front::Decided => return self.take_text(&Alone, &[byte], false),
+            Front::Decided => return self.take_text(&Alone, &[byte]),
         }
         Ok(())
     }
 
     /// Takes bytes after the beginning, as many as an input may have.
-    fn take_text<F: Feeder>(
-        &mut self,
-        feeder: &F,
-        piece: &[u8],
-        counting: bool,
-    ) -> Result<(), ReadFault>
+    fn take_text<F: Feeder>(&mut self, feeder: &F, piece: &[u8]) -> Result<(), ReadFault>
         requires ready { F.is_ready feeder.now }
         requires some { IsSomeInput self.old }
         requires decided { self.old.front ≡ Front.Decided }
-        ensures { (past : List Weighted) (bytes : List ℕ) → IsInputSoFar self.old past bytes →
-            MatchResult result (λ _. GoesOn counting past (λ now. IsInputSoFar self.new now (bytes ++ piece.now))) (λ fault. ReturnsFault fault (settled_fault (bytes ++ piece.now))) }
+        ensures { TakesOn self.old piece.now result self.new }
     {
         let room = MAX_BYTES - self.taken as usize;
         if piece.len() > room {
-            self.text.feed(&piece[..room], false)?;
+            self.text.feed(&piece[..room])?;
             return Err(ReadFault::TooLong);
         }
-        feeder.feed(&mut self.text, piece, counting)?;
+        feeder.feed(&mut self.text, piece)?;
         self.taken += piece.len() as u32;
         Ok(())
     }
 
     /// The fault of the bytes so far if none follow.
     pub fn fault_so_far(&self) -> Option<ReadFault>
-        ensures { (past : List Weighted) (bytes : List ℕ) → IsInputSoFar self.now past bytes → result ≡ fault_in bytes }
+        ensures { (counting : Bool) (bytes : List ℕ) → IsInputSoFar self.now counting bytes → result ≡ fault_in bytes }
     {
         match self.front {
             Front::OneByte | Front::TwoBytes => Some(HALF_A_MARK),
@@ -144,7 +131,7 @@ impl Input {
     /// The counts of the whole input.
     pub fn finish(self) -> Result<ItemCounts, ReadFault>
         requires { IsSomeInput self }
-        ensures { (past : List Weighted) (bytes : List ℕ) → IsInputSoFar self past bytes → CountsBehind past result (fimi_of bytes) }
+        ensures { (counting : Bool) (bytes : List ℕ) → IsInputSoFar self counting bytes → ReturnsBy (Gathers counting) result (fimi_of bytes) }
     {
         if let Some(fault) = self.fault_so_far() {
             return Err(fault);

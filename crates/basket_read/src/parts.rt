@@ -30,7 +30,7 @@ impl FimiParts {
         ensures refusal { refusal_of result ≡ None }
     {
         FimiParts {
-            input: Input::new(alloc),
+            input: Input::new(alloc, false),
             refusal: None,
         }
     }
@@ -50,7 +50,7 @@ impl FimiParts {
         if let Some(fault) = self.refusal {
             return Err(fault);
         }
-        match self.input.take(&Alone, piece, false) {
+        match self.input.take(&Alone, piece) {
             Ok(()) => Ok(()),
             Err(fault) => {
                 self.refusal = Some(fault);

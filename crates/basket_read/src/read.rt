@@ -18,9 +18,12 @@ pub const MAX_BLOCK: usize = 1_048_576;
 /// The block of `read_fimi`.
 pub(crate) const BLOCK: usize = 65_536;
 
-/// How many bytes workers read side by side before the next are taken in. With fewer, threads are
+/// How many bytes workers count side by side before the next are taken in. With fewer, threads are
 /// started more often, and it may take milliseconds until all of them run.
 const BATCH: usize = 8_388_608;
+
+/// The same if baskets are kept. Those of a batch take memory twice until they are appended.
+const KEPT_BATCH: usize = BATCH / 2;
 
 /// Reads a FIMI input to its end, in blocks of 65,536 bytes.
 pub fn read_fimi<S: Source>(alloc: Global, reader: &mut S) -> Result<Database, ReadFault>
@@ -44,9 +47,8 @@ pub fn read_fimi_by<S: Source>(
     read_batches(&Alone, alloc, reader, block, false).map(ItemCounts::into_rest)
 }
 
-/// Reads a FIMI input to its end, in blocks of 65,536 bytes, and counts its items. The baskets of a
-/// block are counted before the next is read, and only those are kept whose items are too great for
-/// a table.
+/// Reads a FIMI input to its end, in blocks of 65,536 bytes, and counts its items. Baskets are kept
+/// only if their items are too great for a table.
 pub fn count_fimi<S: Source>(alloc: Global, reader: &mut S) -> Result<ItemCounts, ReadFault>
     requires { S.has_failed reader.old ≡ false }
     ensures { CountsAs fimi_of (S.left reader.old) (S.left reader.new) (S.has_failed reader.new) result }
@@ -68,7 +70,7 @@ pub fn read_fimi_shared<R: Threads + Sync, S: Source>(
         return read_fimi(alloc, reader);
     }
     let feeder = Workers { rt, count: workers };
-    read_batches(&feeder, alloc, reader, BATCH, false).map(ItemCounts::into_rest)
+    read_batches(&feeder, alloc, reader, KEPT_BATCH, false).map(ItemCounts::into_rest)
 }
 
 /// Reads a FIMI input to its end and counts its items, as `count_fimi` does, by this many workers.

@@ -19,43 +19,43 @@ returns-in_err-take g c =
     let batch = take c.in_ok-count.count c.deref.result.now in
     stopped c.args.counting _ _ _ c.from_residual-in_err-take.result c.in_err-take.field-0.0 (p.1 ∙ ap Err p.2)
     (stops_fault _ _ _ (read.0 ++ batch) c.in_err-take.field-0.0 (taken_in _ _ _ read.0 _ _ c.in_ok-count.count c.deref.ensures.value read.1 c.in_ok-count.ensures.given)
-    (c.in_err-take.ensures read.2.0 read.0 read.2.2))
+    (c.in_err-take.ensures c.args.counting read.0 read.2))
 
 pub returns-then-failed : goal.returns-then-failed
 returns-then-failed g c =
     let read = c.reading.invariant.read in
     let batch = take c.in_ok-count.count c.deref.result.now in
-    let on = c.in_ok-take.ensures read.2.0 read.0 read.2.2 in
+    let on = c.in_ok-take.ensures c.args.counting read.0 read.2 in
     stops_failed _ _ _ _ (read.0 ++ batch) c.unwrap_or.result (sym c.failed.ensures ∙ c.if-failed.true) (taken_in _ _ _ read.0 _ _ c.in_ok-count.count c.deref.ensures.value read.1 c.in_ok-count.ensures.given) (Keeps-refl _)
-    (c.unwrap_or.ensures ∙ ap (λ found. unwrap_or found Read) (c.fault_so_far.ensures on.0 (read.0 ++ batch) on.2))
+    (c.unwrap_or.ensures ∙ ap (λ found. unwrap_or found Read) (c.fault_so_far.ensures c.args.counting (read.0 ++ batch) on))
 
 pub finish-requires : goal.finish-requires
-finish-requires g c = let read = c.reading.invariant.read in let on = c.in_ok-take.ensures read.2.0 read.0 read.2.2 in ∣ (on.0, _, on.2) ∣₁
+finish-requires g c = let read = c.reading.invariant.read in let on = c.in_ok-take.ensures c.args.counting read.0 read.2 in ∣ (_, _, on) ∣₁
 
 pub returns-then-count-most : goal.returns-then-count-most
 returns-then-count-most g c =
     let read = c.reading.invariant.read in
     let batch = take c.in_ok-count.count c.deref.result.now in
-    let on = c.in_ok-take.ensures read.2.0 read.0 read.2.2 in
+    let on = c.in_ok-take.ensures c.args.counting read.0 read.2 in
     let working = sym c.failed.ensures ∙ c.if-failed.false in
     ended c.args.counting _ _ _ _ (read.0 ++ batch) [] c.finish.result working (taken_in _ _ _ read.0 _ _ c.in_ok-count.count c.deref.ensures.value read.1 c.in_ok-count.ensures.given) (Consumes-nil _) refl
-    (c.in_ok-count.ensures.ended working c.if-count-most.true) (on.0, λ off. on.1 off ∙ read.2.1 off, c.finish.ensures on.0 (read.0 ++ batch) on.2)
+    (c.in_ok-count.ensures.ended working c.if-count-most.true) (c.finish.ensures c.args.counting (read.0 ++ batch) on)
 
 pub reading-smaller : goal.reading-smaller
 reading-smaller g c =
     let read = c.reading.invariant.read in
     let batch = take c.in_ok-count.count c.deref.result.now in
-    let on = c.in_ok-take.ensures read.2.0 read.0 read.2.2 in
+    let on = c.in_ok-take.ensures c.args.counting read.0 read.2 in
     let sum = length-append read.0 batch in
     let some = length-take c.in_ok-count.count c.deref.result.now in
-    omega (arith, read.2.2.taken, on.2.taken, on.2.few, sum, some, ap length c.deref.ensures.value, c.in_ok-count.ensures.within, c.if-count-most.false, c.requires.some)
+    omega (arith, read.2.taken, on.taken, on.few, sum, some, ap length c.deref.ensures.value, c.in_ok-count.ensures.within, c.if-count-most.false, c.requires.some)
 
 pub reading-preserved : goal.reading-preserved
 reading-preserved g c =
     let read = c.reading.invariant.read in
     let batch = take c.in_ok-count.count c.deref.result.now in
-    let on = c.in_ok-take.ensures read.2.0 read.0 read.2.2 in
+    let on = c.in_ok-take.ensures c.args.counting read.0 read.2 in
     record {
       unfailed = sym c.failed.ensures ∙ c.if-failed.false;
-      read = (read.0 ++ batch, taken_in _ _ _ read.0 _ _ c.in_ok-count.count c.deref.ensures.value read.1 c.in_ok-count.ensures.given, (on.0, λ off. on.1 off ∙ read.2.1 off, on.2));
+      read = (read.0 ++ batch, taken_in _ _ _ read.0 _ _ c.in_ok-count.count c.deref.ensures.value read.1 c.in_ok-count.ensures.given, on);
     }

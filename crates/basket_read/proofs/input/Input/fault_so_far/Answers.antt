@@ -5,7 +5,7 @@ use Rattle.basket_read.proofs.InputLemmas.{at_front, fault_few}
 use Rattle.basket_read.proofs.input.Input.fault_so_far.Goals as goal
 
 pub returns-in-Empty : goal.returns-in-Empty
-returns-in-Empty c = λ past bytes r. elim c.in-Empty.is [
-  | inl e ↦ sym (ap fault_in (at_front c.args.self.now past bytes r Empty e).0)
-  | inr e ↦ sym (fault_few bytes r.few ∙ (at_front c.args.self.now past bytes r Decided e).1.faultless)
+returns-in-Empty c = λ counting bytes r. elim c.in-Empty.is [
+  | inl e ↦ sym (ap fault_in (at_front c.args.self.now counting bytes r Empty e).0)
+  | inr e ↦ sym (fault_few bytes r.few ∙ (at_front c.args.self.now counting bytes r Decided e).1.faultless)
 ]

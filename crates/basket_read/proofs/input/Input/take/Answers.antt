@@ -4,9 +4,9 @@ use Rattle.std.proofs.lemmas.Result.{err_from_is_err_and}
 use Rattle.std.specs.Prelude.{MatchResult}
 use Rattle.basket_read.specs.Fimi.{settled_fault}
 use Rattle.basket_read.specs.Fault.{ReturnsFault}
-use Rattle.basket_read.specs.Text.{GoesOn}
 use Rattle.basket_read.specs.Input.{IsInputSoFar}
 use Rattle.basket_read.proofs.TextLemmas.{take_rest}
+use Rattle.basket_read.proofs.theory.Grammar.{take_next}
 use Rattle.basket_read.proofs.InputLemmas.{some_after, settled_in_piece}
 use Rattle.basket_read.proofs.input.Input.take.Goals as goal
 
@@ -14,18 +14,27 @@ pub take_text-requires-clause-some : goal.take_text-requires-clause-some
 take_text-requires-clause-some g c = some_after c.args.self.now c.loop-place.self (take c.loop-place.place c.args.piece.now) c.requires.some c.loop-place.invariant
 
 pub returns-in-Decided : goal.returns-in-Decided
-returns-in-Decided g c = λ past bytes r.
-    subst (λ l. MatchResult c.take_text.result (λ _. GoesOn c.args.counting past (λ now. IsInputSoFar c.take_text.new.self now l)) (λ fault. ReturnsFault fault (settled_fault l)))
+returns-in-Decided g c = λ counting bytes r.
+    subst (λ l. MatchResult c.take_text.result (λ _. IsInputSoFar c.take_text.new.self counting l) (λ fault. ReturnsFault fault (settled_fault l)))
     (ap (λ l. (bytes ++ take c.loop-place.place c.args.piece.now) ++ l)
     (take_all (length c.args.piece.now - c.loop-place.place) (drop c.loop-place.place c.args.piece.now) (omega (arith, length-drop c.loop-place.place c.args.piece.now)))
     ∙ take_rest bytes c.args.piece.now c.loop-place.place)
-    (c.take_text.ensures past (bytes ++ take c.loop-place.place c.args.piece.now) (c.loop-place.invariant past bytes r))
+    (c.take_text.ensures counting (bytes ++ take c.loop-place.place c.args.piece.now) (c.loop-place.invariant counting bytes r))
 
 pub take_byte-requires : goal.take_byte-requires
 take_byte-requires g c = some_after c.args.self.now c.loop-place.self (take c.loop-place.place c.args.piece.now) c.requires.some c.loop-place.invariant
 
 pub returns-in_err-take_byte : goal.returns-in_err-take_byte
-returns-in_err-take_byte g c = λ past bytes r.
+returns-in_err-take_byte g c = λ counting bytes r.
     let p = err_from_is_err_and c.from_residual.result c.from_residual.ensures.1 in
     rw (p.1, p.2) (settled_in_piece bytes c.args.piece.now c.loop-place.place c.in_err-take_byte.field-0.0 c.loop-place-test.true
-    (c.in_err-take_byte.ensures past (bytes ++ take c.loop-place.place c.args.piece.now) (c.loop-place.invariant past bytes r)))
+    (c.in_err-take_byte.ensures counting (bytes ++ take c.loop-place.place c.args.piece.now) (c.loop-place.invariant counting bytes r)))
+
+pub loop-place-preserved : goal.loop-place-preserved
+loop-place-preserved g c = λ counting bytes r.
+    subst (IsInputSoFar c.take_byte.new.self counting) (take_next bytes c.args.piece.now c.loop-place.place c.loop-place-test.true)
+    (c.in_ok-take_byte.ensures counting (bytes ++ take c.loop-place.place c.args.piece.now) (c.loop-place.invariant counting bytes r))
+
+pub returns : goal.returns
+returns g c = λ counting bytes r.
+    subst (λ l. IsInputSoFar c.loop-place.self counting (bytes ++ l)) (take_all c.loop-place.place c.args.piece.now (omega (arith, c.loop-place-test.false))) (c.loop-place.invariant counting bytes r)

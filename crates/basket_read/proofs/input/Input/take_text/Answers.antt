@@ -10,33 +10,33 @@ use Rattle.basket_read.proofs.input.Input.take_text.Goals as goal
 pub feed-requires : goal.feed-requires
 feed-requires g c =
     has_room c.args.self.now (length (take (4294967295 - c.args.self.now.taken) c.args.piece.now))
-    (λ past bytes r. omega (arith, length-take (4294967295 - c.args.self.now.taken) c.args.piece.now, r.few, r.taken)) c.requires.some
+    (λ counting bytes r. omega (arith, length-take (4294967295 - c.args.self.now.taken) c.args.piece.now, r.few, r.taken)) c.requires.some
 
 pub returns-in_err-feed : goal.returns-in_err-feed
-returns-in_err-feed g c = λ past bytes r.
+returns-in_err-feed g c = λ counting bytes r.
     let p = err_from_is_err_and c.from_residual.result c.from_residual.ensures.1 in
     let room = 4294967295 - c.args.self.now.taken in
     rw (p.1, p.2) (λ no_memory.
-    long_fault c.args.self.now past bytes r c.args.piece.now room c.requires.decided (omega (arith, r.few, r.taken)) c.if-piece-room.true
-    ∙ ap (λ f. or_else f (Some TooLong)) (c.in_err-feed.ensures past (text_of bytes) (at_front c.args.self.now past bytes r Decided c.requires.decided).1 no_memory))
+    long_fault c.args.self.now counting bytes r c.args.piece.now room c.requires.decided (omega (arith, r.few, r.taken)) c.if-piece-room.true
+    ∙ ap (λ f. or_else f (Some TooLong)) (c.in_err-feed.ensures counting (text_of bytes) (at_front c.args.self.now counting bytes r Decided c.requires.decided).1 no_memory))
 
 pub returns-then-piece-room : goal.returns-then-piece-room
-returns-then-piece-room g c = λ past bytes r _.
+returns-then-piece-room g c = λ counting bytes r _.
     let room = 4294967295 - c.args.self.now.taken in
-    long_fault c.args.self.now past bytes r c.args.piece.now room c.requires.decided (omega (arith, r.few, r.taken)) c.if-piece-room.true
-    ∙ ap (λ f. or_else f (Some TooLong)) (c.in_ok-feed.ensures past (text_of bytes) (at_front c.args.self.now past bytes r Decided c.requires.decided).1).2.faultless
+    long_fault c.args.self.now counting bytes r c.args.piece.now room c.requires.decided (omega (arith, r.few, r.taken)) c.if-piece-room.true
+    ∙ ap (λ f. or_else f (Some TooLong)) (c.in_ok-feed.ensures counting (text_of bytes) (at_front c.args.self.now counting bytes r Decided c.requires.decided).1).faultless
 
 pub feed-requires-2-clause-room : goal.feed-requires-2-clause-room
-feed-requires-2-clause-room g c = has_room c.args.self.now (length c.args.piece.now) (λ past bytes r. omega (arith, r.few, r.taken)) c.requires.some
+feed-requires-2-clause-room g c = has_room c.args.self.now (length c.args.piece.now) (λ counting bytes r. omega (arith, r.few, r.taken)) c.requires.some
 
 pub returns-in_err-feed-2 : goal.returns-in_err-feed-2
-returns-in_err-feed-2 g c = λ past bytes r.
+returns-in_err-feed-2 g c = λ counting bytes r.
     let p = err_from_is_err_and c.from_residual-in_err-feed-2.result c.from_residual-in_err-feed-2.ensures.1 in
     rw (p.1, p.2) (λ no_memory.
-    text_fault c.args.self.now past bytes r c.args.piece.now c.in_err-feed-2.field-0.0 c.requires.decided (omega (arith, r.few, r.taken))
-    (c.in_err-feed-2.ensures past (text_of bytes) (at_front c.args.self.now past bytes r Decided c.requires.decided).1 no_memory))
+    text_fault c.args.self.now counting bytes r c.args.piece.now c.in_err-feed-2.field-0.0 c.requires.decided (omega (arith, r.few, r.taken))
+    (c.in_err-feed-2.ensures counting (text_of bytes) (at_front c.args.self.now counting bytes r Decided c.requires.decided).1 no_memory))
 
 pub returns : goal.returns
-returns g c = λ past bytes r.
-    let t = c.in_ok-feed-2.ensures past (text_of bytes) (at_front c.args.self.now past bytes r Decided c.requires.decided).1 in
-    (t.0, t.1, with_text c.args.self.now past bytes r c.feed-2.new.text t.0 c.args.piece.now c.requires.decided (omega (arith, r.few, r.taken)) t.2)
+returns g c = λ counting bytes r.
+    with_text c.args.self.now counting bytes r c.feed-2.new.text c.args.piece.now c.requires.decided (omega (arith, r.few, r.taken))
+    (c.in_ok-feed-2.ensures counting (text_of bytes) (at_front c.args.self.now counting bytes r Decided c.requires.decided).1)

@@ -1,7 +1,5 @@
-use Rattle.std.proofs.Common.{[], false, ◌++◌, Err, ap}
-use Rattle.basket_read.specs.Input.{IsInputSoFar}
-use Rattle.basket_read.proofs.TextLemmas.{uncounted}
-use Rattle.basket_read.proofs.InputLemmas.{settled_stays, some_on, faultless_input}
+use Rattle.std.proofs.Common.{false, ◌++◌, Err, ap}
+use Rattle.basket_read.proofs.InputLemmas.{settled_stays, some_after, faultless_input}
 use Rattle.basket_read.proofs.parts.FimiParts.feed.Goals as goal
 
 pub returns-in-Some-clause-exact : goal.returns-in-Some-clause-exact
@@ -14,21 +12,21 @@ returns-in-Some-clause-fed c = λ bytes fed _.
 
 pub invariant_of-self : goal.invariant_of-self
 invariant_of-self c = record {
-  some = λ unrefused. some_on c.args.self.now.input c.take.new.self false c.args.piece.now (c.args.self.now.some unrefused) c.in-Ok.ensures;
+  some = λ unrefused. some_after c.args.self.now.input c.take.new.self c.args.piece.now (c.args.self.now.some unrefused) c.in-Ok.ensures;
 }
 
 pub returns-in-Ok-clause-exact : goal.returns-in-Ok-clause-exact
 returns-in-Ok-clause-exact c = λ bytes fed.
-    faultless_input c.take.new.self [] (bytes ++ c.args.piece.now) (uncounted [] (λ now. IsInputSoFar c.take.new.self now (bytes ++ c.args.piece.now)) (c.in-Ok.ensures [] bytes (rw c.in_default.is at fed)))
+    faultless_input c.take.new.self false (bytes ++ c.args.piece.now) (c.in-Ok.ensures false bytes (rw c.in_default.is at fed))
 
 pub returns-in-Ok-clause-fed : goal.returns-in-Ok-clause-fed
 returns-in-Ok-clause-fed c = λ bytes fed _.
     rw c.in_default.is
-    (uncounted [] (λ now. IsInputSoFar c.take.new.self now (bytes ++ c.args.piece.now)) (c.in-Ok.ensures [] bytes (rw c.in_default.is at fed)))
+    (c.in-Ok.ensures false bytes (rw c.in_default.is at fed))
 
 pub returns-in-Err-clause-exact : goal.returns-in-Err-clause-exact
-returns-in-Err-clause-exact c = λ bytes fed. c.in-Err.ensures [] bytes (rw c.in_default.is at fed)
+returns-in-Err-clause-exact c = λ bytes fed. c.in-Err.ensures false bytes (rw c.in_default.is at fed)
 
 pub returns-in-Err-clause-fed : goal.returns-in-Err-clause-fed
 returns-in-Err-clause-fed c = λ bytes fed no_memory.
-    c.in-Err.ensures [] bytes (rw c.in_default.is at fed) (λ e. no_memory (ap Err e))
+    c.in-Err.ensures false bytes (rw c.in_default.is at fed) (λ e. no_memory (ap Err e))

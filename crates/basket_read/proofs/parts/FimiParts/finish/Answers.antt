@@ -1,4 +1,4 @@
-use Rattle.std.proofs.Common.{[]}
+use Rattle.std.proofs.Common.{false}
 use Rattle.basket_read.specs.Fimi.{fimi_of}
 use Rattle.basket_read.proofs.PartsLemmas.{answer_told, kept_answers}
 use Rattle.basket_read.proofs.parts.FimiParts.finish.Goals as goal
@@ -11,4 +11,4 @@ finish-requires c = c.args.self.some c.in_default.is
 
 pub returns-clause-exact : goal.returns-clause-exact
 returns-clause-exact c = λ bytes fed.
-    kept_answers c.finish.result c.map.result (fimi_of bytes) c.map.ensures.cases (c.finish.ensures [] bytes (rw c.in_default.is at fed))
+    kept_answers c.finish.result c.map.result (fimi_of bytes) c.map.ensures.cases (c.finish.ensures false bytes (rw c.in_default.is at fed))

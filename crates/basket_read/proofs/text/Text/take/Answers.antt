@@ -1,4 +1,4 @@
-use Rattle.std.proofs.Common.{◌+◌, ◌++◌, ◌∷◌, [], ap, refl, subst, sym, ◌∙◌, Some, arith}
+use Rattle.std.proofs.Common.{◌+◌, ◌++◌, ◌∷◌, [], ap, subst, sym, ◌∙◌, Some, arith}
 use Rattle.std.proofs.lemmas.Bool.{ne_eqb}
 use Rattle.std.specs.List.{flat_map}
 use Rattle.basket_read.specs.Cut.{cut_at}
@@ -18,24 +18,17 @@ pub fault_at-requires : goal.fault_at-requires
 fault_at-requires c = omega (arith, few_lines c.args.self.now 0 c.requires)
 
 pub returns-then-byte-eq10 : goal.returns-then-byte-eq10
-returns-then-byte-eq10 c = λ past bytes t.
-    let on = c.in_ok-end_line.ensures.baskets past (flat_map basket_of (cut_at is_line_feed bytes).ended) t.counted t.baskets in (
-      on.0,
-      on.1,
-      takes_line_feed c.args.self.now past bytes t _ on.0 c.args.byte (ap is_line_feed c.if-byte-eq10.true) c.in_ok-end_line.ensures.line
-          (ap (λ n. n + 1) c.in_ok-end_line.ensures.lines) on.2,
-    )
+returns-then-byte-eq10 c = λ counting bytes t.
+    takes_line_feed c.args.self.now counting bytes t _ c.args.byte (ap is_line_feed c.if-byte-eq10.true) c.in_ok-end_line.ensures.line
+    (ap (λ n. n + 1) c.in_ok-end_line.ensures.lines) (c.in_ok-end_line.ensures.baskets counting (flat_map basket_of (cut_at is_line_feed bytes).ended) t.gathered)
 
 pub returns-then-not-branch : goal.returns-then-not-branch
-returns-then-not-branch c = λ past bytes t _.
-    refuses c.args.self.now past bytes t c.args.byte (ne_eqb c.args.byte 10 c.if-byte-eq10.false)
-    (subst (λ taken. IsTaken taken c.take.new.self ((cut_at is_line_feed bytes).last ++ c.args.byte ∷ [])) c.if-not-branch.true (c.in_ok-take.ensures (cut_at is_line_feed bytes).last (line_so_far c.args.self.now past bytes t)))
+returns-then-not-branch c = λ counting bytes t _.
+    refuses c.args.self.now counting bytes t c.args.byte (ne_eqb c.args.byte 10 c.if-byte-eq10.false)
+    (subst (λ taken. IsTaken taken c.take.new.self ((cut_at is_line_feed bytes).last ++ c.args.byte ∷ [])) c.if-not-branch.true (c.in_ok-take.ensures (cut_at is_line_feed bytes).last (line_so_far c.args.self.now counting bytes t)))
     ∙ ap Some (sym c.fault_at.ensures)
 
 pub returns : goal.returns
-returns c = λ past bytes t. (
-  past,
-  λ _. refl,
-  goes_on c.args.self.now past bytes t c.take.new.self (c.args.byte ∷ [])
-      (subst (λ taken. IsTaken taken c.take.new.self ((cut_at is_line_feed bytes).last ++ c.args.byte ∷ [])) c.if-not-branch.false (c.in_ok-take.ensures (cut_at is_line_feed bytes).last (line_so_far c.args.self.now past bytes t))),
-)
+returns c = λ counting bytes t.
+    goes_on c.args.self.now counting bytes t c.take.new.self (c.args.byte ∷ [])
+    (subst (λ taken. IsTaken taken c.take.new.self ((cut_at is_line_feed bytes).last ++ c.args.byte ∷ [])) c.if-not-branch.false (c.in_ok-take.ensures (cut_at is_line_feed bytes).last (line_so_far c.args.self.now counting bytes t)))
