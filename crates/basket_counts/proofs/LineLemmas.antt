@@ -158,7 +158,7 @@ module _ (old : SetLine) (line : List ℕ) (so_far : IsLineSoFar old line) where
           state = (λ i. record { numbers = (numbers ∙ ap number_ended numbers_so_far.state) i; tail = tail i }) ∙ sym (ap (λ (k : Cut). state_of_parts k.ended k.last) ended);
         }
 
-  -- ---- behind a `(`
+  -- ---- after a `(`
 
   record Split : Type 0 where
     pub text : List ℕ

@@ -103,7 +103,7 @@ fewer_lines text number bytes t some = at (cut_at is_line_feed bytes).last refl
 
 -- ---- bytes up to a place
 
--- bytes that the line took behind a place
+-- bytes that the line took after a place
 pub run_taken : (text : SetText) (line : SetLine) (number : ℕ) (bytes piece : List ℕ) (i count : ℕ) → IsTextSoFar text number (take i bytes) → piece ≡ drop i bytes
     → ((front : List ℕ) → IsLineSoFar text.line front → IsLineSoFar line (front ++ take count piece)) → IsTextSoFar (record text { line = line }) number (take (i + count) bytes)
 run_taken text line number bytes piece i count t e took =

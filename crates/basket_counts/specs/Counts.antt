@@ -9,7 +9,7 @@ use Rattle.basket_read.specs.declared.fault.ReadFault.TheVariants.{TooLong, Byte
 use Rattle.basket_read.specs.declared.counted_line.CountedLine.{CountedLine}
 use Rattle.basket_read.specs.Cut.{cut_at, parts_of}
 use Rattle.basket_read.specs.Fimi.{is_blank, is_line_feed, is_nil, are_numbers, numbers_of, line_after, text_of, or_else, MOST_BYTES}
-use Rattle.basket_read.specs.Grammar.{fault_behind}
+use Rattle.basket_read.specs.Grammar.{first_fault_by}
 
 -- a set of a list, with its count if it has a whole one, and the number of its line
 pub record ListedSet : Type 0 where
@@ -52,12 +52,12 @@ is_line line = is_line_of (cut_at is_open line).ended (cut_at is_open line).last
 abbrev pub is_good : List ℕ → Bool
 is_good text = list_all is_line (parts_of is_line_feed text)
 
--- the fault of a digit behind a `(`, where what follows that is cut at each `)`: it takes the count above the bound, or stands behind it
+-- the fault of a digit after a `(`, where what follows that is cut at each `)`: it takes the count above the bound, or comes after it
 abbrev pub count_fault : List (List ℕ) → ℕ → ℕ → ReadFault
 count_fault [] line byte = Count line
 count_fault (count ∷ others) line byte = Byte line byte
 
--- the fault of a digit, where its line is cut at each `(`: it takes a number above the bound, or stands behind a `(`
+-- the fault of a digit, where its line is cut at each `(`: it takes a number above the bound, or comes after a `(`
 abbrev pub digit_fault : List (List ℕ) → List ℕ → ℕ → ℕ → ReadFault
 digit_fault [] last line byte = Number line
 digit_fault (text ∷ others) last line byte = count_fault (cut_at is_close last).ended line byte
@@ -75,7 +75,7 @@ fault_at_from line before byte = fault_in_line (cut_at is_line_feed before).last
 
 -- the first fault in a text that goes on after a good front: at the first byte with which the text so far is not good
 abbrev pub fault_after : List ℕ → List ℕ → Option ReadFault
-fault_after before text = fault_behind is_good fault_at before text
+fault_after before text = first_fault_by is_good fault_at before text
 
 -- the first fault of a text
 abbrev pub first_fault : List ℕ → Option ReadFault
@@ -83,7 +83,7 @@ first_fault text = fault_after [] text
 
 -- the same where its first line has this number
 abbrev pub fault_from : ℕ → List ℕ → Option ReadFault
-fault_from line text = fault_behind is_good (fault_at_from line) [] text
+fault_from line text = first_fault_by is_good (fault_at_from line) [] text
 
 -- the fault of the bytes: the first in as many of them as an input may have, else that there are more
 abbrev pub fault_in : List ℕ → Option ReadFault

@@ -8,7 +8,7 @@ use Rattle.basket_read.specs.declared.counted_line.CountedLine.{CountedLine}
 use Rattle.basket_read.specs.Fimi.{MOST_NUMBER, MOST_BYTES}
 use Rattle.basket_counts.specs.Counts.{counts_of}
 
--- the items of a set with a space behind each
+-- the items of a set with a space after each
 abbrev pub items_text : List ℕ → List ℕ
 items_text items = flat_map (λ item. decimal item ++ 32 ∷ []) items
 

@@ -19,7 +19,7 @@ pub record LineState : Type 0 where
 abbrev pub line_state : SetLine → LineState
 line_state line = record { numbers = numbers_state line.numbers; tail = line.tail }
 
--- what the digits of a count are, behind the `(`
+-- what the digits of a count are, after the `(`
 abbrev pub count_begun : List ℕ → Tail
 count_begun [] = Opened
 count_begun (byte ∷ word) = Count (value_of (byte ∷ word))

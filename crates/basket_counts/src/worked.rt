@@ -19,7 +19,7 @@ pub fn a_count_ends()
     ensures empty { sets_of_bytes (codes "1 ()") ≡ Err (Byte 1 41) }
     ensures blank { sets_of_bytes (codes "1 ( 7)") ≡ Err (Byte 1 32) }
     ensures twice { sets_of_bytes (codes "1 (7)(") ≡ Err (Byte 1 40) }
-    ensures behind { sets_of_bytes (codes "1 (7) 2") ≡ Err (Byte 1 50) }
+    ensures after { sets_of_bytes (codes "1 (7) 2") ≡ Err (Byte 1 50) }
 {}
 
 /// A list of sets has no weights, and no parenthesis without a count.

@@ -18,7 +18,7 @@ use Rattle.basket_sets.specs.Support.{total_of}
 use Rattle.basket_laws.specs.Outcomes.{in_form}
 use Rattle.basket_laws.specs.Parts.{counts_of_parts, is_frequent_in_some, said_of, whole_of}
 
--- the records of all parts, one part behind another
+-- the records of all parts, one part after another
 abbrev pub all_records : List (List (List (List ℕ))) → List (List (List ℕ))
 all_records parts = flat_map (λ rows. rows) parts
 
@@ -30,7 +30,7 @@ names_of_parts weighted parts = in_order (all_names weighted (all_records parts)
 abbrev pub named_parts : Bool → List (List ℕ) → List (List (List (List ℕ))) → List (List Weighted)
 named_parts weighted known parts = map (baskets_in weighted known) parts
 
--- records are cut into parts: where the names of all are known in the order of their first appearance, the baskets of the parts, one part behind another, are those of all records
+-- records are cut into parts: where the names of all are known in the order of their first appearance, the baskets of the parts, one part after another, are those of all records
 abbrev pub NamedPartsAreParts : Type 0
 NamedPartsAreParts = (weighted : Bool) (parts : List (List (List (List ℕ))))
     → whole_of (named_parts weighted (names_of_parts weighted parts) parts) ≡ baskets_in weighted [] (all_records parts)

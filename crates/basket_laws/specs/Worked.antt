@@ -15,7 +15,7 @@ asked_sets = (1 ∷ []) ∷ (2 ∷ []) ∷ (3 ∷ []) ∷ (1 ∷ 2 ∷ []) ∷ (
 abbrev line : List ℕ → ℕ → ℕ → CountedLine
 line set count number = record { set = set; count = count; line = number }
 
--- the counts of the first part, and behind them those of the other
+-- the counts of the first part, and after them those of the other
 abbrev pub two_lists : List CountedLine
 two_lists =
     line [] 4 1 ∷ line (1 ∷ []) 2 2 ∷ line (2 ∷ []) 4 3 ∷ line (3 ∷ []) 1 4 ∷ line (1 ∷ 2 ∷ []) 2 5 ∷ line (1 ∷ 3 ∷ []) 0 6 ∷ line (2 ∷ 3 ∷ []) 1 7

@@ -11,11 +11,11 @@ use Rattle.basket_read.proofs.RoomLemmas.{merely_at_most}
 use Rattle.basket_read.proofs.theory.Gathered.{kept_few}
 
 -- if none of the first are kept, or none of the others are past, the past ones come before those that are kept
-baskets_joined : (past kept behind baskets before more : List Weighted) → past ++ kept ≡ before → behind ++ baskets ≡ more → (kept ≡ []) ⊎ (behind ≡ [])
-    → (past ++ behind) ++ (kept ++ baskets) ≡ before ++ more
-baskets_joined past kept behind baskets before more e f (inl none) =
-    ap (λ l. (past ++ behind) ++ (l ++ baskets)) none ∙ append_assoc past behind baskets ∙ (λ i. (sym (append-nil past) ∙ ap (λ l. past ++ l) (sym none) ∙ e) i ++ f i)
-baskets_joined past kept behind baskets before more e f (inr none) =
+baskets_joined : (past kept counted baskets before more : List Weighted) → past ++ kept ≡ before → counted ++ baskets ≡ more → (kept ≡ []) ⊎ (counted ≡ [])
+    → (past ++ counted) ++ (kept ++ baskets) ≡ before ++ more
+baskets_joined past kept counted baskets before more e f (inl none) =
+    ap (λ l. (past ++ counted) ++ (l ++ baskets)) none ∙ append_assoc past counted baskets ∙ (λ i. (sym (append-nil past) ∙ ap (λ l. past ++ l) (sym none) ∙ e) i ++ f i)
+baskets_joined past kept counted baskets before more e f (inr none) =
     ap (λ l. (past ++ l) ++ (kept ++ baskets)) none ∙ ap (λ l. l ++ (kept ++ baskets)) (append-nil past) ∙ sym (append_assoc past kept baskets)
     ∙ (λ i. e i ++ (ap (λ l. l ++ baskets) (sym none) ∙ f) i)
 
@@ -35,8 +35,8 @@ module _ (gathered other : GatheredBaskets) where
         chosen = chosen ∙ h.chosen;
         past = now;
         uncounted = λ off.
-            let behind : k.past ≡ [] = elim may [ inl both ↦ absurd (let no : true ≡ false = sym both.0 ∙ h.chosen ∙ off in cc) | inr apart_off ↦ k.uncounted (sym k.chosen ∙ apart_off) ] in
-            same (h.chosen ∙ off) ∙ (λ i. h.uncounted off i ++ behind i);
+            let none_past : k.past ≡ [] = elim may [ inl both ↦ absurd (let no : true ≡ false = sym both.0 ∙ h.chosen ∙ off in cc) | inr apart_off ↦ k.uncounted (sym k.chosen ∙ apart_off) ] in
+            same (h.chosen ∙ off) ∙ (λ i. h.uncounted off i ++ none_past i);
         counted = counted;
         kept = subst (λ heavy. HasBaskets heavy (now ++ new.baskets) (baskets ++ more)) (sym light_new) (
           all ∙ baskets_joined h.past gathered.baskets k.past other.baskets baskets more a.0 b.0 none,

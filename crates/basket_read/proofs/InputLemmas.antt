@@ -15,7 +15,7 @@ use Rattle.basket_read.specs.Fimi.{fault_at, is_line, MARK, text_of, MOST_BYTES,
 use Rattle.basket_read.specs.Laws.{SettledFaultsStay, UnsettledMayBeGood}
 use Rattle.basket_read.specs.Fault.{ReturnsFault}
 use Rattle.basket_read.specs.Text.{IsTextSoFar, HasRoom}
-use Rattle.basket_read.specs.Input.{is_decided, IsFront, text_behind, IsInputSoFar, IsSomeInput}
+use Rattle.basket_read.specs.Input.{is_decided, IsFront, text_after, IsInputSoFar, IsSomeInput}
 use Rattle.basket_read.proofs.TextLemmas.{take_rest}
 use Rattle.basket_read.proofs.theory.Grammar as grammar
 
@@ -89,17 +89,17 @@ fault_few bytes few =
     ∙ ap (λ b. or_else (first_fault (text_of bytes)) (cond b (Some TooLong) None)) (le-ltb MOST_BYTES (length bytes) few)
     ∙ or_none (first_fault (text_of bytes))
 
-pub take_behind : (a b : List ℕ) (n k : ℕ) → length a + k ≡ n → take n (a ++ b) ≡ a ++ take k b
-take_behind [] b n k e = let same : n ≡ k = omega arith in ap (λ m. take m b) same
-take_behind (x ∷ a) b n k e =
+pub take_after : (a b : List ℕ) (n k : ℕ) → length a + k ≡ n → take n (a ++ b) ≡ a ++ take k b
+take_after [] b n k e = let same : n ≡ k = omega arith in ap (λ m. take m b) same
+take_after (x ∷ a) b n k e =
     let same : n ≡ suc (length a + k) = omega arith in
-    ap (λ m. take m (x ∷ (a ++ b))) same ∙ ap (λ l. x ∷ l) (take_behind a b (length a + k) k refl)
+    ap (λ m. take m (x ∷ (a ++ b))) same ∙ ap (λ l. x ∷ l) (take_after a b (length a + k) k refl)
 
 -- in a longer one it is that of the text in so many bytes, or that there are more
 pub fault_long : (bytes piece : List ℕ) (room : ℕ) → is_decided bytes ≡ true → length bytes + room ≡ MOST_BYTES → room < length piece
     → fault_in (bytes ++ piece) ≡ or_else (first_fault (text_of bytes ++ take room piece)) (Some TooLong)
 fault_long bytes piece room h e long =
-    ap (λ l. or_else (first_fault (text_of l)) (cond (ltb MOST_BYTES (length (bytes ++ piece))) (Some TooLong) None)) (take_behind bytes piece MOST_BYTES room e)
+    ap (λ l. or_else (first_fault (text_of l)) (cond (ltb MOST_BYTES (length (bytes ++ piece))) (Some TooLong) None)) (take_after bytes piece MOST_BYTES room e)
     ∙ ap (λ b. or_else (first_fault (text_of (bytes ++ take room piece))) (cond b (Some TooLong) None))
     (lt-ltb MOST_BYTES (length (bytes ++ piece)) (let sum = length-append bytes piece in omega arith))
     ∙ ap (λ l. or_else (first_fault l) (Some TooLong)) (decided-append bytes (take room piece) h).0
@@ -144,7 +144,7 @@ settled_stays bytes more fault e =
     shorter h few found =
         let room = MOST_BYTES - length bytes in
         ap (λ l. or_else (first_fault (text_of l)) (cond (ltb MOST_BYTES (length (bytes ++ more))) (Some TooLong) None))
-        (take_behind bytes more MOST_BYTES room (omega arith))
+        (take_after bytes more MOST_BYTES room (omega arith))
         ∙ ap (λ l. or_else (first_fault l) (cond (ltb MOST_BYTES (length (bytes ++ more))) (Some TooLong) None)) (decided-append bytes (take room more) h).0
         ∙ ap (λ f. or_else f (cond (ltb MOST_BYTES (length (bytes ++ more))) (Some TooLong) None)) (grammar.first_fault_stays is_line fault_at refl (text_of bytes) (take room more) fault found)
 
@@ -157,22 +157,22 @@ text_of_le bytes = at (starts_with nat_eq bytes MARK)
     at true = let cut = length-drop 3 bytes in omega arith
     at false = omega arith
 
-text_behind_le : (front : Front) (bytes : List ℕ) → length (text_behind front bytes) ≤ length bytes
-text_behind_le Empty bytes = omega arith
-text_behind_le OneByte bytes = omega arith
-text_behind_le TwoBytes bytes = omega arith
-text_behind_le Decided bytes = text_of_le bytes
+text_after_le : (front : Front) (bytes : List ℕ) → length (text_after front bytes) ≤ length bytes
+text_after_le Empty bytes = omega arith
+text_after_le OneByte bytes = omega arith
+text_after_le TwoBytes bytes = omega arith
+text_after_le Decided bytes = text_of_le bytes
 
 -- the text has room for what the input has room for
 pub has_room : (input : Input) (more : ℕ) → ((counting : Bool) (bytes : List ℕ) → IsInputSoFar input counting bytes → length bytes + more ≤ MOST_BYTES) → IsSomeInput input → HasRoom input.text more
 has_room input more few some =
-    ∥∥₁_map some (λ w. (text_behind input.front w.1, (w.0, w.2.text), let shorter = text_behind_le input.front w.1 in let enough = few w.0 w.1 w.2 in omega arith))
+    ∥∥₁_map some (λ w. (text_after input.front w.1, (w.0, w.2.text), let shorter = text_after_le input.front w.1 in let enough = few w.0 w.1 w.2 in omega arith))
 
 module _ (input : Input) (counting : Bool) (bytes : List ℕ) (r : IsInputSoFar input counting bytes) where
-  pub at_front : (front : Front) → input.front ≡ front → IsFront front bytes × IsTextSoFar input.text counting (text_behind front bytes)
-  at_front front e = (subst (λ f. IsFront f bytes) e r.front, subst (λ f. IsTextSoFar input.text counting (text_behind f bytes)) e r.text)
+  pub at_front : (front : Front) → input.front ≡ front → IsFront front bytes × IsTextSoFar input.text counting (text_after front bytes)
+  at_front front e = (subst (λ f. IsFront f bytes) e r.front, subst (λ f. IsTextSoFar input.text counting (text_after f bytes)) e r.text)
 
-  -- behind the front the text goes on
+  -- after the front the text goes on
   pub with_text : (text : Text) (piece : List ℕ) → input.front ≡ Decided → length bytes + length piece ≤ MOST_BYTES → IsTextSoFar text counting (text_of bytes ++ piece)
       → IsInputSoFar (record { front = input.front; taken = input.taken + length piece; text = text }) counting (bytes ++ piece)
   with_text text piece e few t =
@@ -181,10 +181,10 @@ module _ (input : Input) (counting : Bool) (bytes : List ℕ) (r : IsInputSoFar 
         front = subst (λ f. IsFront f (bytes ++ piece)) (sym e) (decided-append bytes piece h).1;
         taken = ap (λ n. n + length piece) r.taken ∙ sym (length-append bytes piece);
         few = let sum = length-append bytes piece in omega arith;
-        text = subst (λ f. IsTextSoFar text counting (text_behind f (bytes ++ piece))) (sym e) (subst (IsTextSoFar text counting) (sym (decided-append bytes piece h).0) t);
+        text = subst (λ f. IsTextSoFar text counting (text_after f (bytes ++ piece))) (sym e) (subst (IsTextSoFar text counting) (sym (decided-append bytes piece h).0) t);
       }
 
-  -- the fault of a text behind the front is that of the input
+  -- the fault of a text after the front is that of the input
   pub text_fault : (piece : List ℕ) (fault : ReadFault) → input.front ≡ Decided → length bytes + length piece ≤ MOST_BYTES → first_fault (text_of bytes ++ piece) ≡ Some fault
       → settled_fault (bytes ++ piece) ≡ Some fault
   text_fault piece fault e few found =
@@ -202,17 +202,17 @@ module _ (input : Input) (counting : Bool) (bytes : List ℕ) (r : IsInputSoFar 
   pub faultless_input : settled_fault bytes ≡ None
   faultless_input = at input.front r.front r.text
     where
-      at : (front : Front) → IsFront front bytes → IsTextSoFar input.text counting (text_behind front bytes) → settled_fault bytes ≡ None
+      at : (front : Front) → IsFront front bytes → IsTextSoFar input.text counting (text_after front bytes) → settled_fault bytes ≡ None
       at Empty e t = ap settled_fault e
       at OneByte e t = ap settled_fault e
       at TwoBytes e t = ap settled_fault e
       at Decided e t = settled-decided bytes e ∙ fault_few bytes r.few ∙ t.faultless
 
   -- the text of an input without a fault
-  pub text_is : fault_in bytes ≡ None → text_behind input.front bytes ≡ text_of bytes
+  pub text_is : fault_in bytes ≡ None → text_after input.front bytes ≡ text_of bytes
   text_is none = at input.front r.front
     where
-      at : (front : Front) → IsFront front bytes → text_behind front bytes ≡ text_of bytes
+      at : (front : Front) → IsFront front bytes → text_after front bytes ≡ text_of bytes
       at Empty e = ap text_of (sym e)
       at OneByte e = absurd (let no : Some (Byte 1 239) ≡ None = ap fault_in (sym e) ∙ none in cc)
       at TwoBytes e = absurd (let no : Some (Byte 1 239) ≡ None = ap fault_in (sym e) ∙ none in cc)

@@ -9,4 +9,4 @@ mod PartsLemmas
 mod ReadLemmas
 mod GrammarLemmas
 mod RunLemmas
-mod BehindLemmas
+mod JoinedLemmas

@@ -13,7 +13,7 @@ use Rattle.basket_read.specs.Numbers.{NumbersState, numbers_state, begun_of, val
 use Rattle.basket_read.proofs.theory.Cuts.{cut, cut_ended, cut_joined}
 use Rattle.basket_read.proofs.theory.Numbers.{ended_at, numbers_joined}
 
--- ---- what stands behind a weight, if there is one
+-- ---- what comes after a weight, if there is one
 
 numbers_good : (heads : List (List ℕ)) (last : List ℕ) → is_line_of heads last ≡ true → are_numbers last ≡ true
 numbers_good [] last h = h

@@ -68,7 +68,7 @@ of_all_bytes (Some all) (Some rest) None given taken P p q none end h = absurd q
 of_all_bytes (Some all) (Some rest) (Some left) given taken P p q none end h =
     subst P (sym (p ∙ ap (λ l. given ++ l) (q ∙ (λ i. none i ++ end i)) ∙ append-nil given)) h
 
--- a reader that failed behind the bytes that it gave
+-- a reader that failed after the bytes that it gave
 pub fails_after : (old now new : Option (List ℕ)) (given : List ℕ) (fault : ReadFault) → Consumes old now given → Keeps now new → (fault ≢ Memory → fault ≡ unwrap_or (fault_in given) Read)
     → IfSome old (λ bytes. FailsAfter bytes new (Err fault))
 fails_after None now new given fault p kept is = tt
@@ -86,7 +86,7 @@ unlike false e t = absurd cc
 pub told_fault : (given : List ℕ) (fault : ReadFault) → ReturnsFault fault (settled_fault given) → fault ≢ Memory → fault ≡ unwrap_or (fault_in given) Read
 told_fault given fault told no_memory = ap (λ f. unwrap_or f Read) (sym (fault-settled given fault (told no_memory)))
 
--- at a fault in the bytes that a reader gave, whether it failed behind them or not
+-- at a fault in the bytes that a reader gave, whether it failed after them or not
 pub stops_fault : (old new : Option (List ℕ)) (failed : Bool) (given : List ℕ) (fault : ReadFault) → Consumes old new given → ReturnsFault fault (settled_fault given)
     → Stops old new failed fault
 stops_fault old new failed given fault p told = record {
@@ -95,7 +95,7 @@ stops_fault old new failed given fault p told = record {
   read_is_failed = λ e. absurd (not_settled given (subst (λ f. ReturnsFault f (settled_fault given)) e told (λ m. absurd cc)));
 }
 
--- where the reader failed behind the bytes that it gave
+-- where the reader failed after the bytes that it gave
 pub stops_failed : (old now new : Option (List ℕ)) (failed : Bool) (given : List ℕ) (fault : ReadFault) → failed ≡ true → Consumes old now given → Keeps now new
     → fault ≡ unwrap_or (fault_in given) Read → Stops old new failed fault
 stops_failed old now new failed given fault broken p kept is = record {

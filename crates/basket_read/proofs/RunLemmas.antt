@@ -21,9 +21,9 @@ take_both xs i n = ap (λ l. take i xs ++ take n l) (take_all (length xs - i) (d
 pub within_both : (xs : List ℕ) (i n : ℕ) → i ≤ length xs → n ≤ length (take (length xs - i) (drop i xs)) → i + n ≤ length xs
 within_both xs i n below more = omega (arith, length-take (length xs - i) (drop i xs), length-drop i xs)
 
--- behind what was before them
-pub behind_both : (before xs : List ℕ) (i n : ℕ) → (before ++ take i xs) ++ take n (take (length xs - i) (drop i xs)) ≡ before ++ take (i + n) xs
-behind_both before xs i n = append_assoc before (take i xs) (take n (take (length xs - i) (drop i xs))) ∙ ap (λ l. before ++ l) (take_both xs i n)
+-- after what was before them
+pub after_both : (before xs : List ℕ) (i n : ℕ) → (before ++ take i xs) ++ take n (take (length xs - i) (drop i xs)) ≡ before ++ take (i + n) xs
+after_both before xs i n = append_assoc before (take i xs) (take n (take (length xs - i) (drop i xs))) ∙ ap (λ l. before ++ l) (take_both xs i n)
 
 -- ---- digits
 
@@ -72,7 +72,7 @@ short_value_more bytes i value digit below byte value_is =
     let same : get_or bytes i 0 - 48 ≡ digit = omega arith in
     ap value_of (take_more bytes i 0 below) ∙ value_push (take i bytes) (get_or bytes i 0) ∙ (λ j. value_is j * 10 + same j)
 
--- a number at the front, and more digits behind them
+-- a number at the front, and more digits after them
 pub number_goes_on : (bytes : List ℕ) (i more : ℕ) → list_all is_digit (take i bytes) ≡ true → list_all is_digit (take more (take (length bytes - i) (drop i bytes))) ≡ true
     → list_all is_digit (take (i + more) bytes) ≡ true
 number_goes_on bytes i more a b =

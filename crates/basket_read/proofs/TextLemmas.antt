@@ -76,7 +76,7 @@ module _ (text : Text) (counting : Bool) (bytes : List ℕ) (t : IsTextSoFar tex
         line = is ∙ ap (λ (k : Cut). line_at k.last) (sym ended);
       }
 
--- a piece in two parts, behind what was before it
+-- a piece in two parts, after what was before it
 pub take_rest : (bytes piece : List ℕ) (i : ℕ) → (bytes ++ take i piece) ++ drop i piece ≡ bytes ++ piece
 take_rest bytes piece i = append_assoc bytes (take i piece) (drop i piece) ∙ ap (λ l. bytes ++ l) (take-append-drop i piece)
 

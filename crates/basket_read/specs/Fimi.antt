@@ -10,7 +10,7 @@ use Rattle.basket_sets.specs.Database.{weighted, MOST_WEIGHT}
 use Rattle.basket_read.specs.declared.fault.ReadFault.{ReadFault}
 use Rattle.basket_read.specs.declared.fault.ReadFault.TheVariants.{TooLong, Byte, Number, Heavy}
 use Rattle.basket_read.specs.Cut.{cut_at, parts_of}
-use Rattle.basket_read.specs.Grammar.{fault_behind}
+use Rattle.basket_read.specs.Grammar.{first_fault_by}
 
 -- a blank is a space, a tab or a carriage return
 abbrev pub is_blank : ℕ → Bool
@@ -91,7 +91,7 @@ fault_at before byte = if is_digit byte then Number (line_after before) else Byt
 
 -- the first fault in a text that goes on after a good front: at the first byte with which the text so far is not good
 abbrev pub fault_after : List ℕ → List ℕ → Option ReadFault
-fault_after before text = fault_behind is_good fault_at before text
+fault_after before text = first_fault_by is_good fault_at before text
 
 -- the first fault of a text
 abbrev pub first_fault : List ℕ → Option ReadFault
@@ -101,7 +101,7 @@ first_fault text = fault_after [] text
 abbrev pub MARK : List ℕ
 MARK = 239 ∷ 187 ∷ 191 ∷ []
 
--- the text of some bytes: what follows the mark, where they begin with it
+-- the text of some bytes: what follows the mark, if they begin with it
 abbrev pub text_of : List ℕ → List ℕ
 text_of bytes = if starts_with nat_eq bytes MARK then drop 3 bytes else bytes
 

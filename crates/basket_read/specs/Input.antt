@@ -20,19 +20,19 @@ IsFront OneByte bytes = bytes ≡ 239 ∷ []
 IsFront TwoBytes bytes = bytes ≡ 239 ∷ 187 ∷ []
 IsFront Decided bytes = is_decided bytes ≡ true
 
--- the text behind the front
-abbrev pub text_behind : Front → List ℕ → List ℕ
-text_behind Empty bytes = []
-text_behind OneByte bytes = []
-text_behind TwoBytes bytes = []
-text_behind Decided bytes = text_of bytes
+-- the text after the front
+abbrev pub text_after : Front → List ℕ → List ℕ
+text_after Empty bytes = []
+text_after OneByte bytes = []
+text_after TwoBytes bytes = []
+text_after Decided bytes = text_of bytes
 
 -- the input that was read is of these bytes, and has no fault that is settled; its baskets are counted or not
 pub record IsInputSoFar (input : Input) (counting : Bool) (bytes : List ℕ) : Type 0 where
   pub front : IsFront input.front bytes
   pub taken : input.taken ≡ length bytes
   pub few : length bytes ≤ MOST_BYTES
-  pub text : IsTextSoFar input.text counting (text_behind input.front bytes)
+  pub text : IsTextSoFar input.text counting (text_after input.front bytes)
 
 -- the input that was read is of some bytes
 abbrev pub IsSomeInput : Input → Type 0

@@ -6,7 +6,7 @@ use Rattle.basket_read.specs.Cut.{cut_at}
 use Rattle.basket_read.specs.Fimi.{is_blank, is_times, is_line}
 use Rattle.basket_read.specs.Numbers.{NumbersState, numbers_state, numbers_at, number_ended}
 
--- the weight of a line, if it has one, and the numbers behind it
+-- the weight of a line, if it has one, and the numbers after it
 pub record LineState : Type 0 where
   pub weight : Option ℕ
   pub numbers : NumbersState

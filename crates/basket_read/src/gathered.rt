@@ -96,8 +96,8 @@ impl GatheredBaskets {
         requires nonempty { basket ≢ [] }
         requires weighs { 1 ≤ weight }
         requires few { length self.old.baskets < MOST_BASKETS }
-        requires light { self.old.table.total + total_of self.old.baskets + weight ≤ MOST_WEIGHT }
-        requires known { self.old.heavy ≡ false }
+        requires light { self.old.heavy ≡ false }
+        requires fits { self.old.table.total + total_of self.old.baskets + weight ≤ MOST_WEIGHT }
         ensures baskets { (counting : Bool) (baskets : List Weighted) → HasGathered self.old counting baskets
             → OnOk result (HasGathered self.new counting (baskets ++ weighted basket weight ∷ [])) }
         ensures err { IfErr result (λ fault. fault ≡ ReadFault.Memory) }

@@ -6,7 +6,7 @@ ghost use Rattle.basket_read.specs.Fimi.{is_times};
 use crate::numbers::Numbers;
 use std::alloc::{AllocError, Global};
 
-/// What has been read of a line: its weight, if it has one, and the numbers behind that.
+/// What has been read of a line: its weight, if it has one, and the numbers after that.
 #[derive(Debug, Drop)]
 pub struct Line {
     weight: Option<u32>,

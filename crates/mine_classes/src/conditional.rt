@@ -67,7 +67,7 @@ impl Runs {
 
 /// The conditional database of a rank with this support and at most one pair. Its baskets have one
 /// rank or none, so their weights are known and no path is looked at.
-pub fn below_few(
+fn below_few(
     alloc: Global,
     support: u64,
     pairs: &[(u32, u64)],

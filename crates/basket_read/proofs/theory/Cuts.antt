@@ -98,33 +98,33 @@ size_after p c (x ∷ xs) = at (p x) (size_after p (cut (c.ended ++ c.last ∷ [
     at true ended joined = let one = length-append c.ended (c.last ∷ []) in omega arith
     at false ended joined = let one = length-append c.last (x ∷ []) in omega arith
 
--- ---- behind a separator
+-- ---- after a separator
 
 -- parts that have ended before
-abbrev pub behind : List (List ℕ) → Cut → Cut
-behind ended k = cut (ended ++ k.ended) k.last
+abbrev pub with_ended : List (List ℕ) → Cut → Cut
+with_ended ended k = cut (ended ++ k.ended) k.last
 
-fold_behind : (p : ℕ → Bool) (before ended : List (List ℕ)) (last xs : List ℕ)
-    → fold (cut_more p) (cut (before ++ ended) last) xs ≡ behind before (fold (cut_more p) (cut ended last) xs)
-fold_behind p before ended last [] = refl
-fold_behind p before ended last (x ∷ xs) =
+fold_with : (p : ℕ → Bool) (before ended : List (List ℕ)) (last xs : List ℕ)
+    → fold (cut_more p) (cut (before ++ ended) last) xs ≡ with_ended before (fold (cut_more p) (cut ended last) xs)
+fold_with p before ended last [] = refl
+fold_with p before ended last (x ∷ xs) =
     at (p x)
-    (ap (λ e. fold (cut_more p) (cut e []) xs) (append_assoc before ended (last ∷ [])) ∙ fold_behind p before (ended ++ last ∷ []) [] xs)
-    (fold_behind p before ended (last ++ x ∷ []) xs)
+    (ap (λ e. fold (cut_more p) (cut e []) xs) (append_assoc before ended (last ∷ [])) ∙ fold_with p before (ended ++ last ∷ []) [] xs)
+    (fold_with p before ended (last ++ x ∷ []) xs)
   where
     at : (b : Bool)
-        → fold (cut_more p) (cut ((before ++ ended) ++ last ∷ []) []) xs ≡ behind before (fold (cut_more p) (cut (ended ++ last ∷ []) []) xs)
-        → fold (cut_more p) (cut (before ++ ended) (last ++ x ∷ [])) xs ≡ behind before (fold (cut_more p) (cut ended (last ++ x ∷ [])) xs)
+        → fold (cut_more p) (cut ((before ++ ended) ++ last ∷ []) []) xs ≡ with_ended before (fold (cut_more p) (cut (ended ++ last ∷ []) []) xs)
+        → fold (cut_more p) (cut (before ++ ended) (last ++ x ∷ [])) xs ≡ with_ended before (fold (cut_more p) (cut ended (last ++ x ∷ [])) xs)
         → fold (cut_more p) (cond b (cut ((before ++ ended) ++ last ∷ []) []) (cut (before ++ ended) (last ++ x ∷ []))) xs
-        ≡ behind before (fold (cut_more p) (cond b (cut (ended ++ last ∷ []) []) (cut ended (last ++ x ∷ []))) xs)
+        ≡ with_ended before (fold (cut_more p) (cond b (cut (ended ++ last ∷ []) []) (cut ended (last ++ x ∷ []))) xs)
     at true ends joins = ends
     at false ends joins = joins
 
--- a text behind one that ends with a separator
-pub cut_behind : (p : ℕ → Bool) (front rest : List ℕ) → (cut_at p front).last ≡ [] → cut_at p (front ++ rest) ≡ behind (cut_at p front).ended (cut_at p rest)
-cut_behind p front rest whole =
+-- a text after one that ends with a separator
+pub cut_after : (p : ℕ → Bool) (front rest : List ℕ) → (cut_at p front).last ≡ [] → cut_at p (front ++ rest) ≡ with_ended (cut_at p front).ended (cut_at p rest)
+cut_after p front rest whole =
     let ended = (cut_at p front).ended in
     fold-append (cut_more p) (cut [] []) front rest
     ∙ ap (λ last. fold (cut_more p) (cut ended last) rest) whole
     ∙ ap (λ e. fold (cut_more p) (cut e []) rest) (sym (append-nil ended))
-    ∙ fold_behind p ended [] [] rest
+    ∙ fold_with p ended [] [] rest

@@ -9,8 +9,8 @@ use Rattle.basket_read.specs.declared.fault.ReadFault.{ReadFault}
 use Rattle.basket_read.specs.Fault.{ReturnsFault}
 use Rattle.basket_read.specs.Cut.{Cut, cut_at, parts_of}
 use Rattle.basket_read.specs.Fimi.{is_line_feed, or_else}
-use Rattle.basket_read.specs.Grammar.{fault_behind, PrefixesAreGood, GoodIsFaultless, HasFault, FirstFaultIsExact}
-use Rattle.basket_read.proofs.theory.Cuts.{cut_ended, cut_joined, cut_behind, parts_good_before}
+use Rattle.basket_read.specs.Grammar.{first_fault_by, PrefixesAreGood, GoodIsFaultless, HasFault, FirstFaultIsExact}
+use Rattle.basket_read.proofs.theory.Cuts.{cut_ended, cut_joined, cut_after, parts_good_before}
 
 -- what a choice gave
 pub chosen : {S : Type 0} (s x : S) (b : Bool) → ◌≡◌ {A = Option S} (Some s) (cond b (Some x) None) → (b ≡ true) × (s ≡ x)
@@ -21,7 +21,7 @@ pub refused : {S : Type 0} (x : S) (b : Bool) → ◌≡◌ {A = Option S} None 
 refused x true e = absurd cc
 refused x false e = refl
 
--- a byte of a piece, behind those before it
+-- a byte of a piece, after those before it
 pub take_next : (bytes piece : List ℕ) (i : ℕ) → i < length piece → (bytes ++ take i piece) ++ get_or piece i 0 ∷ [] ≡ bytes ++ take (i + 1) piece
 take_next bytes piece i below = append_assoc bytes (take i piece) (get_or piece i 0 ∷ []) ∙ ap (λ l. bytes ++ l) (sym (take_more piece i 0 below))
 
@@ -34,9 +34,9 @@ module _ (is_line : List ℕ → Bool) (fault_at : List ℕ → ℕ → ReadFaul
   good text = list_all is_line (parts_of is_line_feed text)
 
   abbrev after : List ℕ → List ℕ → Option ReadFault
-  after before text = fault_behind good fault_at before text
+  after before text = first_fault_by good fault_at before text
 
-  -- the fault of a text in two parts is that of the first, else that of the second behind the first
+  -- the fault of a text in two parts is that of the first, else that of the second after the first
   pub fault_after-append : (before a b : List ℕ) → after before (a ++ b) ≡ or_else (after before a) (after (before ++ a) b)
   fault_after-append before [] b = ap (λ l. after l b) (sym (append-nil before))
   fault_after-append before (byte ∷ a) b =
@@ -116,7 +116,7 @@ module _ (is_line : List ℕ → Bool) (fault_at : List ℕ → ℕ → ReadFaul
         (ap (λ (k : Cut). list_all is_line (k.ended ++ k.last ∷ [])) (cut_ended is_line_feed text byte e)
         ∙ all_push is_line (so_far.ended ++ so_far.last ∷ []) [] ∙ ap (λ b. b && is_line []) (good-from_faultless text faultless) ∙ empty)
 
-  -- ---- behind whole lines
+  -- ---- after whole lines
 
   module _ (front : List ℕ) (whole : (cut_at is_line_feed front).last ≡ []) where
     good_behind : good front ≡ true → (rest : List ℕ) → good (front ++ rest) ≡ good rest
@@ -124,28 +124,28 @@ module _ (is_line : List ℕ → Bool) (fault_at : List ℕ → ℕ → ReadFaul
         let lines = (cut_at is_line_feed front).ended in
         let k = cut_at is_line_feed rest in
         let lines_good = (and_parts (list_all is_line lines) _ (sym (list_all-append is_line lines ((cut_at is_line_feed front).last ∷ [])) ∙ well)).0 in
-        ap (λ (j : Cut). list_all is_line (j.ended ++ j.last ∷ [])) (cut_behind is_line_feed front rest whole)
+        ap (λ (j : Cut). list_all is_line (j.ended ++ j.last ∷ [])) (cut_after is_line_feed front rest whole)
         ∙ ap (list_all is_line) (append_assoc lines k.ended (k.last ∷ []))
         ∙ list_all-append is_line lines (k.ended ++ k.last ∷ [])
         ∙ ap (λ b. b && good rest) lines_good
 
-    -- the fault of a byte behind the lines, as it is told without them
+    -- the fault of a byte after the lines, as it is told without them
     module _ (told : List ℕ → ℕ → ReadFault) (same : (before : List ℕ) (byte : ℕ) → fault_at (front ++ before) byte ≡ told before byte) where
-      fault_behind_lines : good front ≡ true → (before rest : List ℕ) → after (front ++ before) rest ≡ fault_behind good told before rest
+      fault_behind_lines : good front ≡ true → (before rest : List ℕ) → after (front ++ before) rest ≡ first_fault_by good told before rest
       fault_behind_lines well before [] = refl
       fault_behind_lines well before (byte ∷ rest) =
           let longer = append_assoc front before (byte ∷ []) in
           λ i. found ((ap good longer ∙ good_behind well (before ++ byte ∷ [])) i) ((ap (λ l. after l rest) longer ∙ fault_behind_lines well (before ++ byte ∷ []) rest) i) (same before byte i)
 
       -- the fault of the lines, else that of the rest
-      pub fault_of_both : (rest : List ℕ) → after [] (front ++ rest) ≡ or_else (after [] front) (fault_behind good told [] rest)
+      pub fault_of_both : (rest : List ℕ) → after [] (front ++ rest) ≡ or_else (after [] front) (first_fault_by good told [] rest)
       fault_of_both rest = at (after [] front) refl
         where
-          at : (fault : Option ReadFault) → after [] front ≡ fault → after [] (front ++ rest) ≡ or_else (after [] front) (fault_behind good told [] rest)
-          at (Some fault) e = first_fault_stays front rest fault e ∙ ap (λ f. or_else f (fault_behind good told [] rest)) (sym e)
+          at : (fault : Option ReadFault) → after [] front ≡ fault → after [] (front ++ rest) ≡ or_else (after [] front) (first_fault_by good told [] rest)
+          at (Some fault) e = first_fault_stays front rest fault e ∙ ap (λ f. or_else f (first_fault_by good told [] rest)) (sym e)
           at None e =
               first_fault_behind front rest e ∙ ap (λ l. after l rest) (sym (append-nil front)) ∙ fault_behind_lines (good-from_faultless front e) [] rest
-              ∙ ap (λ f. or_else f (fault_behind good told [] rest)) (sym e)
+              ∙ ap (λ f. or_else f (first_fault_by good told [] rest)) (sym e)
 
   -- ---- fronts
 
@@ -160,7 +160,7 @@ module _ (is_line : List ℕ → Bool) (fault_at : List ℕ → ℕ → ReadFaul
     prefixes_are_good front (byte ∷ rest) h =
         parts_good_before is_line_feed is_line line_front front byte (prefixes_are_good (front ++ byte ∷ []) rest (ap good (append_assoc front (byte ∷ []) rest) ∙ h))
 
-    -- a good text has no fault behind any front
+    -- a good text has no fault after any front
     faultless_behind : (before text : List ℕ) → good (before ++ text) ≡ true → after before text ≡ None
     faultless_behind before [] h = refl
     faultless_behind before (byte ∷ text) h =

@@ -7,7 +7,7 @@ use Rattle.std.proofs.KnownBytes.{Consumes-nil, Consumes-trans, Keeps-refl}
 use Rattle.basket_read.proofs.ReadLemmas.{ended, stopped, stops_failed, stops_fault}
 use Rattle.basket_read.proofs.batches.read_batches.Goals as goal
 
--- a batch stands behind what was given before
+-- a batch comes after what was given before
 taken_in : (old between new : Option (List ℕ)) (given batch items : List ℕ) (count : ℕ) → batch ≡ items → Consumes old between given → Consumes between new (take count items)
     → Consumes old new (given ++ take count batch)
 taken_in old between new given batch items count same p q = Consumes-trans old between new given (take count batch) p (subst (λ l. Consumes between new (take count l)) (sym same) q)

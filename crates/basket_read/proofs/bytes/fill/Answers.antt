@@ -3,7 +3,7 @@ use Rattle.std.proofs.lemmas.List.{length-append, length-drop, length-take, take
 use Rattle.std.specs.Prelude.{Vec}
 use Rattle.std.specs.declared.alloc.Global.{Global}
 use Rattle.std.specs.Io.KnownBytes.{Consumes}
-use Rattle.basket_read.proofs.InputLemmas.{take_behind}
+use Rattle.basket_read.proofs.InputLemmas.{take_after}
 use Rattle.std.proofs.KnownBytes.{Consumes-trans}
 use Rattle.basket_read.proofs.bytes.fill.Goals as goal
 use Rattle.basket_read.proofs.bytes.fill.Goals.{then-filled-len+in_ok-resize, else-filled-len}
@@ -12,11 +12,11 @@ use Rattle.basket_read.proofs.bytes.fill.Goals.{then-filled-len+in_ok-resize, el
 kept : (old new : List ℕ) (filled n : ℕ) → filled ≡ length old → filled ≤ n → take filled (take n old ++ new) ≡ take filled old
 kept old new filled n full more = ap (λ l. take filled (l ++ new)) (take_all n old (omega arith)) ∙ take-append-le filled old new (omega arith)
 
--- what is read stands behind what was filled
-read_behind : (buffer read after more : List ℕ) (filled count len : ℕ) → filled ≤ length buffer → count ≤ length read → filled + count ≤ len
+-- what is read comes after what was filled
+read_after : (buffer read after more : List ℕ) (filled count len : ℕ) → filled ≤ length buffer → count ≤ length read → filled + count ≤ len
     → (take (filled + count) (take len ((take filled buffer ++ (read ++ after)) ++ more)) ≡ take filled buffer ++ take count read)
     × (filled + count ≤ length (take len ((take filled buffer ++ (read ++ after)) ++ more)))
-read_behind buffer read after more filled count len within some fits =
+read_after buffer read after more filled count len within some fits =
     let whole = take filled buffer ++ (read ++ after) in
     let front = length-take filled buffer in
     let all = length-append (take filled buffer) (read ++ after) in
@@ -24,7 +24,7 @@ read_behind buffer read after more filled count len within some fits =
     let longer = length-append whole more in
     let cut = length-take len (whole ++ more) in (
       take-take (filled + count) len (whole ++ more) fits ∙ take-append-le (filled + count) whole more (omega arith)
-          ∙ take_behind (take filled buffer) (read ++ after) (filled + count) count (omega arith) ∙ ap (λ l. take filled buffer ++ l) (take-append-le count read after some),
+          ∙ take_after (take filled buffer) (read ++ after) (filled + count) count (omega arith) ∙ ap (λ l. take filled buffer ++ l) (take-append-le count read after some),
       omega arith,
     )
 
@@ -47,7 +47,7 @@ loop-filled-preserved g c =
       | else-filled-len w ↦ (ap (λ (v : Vec ℕ Global). take filled v.items) w.buffer-is, let long = ap (λ (v : Vec ℕ Global). length v.items) w.buffer-is in omega (arith, c.loop-filled.invariant.within))
     ] in
     let bound = c.in-Ok.ensures.bound.0 in
-    let behind = read_behind c.deref_mut.result.now c.read.new.buf _ _ filled count buffer.len (let v = ap length c.deref_mut.ensures.value in omega (arith, grown.1)) bound (let l = c.deref_mut.ensures.len in let d = length-drop filled c.deref_mut.result.now in let t = length-take (length c.deref_mut.result.now - filled) (drop filled c.deref_mut.result.now) in omega (arith, c.read.auto.buf, bound, grown.1, buffer.ok)) in
+    let behind = read_after c.deref_mut.result.now c.read.new.buf _ _ filled count buffer.len (let v = ap length c.deref_mut.ensures.value in omega (arith, grown.1)) bound (let l = c.deref_mut.ensures.len in let d = length-drop filled c.deref_mut.result.now in let t = length-take (length c.deref_mut.result.now - filled) (drop filled c.deref_mut.result.now) in omega (arith, c.read.auto.buf, bound, grown.1, buffer.ok)) in
     record {
       unfailed = c.in-Ok.ensures.failed;
       within = behind.1;

@@ -1,4 +1,4 @@
-use Rattle.basket_read.proofs.BehindLemmas as lemmas
+use Rattle.basket_read.proofs.JoinedLemmas as lemmas
 use Rattle.basket_read.proofs.laws.lines_say_theirs.Goals as goal
 
 pub returns : goal.returns

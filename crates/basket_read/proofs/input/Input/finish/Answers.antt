@@ -2,7 +2,7 @@ use Rattle.std.proofs.Common.{ap, sym, subst, ◌∙◌, arith}
 use Rattle.basket_read.specs.Fimi.{baskets_of, answer_of, if_light, text_of}
 use Rattle.basket_read.specs.Fault.{ReturnsBy}
 use Rattle.basket_read.specs.GatheredBaskets.{Gathers}
-use Rattle.basket_read.specs.Input.{text_behind}
+use Rattle.basket_read.specs.Input.{text_after}
 use Rattle.basket_read.proofs.InputLemmas.{has_room, text_is}
 use Rattle.basket_read.proofs.input.Input.finish.Goals as goal
 
@@ -17,4 +17,4 @@ returns c = λ counting bytes r.
     let none = sym (c.in_default.ensures counting bytes r) in
     subst (ReturnsBy (Gathers counting) c.finish.result)
     (ap (λ l. if_light (baskets_of l)) (text_is c.args.self counting bytes r none) ∙ sym (ap (λ f. answer_of f (baskets_of (text_of bytes))) none))
-    (c.finish.ensures counting (text_behind c.args.self.front bytes) r.text)
+    (c.finish.ensures counting (text_after c.args.self.front bytes) r.text)

@@ -2,7 +2,7 @@ use Rattle.std.proofs.Common.{◌+◌, ◌++◌, ◌-◌, take, drop, length, lt
 use Rattle.std.proofs.lemmas.List.{length-take, length-take-le}
 use Rattle.basket_read.specs.Numbers.{NumbersState, IsNumbersSoFar}
 use Rattle.basket_read.proofs.NumbersLemmas.{goes_on, begins, adds, begun_kept}
-use Rattle.basket_read.proofs.RunLemmas.{within_both, behind_both}
+use Rattle.basket_read.proofs.RunLemmas.{within_both, after_both}
 use Rattle.basket_read.proofs.numbers.Numbers.take_run.Goals as goal
 
 pub returns-in-Some-clause-numbers : goal.returns-in-Some-clause-numbers
@@ -16,7 +16,7 @@ returns-then-blanks-eq0-clause-numbers c = λ text s.
     let count = c.number_at-digits.result.count in
     let rest = take (length c.args.bytes.now - i) (drop i c.args.bytes.now) in
     let digits = c.number_at-digits.ensures in
-    subst (IsNumbersSoFar c.begin.new.self) (behind_both text c.args.bytes.now i count)
+    subst (IsNumbersSoFar c.begin.new.self) (after_both text c.args.bytes.now i count)
     (begins c.loop-self.self (text ++ take i c.args.bytes.now) (c.loop-self.invariant.numbers text s) c.loop-self.invariant.between (take count rest) count c.number_at-digits.result.value
     (length-take-le count rest digits.within) digits.digits digits.value digits.bound c.begin.new.self c.begin.ensures)
 
@@ -34,7 +34,7 @@ loop-self-preserved c =
       between = ap (λ (s : NumbersState). s.begun) c.in_ok-add.ensures ∙ begun_kept (ltb 0 count) c.loop-self.self.begun _ c.loop-self.self.ended.items ∙ c.loop-self.invariant.between;
       numbers = λ text s.
           subst (IsNumbersSoFar c.add.new.self)
-          (ap (λ l. l ++ take blanks behind) (behind_both text c.args.bytes.now i count) ∙ behind_both text c.args.bytes.now (i + count) blanks)
+          (ap (λ l. l ++ take blanks behind) (after_both text c.args.bytes.now i count) ∙ after_both text c.args.bytes.now (i + count) blanks)
           (adds c.loop-self.self (text ++ take i c.args.bytes.now) (c.loop-self.invariant.numbers text s) c.loop-self.invariant.between (take count rest) count c.number_at-digits.result.value
           (length-take-le count rest digits.within) digits.digits digits.value digits.bound c.add.new.self (take blanks behind) c.blanks_behind-blanks.ensures.blanks
           (λ none. absurd (let some = c.if-blanks-eq0.false in let few = c.blanks_behind-blanks.ensures.within in omega (arith, length-take blanks behind, ap length none)))

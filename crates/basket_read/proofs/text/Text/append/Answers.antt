@@ -2,7 +2,7 @@ use Rattle.std.proofs.Common.{arith}
 use Rattle.std.specs.List.{flat_map}
 use Rattle.basket_read.specs.Cut.{cut_at}
 use Rattle.basket_read.specs.Fimi.{is_line_feed, basket_of}
-use Rattle.basket_read.proofs.BehindLemmas.{texts_joined, few_joined, fit_together}
+use Rattle.basket_read.proofs.JoinedLemmas.{texts_joined, few_joined, fit_together}
 use Rattle.basket_read.proofs.text.Text.append.Goals as goal
 
 pub append-requires : goal.append-requires

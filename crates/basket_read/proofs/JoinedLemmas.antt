@@ -1,4 +1,4 @@
--- A text behind whole lines.
+-- A text after whole lines.
 use Rattle.std.proofs.Common.{◌≡◌, ℕ, ◌+◌, Bool, true, List, [], ◌∷◌, ◌++◌, length, cond, refl, sym, ap, ◌∙◌, subst, append_assoc, arith, ◌≤◌, false}
 use Rattle.std.specs.List.{flat_map}
 use Rattle.std.specs.Option.{option_map}
@@ -14,9 +14,9 @@ use Rattle.basket_read.specs.Fimi.{is_line_feed, is_line, is_good, basket_of, ba
 use Rattle.basket_read.specs.Line.{line_state, line_at}
 use Rattle.basket_read.specs.GatheredBaskets.{FitTogether, HasGathered}
 use Rattle.basket_read.specs.Text.{IsTextSoFar, HasRoomFor}
-use Rattle.basket_read.specs.Grammar.{fault_behind}
+use Rattle.basket_read.specs.Grammar.{first_fault_by}
 use Rattle.basket_read.specs.Laws.{counted_on, LinesSayTheirs}
-use Rattle.basket_read.proofs.theory.Cuts.{cut, size_after, cut_behind}
+use Rattle.basket_read.proofs.theory.Cuts.{cut, size_after, cut_after}
 use Rattle.basket_read.proofs.RoomLemmas.{merely_at_most, baskets_after}
 use Rattle.basket_read.proofs.theory.Grammar as grammar
 
@@ -28,23 +28,23 @@ module _ (front : List ℕ) (whole : (cut_at is_line_feed front).last ≡ []) wh
   baskets_front =
       ap (λ last. flat_map basket_of (lines ++ last ∷ [])) whole ∙ flat_map-append basket_of lines ([] ∷ []) ∙ append-nil (flat_map basket_of lines)
 
-  baskets_behind : (rest : List ℕ) → baskets_of (front ++ rest) ≡ baskets_of front ++ baskets_of rest
-  baskets_behind rest =
+  baskets_of_both : (rest : List ℕ) → baskets_of (front ++ rest) ≡ baskets_of front ++ baskets_of rest
+  baskets_of_both rest =
       let k = cut_at is_line_feed rest in
-      ap (λ (j : Cut). flat_map basket_of (j.ended ++ j.last ∷ [])) (cut_behind is_line_feed front rest whole)
+      ap (λ (j : Cut). flat_map basket_of (j.ended ++ j.last ∷ [])) (cut_after is_line_feed front rest whole)
       ∙ ap (flat_map basket_of) (append_assoc lines k.ended (k.last ∷ []))
       ∙ flat_map-append basket_of lines (k.ended ++ k.last ∷ [])
       ∙ ap (λ l. l ++ baskets_of rest) (sym baskets_front)
 
-  line_behind : (before : List ℕ) → line_after (front ++ before) ≡ length lines + line_after before
-  line_behind before =
+  line_on : (before : List ℕ) → line_after (front ++ before) ≡ length lines + line_after before
+  line_on before =
       let k = cut_at is_line_feed before in
       let sum = length-append lines k.ended in
-      let same = ap (λ (j : Cut). length j.ended) (cut_behind is_line_feed front before whole) in
+      let same = ap (λ (j : Cut). length j.ended) (cut_after is_line_feed front before whole) in
       omega (arith, sum, same)
 
-  fault_at_behind : (before : List ℕ) (byte : ℕ) → fault_at (front ++ before) byte ≡ counted_on (length lines) (fault_at before byte)
-  fault_at_behind before byte = ap (λ n. cond (is_digit byte) (Number n) (Byte n byte)) (line_behind before) ∙ at (is_digit byte)
+  fault_at_on : (before : List ℕ) (byte : ℕ) → fault_at (front ++ before) byte ≡ counted_on (length lines) (fault_at before byte)
+  fault_at_on before byte = ap (λ n. cond (is_digit byte) (Number n) (Byte n byte)) (line_on before) ∙ at (is_digit byte)
     where
       at : (b : Bool)
           → cond b (Number (length lines + line_after before)) (Byte (length lines + line_after before) byte)
@@ -53,12 +53,12 @@ module _ (front : List ℕ) (whole : (cut_at is_line_feed front).last ≡ []) wh
       at false = refl
 
 -- faults that are told otherwise
-told_by : (f : ReadFault → ReadFault) (before text : List ℕ) → fault_behind is_good (λ before byte. f (fault_at before byte)) before text ≡ option_map f (fault_after before text)
+told_by : (f : ReadFault → ReadFault) (before text : List ℕ) → first_fault_by is_good (λ before byte. f (fault_at before byte)) before text ≡ option_map f (fault_after before text)
 told_by f before [] = refl
 told_by f before (byte ∷ text) = at (is_good (before ++ byte ∷ [])) (told_by f (before ++ byte ∷ []) text)
   where
-    at : (well : Bool) → fault_behind is_good (λ before byte. f (fault_at before byte)) (before ++ byte ∷ []) text ≡ option_map f (fault_after (before ++ byte ∷ []) text)
-        → grammar.found well (fault_behind is_good (λ before byte. f (fault_at before byte)) (before ++ byte ∷ []) text) (f (fault_at before byte))
+    at : (well : Bool) → first_fault_by is_good (λ before byte. f (fault_at before byte)) (before ++ byte ∷ []) text ≡ option_map f (fault_after (before ++ byte ∷ []) text)
+        → grammar.found well (first_fault_by is_good (λ before byte. f (fault_at before byte)) (before ++ byte ∷ []) text) (f (fault_at before byte))
         ≡ option_map f (grammar.found well (fault_after (before ++ byte ∷ []) text) (fault_at before byte))
     at true e = e
     at false e = refl
@@ -67,8 +67,8 @@ pub lines_say_theirs : LinesSayTheirs
 lines_say_theirs front rest whole =
     let lines = length (cut_at is_line_feed front).ended in
     record {
-      baskets = baskets_behind front whole rest;
-      fault = grammar.fault_of_both is_line fault_at refl front whole (λ before byte. counted_on lines (fault_at before byte)) (fault_at_behind front whole) rest
+      baskets = baskets_of_both front whole rest;
+      fault = grammar.fault_of_both is_line fault_at refl front whole (λ before byte. counted_on lines (fault_at before byte)) (fault_at_on front whole) rest
           ∙ ap (or_else (first_fault front)) (told_by (counted_on lines) [] rest);
     }
 
@@ -81,7 +81,7 @@ pub texts_joined : (text other new : Text) (counting apart : Bool) (bytes more :
 texts_joined text other new counting apart bytes more t whole o lines line gathered =
     let a = (cut_at is_line_feed bytes).ended in
     let k = cut_at is_line_feed more in
-    let joined = cut_behind is_line_feed bytes more whole in
+    let joined = cut_after is_line_feed bytes more whole in
     record {
       faultless =
           (lines_say_theirs bytes more whole).fault
