@@ -45,12 +45,12 @@ impl GatheredBaskets {
     }
 
     /// What they are allocated with.
-    pub fn alloc(&self) -> Global {
+    pub(crate) fn alloc(&self) -> Global {
         self.alloc
     }
 
     /// Whether the next basket may be counted: none can be past after one that is kept.
-    pub fn counts(&self) -> bool
+    pub(crate) fn counts(&self) -> bool
         ensures { IsTrue result → (self.now.counting ≡ true) × (self.now.baskets ≡ []) }
     {
         self.counting && self.baskets.is_empty()
@@ -114,7 +114,7 @@ impl GatheredBaskets {
 
     /// Adds baskets that were gathered after these, and returns whether it did: some that are past
     /// can't come after one that is kept.
-    pub fn append(&mut self, other: GatheredBaskets) -> Result<bool, AllocError>
+    pub(crate) fn append(&mut self, other: GatheredBaskets) -> Result<bool, AllocError>
         requires { FitTogether self.old other }
         ensures baskets { (counting apart : Bool) (baskets more : List Weighted) → HasGathered self.old counting baskets → HasGathered other apart more
             → IfOk result (λ added. IsTrue added → HasGathered self.new counting (baskets ++ more)) }

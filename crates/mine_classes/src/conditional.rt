@@ -67,11 +67,7 @@ impl Runs {
 
 /// The conditional database of a rank with this support and at most one pair. Its baskets have one
 /// rank or none, so their weights are known and no path is looked at.
-fn below_few(
-    alloc: Global,
-    support: u64,
-    pairs: &[(u32, u64)],
-) -> Result<WordBaskets, AllocError>
+fn below_few(alloc: Global, support: u64, pairs: &[(u32, u64)]) -> Result<WordBaskets, AllocError>
     requires few { length pairs.now ≤ 1 }
     requires falls { first_support pairs.now ≤ support }
     requires light { support ≤ MOST_WEIGHT }
