@@ -1,6 +1,6 @@
 //! Baskets that are gathered one after another.
-ghost use Rattle.std.specs.Prelude.{◌≡◌, ◌≢◌, ◌≤◌, ◌<◌, ◌+◌, Bool, [], ◌∷◌, ◌++◌, List, OnOk, IfOk, IfErr, IsTrue, true, false, length, min};
-ghost use Rattle.basket_sets.specs.Database.{weighted, MOST_BASKETS, MOST_WEIGHT};
+ghost use Rattle.std.specs.Prelude.{◌≡◌, ◌≤◌, ◌+◌, Bool, [], ◌++◌, List, OnOk, IfOk, IfErr, IsTrue, true, false, length, min};
+ghost use Rattle.basket_sets.specs.Database.{MOST_WEIGHT};
 ghost use Rattle.basket_sets.specs.declared.weighted.Weighted.{Weighted};
 ghost use Rattle.basket_sets.specs.ItemTable.{HasCounted};
 ghost use Rattle.basket_sets.specs.Support.{total_of};
@@ -83,28 +83,10 @@ impl GatheredBaskets {
         if self.heavy {
             return Ok(());
         }
-        if self.counts() && self.table.add_rising(numbers, weight) {
+        if self.counts() && self.table.add_distinct(numbers, weight) {
             return Ok(());
         }
         let basket = Itemset::from_items(self.alloc, numbers)?;
-        self.add_basket(basket, weight)
-    }
-
-    /// Adds a basket that doesn't make them too heavy. It is counted at once if it may be and the
-    /// table has a slot for each of its items.
-    fn add_basket(&mut self, basket: Itemset, weight: u64) -> Result<(), ReadFault>
-        requires nonempty { basket ≢ [] }
-        requires weighs { 1 ≤ weight }
-        requires few { length self.old.baskets < MOST_BASKETS }
-        requires light { self.old.heavy ≡ false }
-        requires fits { self.old.table.total + total_of self.old.baskets + weight ≤ MOST_WEIGHT }
-        ensures baskets { (counting : Bool) (baskets : List Weighted) → HasGathered self.old counting baskets
-            → OnOk result (HasGathered self.new counting (baskets ++ weighted basket weight ∷ [])) }
-        ensures err { IfErr result (λ fault. fault ≡ ReadFault.Memory) }
-    {
-        if self.counts() && self.table.add_rising(basket.items(), weight) {
-            return Ok(());
-        }
         if self.baskets.push(basket, weight).is_err() {
             return Err(ReadFault::Memory);
         }

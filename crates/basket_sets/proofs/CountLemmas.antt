@@ -9,7 +9,7 @@ use Rattle.std.proofs.Math.Bool.{or-false, or-true}
 use Rattle.std.proofs.lemmas.Bool.{cases_eq, cases_lt, cases_order, or_cases, cond-true, cond-false, eq-eqb, ne_eqb, false≢true}
 use Rattle.std.proofs.lemmas.Map.Keys.{below_from_sorted}
 use Rattle.basket_sets.specs.declared.weighted.Weighted.{Weighted}
-use Rattle.basket_sets.specs.Itemset.{IsRising, has}
+use Rattle.basket_sets.specs.Itemset.{AreDistinct, IsRising, has}
 use Rattle.basket_sets.specs.Counts.{item_supports, tally, IsTable, AllBelow, entries_from, entries_of}
 use Rattle.basket_sets.specs.ItemTable.{Tabled, HasCounted}
 use Rattle.basket_sets.specs.Slot.{slot_with, slots_joined}
@@ -50,17 +50,17 @@ abbrev pub HasAdded : List (Option ℕ) → ℕ → List ℕ → List (Option �
 HasAdded old weight items table =
     (number : ℕ) → get_or table number None ≡ cond (has items number) (slot_with weight (get_or old number None)) (get_or old number None)
 
-pub slot_before : (items : List ℕ) (old table : List (Option ℕ)) (i weight : ℕ) → IsRising items → i < length items → HasAdded old weight (take i items) table
+pub slot_before : (items : List ℕ) (old table : List (Option ℕ)) (i weight : ℕ) → AreDistinct items → i < length items → HasAdded old weight (take i items) table
     → get_or table (get_or items i 0) None ≡ get_or old (get_or items i 0) None
-slot_before items old table i weight up below added = added (get_or items i 0) ∙ cond-false _ _ _ (not_before items i up below)
+slot_before items old table i weight apart below added = added (get_or items i 0) ∙ cond-false _ _ _ (apart i below)
 
-pub added_more : (items : List ℕ) (old table : List (Option ℕ)) (i weight : ℕ) → IsRising items → i < length items → get_or items i 0 < length table
+pub added_more : (items : List ℕ) (old table : List (Option ℕ)) (i weight : ℕ) → AreDistinct items → i < length items → get_or items i 0 < length table
     → HasAdded old weight (take i items) table
     → HasAdded old weight (take (i + 1) items) (set table (get_or items i 0) (slot_with weight (get_or table (get_or items i 0) None)))
-added_more items old table i weight up below within added number = elim (cases_eq (get_or items i 0) number) [
+added_more items old table i weight distinct below within added number = elim (cases_eq (get_or items i 0) number) [
   | inl same ↦ subst At same
       (get_or-set_same table (get_or items i 0) more None within
-      ∙ ap (slot_with weight) (slot_before items old table i weight up below added)
+      ∙ ap (slot_with weight) (slot_before items old table i weight distinct below added)
       ∙ sym (cond-true _ _ _ (has_more items i (get_or items i 0) below ∙ ap (λ t. has (take i items) (get_or items i 0) || t) (eq-eqb _ _ refl) ∙ or-true (has (take i items) (get_or items i 0)))))
   | inr apart ↦ get_or-set_other table (get_or items i 0) number more None (λ e. apart (sym e))
       ∙ added number

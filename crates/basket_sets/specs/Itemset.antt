@@ -1,4 +1,4 @@
-use Rattle.std.specs.Prelude.{ℕ, zero, suc, Bool, IsTrue, ◌<◌, List, [], ◌∷◌, ◌++◌, ◌==◌, decimal, nat_lt, if◌then◌else◌}
+use Rattle.std.specs.Prelude.{◌≡◌, ℕ, zero, suc, Bool, false, IsTrue, ◌<◌, List, [], ◌∷◌, ◌++◌, ◌==◌, decimal, length, nat_lt, slice_index, take, if◌then◌else◌}
 use Rattle.std.specs.List.{flat_map, list_any, list_all}
 use Rattle.std.specs.List.Sorted.{IsStrictlySortedBy}
 use Rattle.std.specs.Ordering.{nat_cmp}
@@ -28,6 +28,10 @@ rising (number ∷ numbers) = with_item number (rising numbers)
 -- each item of the list is below the bound
 abbrev pub AllBelow : ℕ → List ℕ → Type 0
 AllBelow bound items = (item : ℕ) → IsTrue (has items item) → item < bound
+
+-- no number is equal to one before it
+abbrev pub AreDistinct : List ℕ → Type 0
+AreDistinct numbers = (place : ℕ) → place < length numbers → has (take place numbers) (slice_index numbers place) ≡ false
 
 -- the items without the one at a place
 abbrev pub without : ℕ → List ℕ → List ℕ

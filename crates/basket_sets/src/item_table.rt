@@ -1,20 +1,24 @@
 //! The supports of items while baskets come.
-ghost use Rattle.std.specs.Prelude.{◌≡◌, ◌≢◌, ◌<◌, ◌≤◌, ◌+◌, ◌∷◌, ◌++◌, ◌^◌, [], List, false, IfOk, IsTrue, OnOk, length, map};
+ghost use Rattle.std.specs.Prelude.{◌≡◌, ◌≢◌, ◌<◌, ◌≤◌, ◌+◌, ◌∷◌, ◌++◌, ◌^◌, [], List, false, IfOk, IsTrue, OnOk, length, map, nat_lt};
+ghost use Rattle.std.specs.List.{list_all};
 ghost use Rattle.basket_sets.specs.declared.weighted.Weighted.{Weighted as Basket};
 ghost use Rattle.basket_sets.specs.Counts.{AllBelow, item_supports};
 ghost use Rattle.basket_sets.specs.Database.{weighted, MOST_WEIGHT};
 ghost use Rattle.basket_sets.specs.ItemTable.{HasCounted};
-ghost use Rattle.basket_sets.specs.Itemset.{IsRising, rising};
+ghost use Rattle.basket_sets.specs.Itemset.{AreDistinct, IsRising, rising};
 ghost use Rattle.basket_sets.specs.Support.{all_items, total_of};
 
 use crate::counts::{
     SMALL_TABLE, add_places, add_slots, add_to_table, greatest_item, listed, occurrences,
 };
-use crate::itemset::is_rising;
+use crate::itemset::{are_distinct, is_rising};
 use crate::slot::Slot;
 use crate::weighted::Weighted;
 use std::alloc::{AllocError, Global};
 use std::marker::Model;
+
+/// So few numbers are compared with each other sooner than sorted.
+const FEW: usize = 16;
 
 /// The supports of the items of baskets that come one after another. The table has a slot for each
 /// number, and grows with the greatest item.
@@ -83,19 +87,17 @@ impl ItemTable {
         Ok(true)
     }
 
-    /// Counts a basket of these numbers, if there are some, they rise and the table has a slot for each.
-    /// Returns whether it was counted.
+    /// Counts a basket of these numbers, which may come in any order, if there are some, no two are
+    /// equal and the table has a slot for each. Numbers that don't rise are not counted if they are
+    /// more than 16. Returns whether they were counted.
     #[inline]
-    pub fn add_rising(&mut self, numbers: &[u32], weight: u64) -> bool
+    pub fn add_distinct(&mut self, numbers: &[u32], weight: u64) -> bool
         requires { self.old.total + weight ≤ MOST_WEIGHT }
         ensures counted { IsTrue result → (before : List Basket) → HasCounted self.old before → HasCounted self.new (before ++ weighted (rising numbers.now) weight ∷ []) }
         ensures some { IsTrue result → numbers.now ≢ [] }
         ensures left { result ≡ false → self.new ≡ self.old }
     {
-        let Some(last) = numbers.last() else {
-            return false;
-        };
-        if *last as usize >= self.slots.len() || !is_rising(numbers) {
+        if !are_distinct_below(numbers, self.slots.len()) {
             return false;
         }
         add_to_table(&mut self.slots, numbers, weight);
@@ -147,6 +149,33 @@ impl ItemTable {
     {
         listed(alloc, &self.slots)
     }
+}
+
+/// Whether there are some numbers, they are below a bound and no two are equal. Those that don't
+/// rise are compared with each other, if they are few.
+#[inline]
+fn are_distinct_below(numbers: &[u32], bound: usize) -> bool
+    ensures some { IsTrue result → numbers.now ≢ [] }
+    ensures distinct { IsTrue result → AreDistinct numbers.now }
+    ensures below { IsTrue result → AllBelow bound numbers.now }
+{
+    let Some(last) = numbers.last() else {
+        return false;
+    };
+    if is_rising(numbers) {
+        return (*last as usize) < bound;
+    }
+    if numbers.len() > FEW || !are_below(numbers, bound) {
+        return false;
+    }
+    are_distinct(numbers)
+}
+
+/// Whether each number is below a bound.
+fn are_below(numbers: &[u32], bound: usize) -> bool
+    ensures { result ≡ list_all (λ number. nat_lt number bound) numbers.now }
+{
+    numbers.iter().all(|number| (*number as usize) < bound)
 }
 
 /// The weight of baskets together.

@@ -8,9 +8,9 @@ use Rattle.std.specs.List.Sorted.{IsStrictlySortedBy}
 use Rattle.std.proofs.lemmas.Bool.{eqb-true, eqb-false, ltb-true, ltb-false, eq-eqb, ne_eqb, lt-ltb, or_cases, cases_Bool, and_parts, and_from, cases_lt, true≢false, false_from_ne_true}
 use Rattle.std.proofs.Math.Bool.{or-false, or_assoc}
 use Rattle.std.proofs.lemmas.Bool.Decides.{nat_tests}
-use Rattle.basket_sets.specs.Itemset.{IsRising, has, contains, with_item, rising}
+use Rattle.basket_sets.specs.Itemset.{AllBelow, AreDistinct, IsRising, has, contains, with_item, rising}
 use Rattle.std.specs.List.Sorted.{IsBinarySearchResult, IsPermutation, IsSorted}
-use Rattle.std.specs.List.{Contains, IsAllAdjacentAnswer, IsDistinct, dedup, insert}
+use Rattle.std.specs.List.{Contains, IsAllAdjacentAnswer, IsDistinct, dedup, insert, list_all}
 use Rattle.std.proofs.lemmas.List.{get_or_default, get_or-take, length-take, take_more}
 use Rattle.std.proofs.lemmas.List.Kept.{Contains-dedup_nat, Contains-from_dedup}
 use Rattle.std.proofs.lemmas.List.Sorted.{searched, Contains-permutation, IsPermutation-sym}
@@ -286,6 +286,23 @@ not_before items i up below = false_from_ne_true _ (λ h.
     let same : get_or items c.0 0 ≡ get_or items i 0 = get_or_default items c.0 0 (get_or items i 0) (omega arith) ∙ sym (get_or-take i items c.0 (get_or items i 0) short) ∙ c.2 in
     let less = below_from_sorted items c.0 i 0 up short below in
     omega arith)
+
+pub rising-distinct : (items : List ℕ) → IsRising items → AreDistinct items
+rising-distinct items up place below = not_before items place up below
+
+pub below_from_all : (bound : ℕ) (items : List ℕ) → list_all (λ item. ltb item bound) items ≡ true → AllBelow bound items
+below_from_all bound [] h item m = absurd cc
+below_from_all bound (first ∷ items) h item m =
+    let both = and_parts (ltb first bound) (list_all (λ item. ltb item bound) items) h in
+    elim (or_cases (eqb first item) (has items item) m) [
+      | inl e ↦ subst (λ n. n < bound) (eqb-true first item e) (ltb-true first bound both.0)
+      | inr later ↦ below_from_all bound items both.1 item later
+    ]
+
+pub has-rising : (numbers : List ℕ) (item : ℕ) → has (rising numbers) item ≡ has numbers item
+has-rising numbers item =
+    same_test _ _ (λ h. has-from_Member numbers item (Member-rising numbers item (Member-from_has (rising numbers) item h)))
+    (λ h. has-from_Member (rising numbers) item (Member-into_rising numbers item (Member-from_has numbers item h)))
 
 -- ---- the tests and edits of the code
 

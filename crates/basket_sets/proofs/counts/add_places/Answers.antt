@@ -3,8 +3,9 @@ use Rattle.std.proofs.lemmas.List.{take_all, take_more}
 use Rattle.std.proofs.lemmas.List.Sums.{sum_by_more, sum_by_more_le}
 use Rattle.basket_sets.specs.declared.weighted.Weighted.{Weighted}
 use Rattle.basket_sets.specs.Counts.{IsTable}
-use Rattle.basket_sets.specs.Itemset.{has}
+use Rattle.basket_sets.specs.Itemset.{AreDistinct, has}
 use Rattle.basket_sets.specs.Support.{total_of}
+use Rattle.basket_sets.proofs.theory.Rising.{rising-distinct}
 use Rattle.basket_sets.proofs.CountLemmas.{HasAdded, item_of_place, table_push, bounded_push}
 use Rattle.basket_sets.proofs.counts.add_places.Goals as goal
 
@@ -13,6 +14,9 @@ loop-place-init c = record {
   table = λ before is. subst (λ l. IsTable l c.args.table.now) (sym (append-nil before)) is;
   bounded = λ item. omega arith;
 }
+
+pub add_to_table-requires-clause-distinct : goal.add_to_table-requires-clause-distinct
+add_to_table-requires-clause-distinct c = subst AreDistinct (sym c.items.ensures.items) (rising-distinct _ c.items.ensures.rising)
 
 pub add_to_table-requires-clause-within : goal.add_to_table-requires-clause-within
 add_to_table-requires-clause-within c = λ item h.

@@ -21,7 +21,7 @@ add-requires c =
     let within = c.requires.within item here in
     let fits = c.requires.fits item here in
     let slot = get_or_default c.loop-item.table item c.index-table-item.result None (omega (arith, within, c.loop-item.auto.table))
-    ∙ slot_before items c.args.table.now c.loop-item.table i c.args.weight c.requires.rising c.loop-item-test.true c.loop-item.invariant in
+    ∙ slot_before items c.args.table.now c.loop-item.table i c.args.weight c.requires.distinct c.loop-item-test.true c.loop-item.invariant in
     omega (arith, fits, ap (λ s. unwrap_or s 0) slot)
 
 pub loop-item-preserved : goal.loop-item-preserved
@@ -34,4 +34,4 @@ loop-item-preserved c = λ number.
     let below : item < length c.loop-item.table = omega (arith, within, c.loop-item.auto.table) in
     let slot = c.add.ensures ∙ ap (slot_with weight) (get_or_default c.loop-item.table item c.index-table-item.result None below) in
     ap (λ s. get_or (set c.loop-item.table item s) number None) slot
-    ∙ added_more items c.args.table.now c.loop-item.table i weight c.requires.rising c.loop-item-test.true below c.loop-item.invariant number
+    ∙ added_more items c.args.table.now c.loop-item.table i weight c.requires.distinct c.loop-item-test.true below c.loop-item.invariant number
