@@ -6,7 +6,7 @@ use Rattle.std.proofs.lemmas.List.Elements.{All-push, filter-append, recursion_f
 use Rattle.std.proofs.lemmas.Map.Keys.{non_decreasing_from_sorted}
 use Rattle.basket_sets.specs.Itemset.{IsRising, has, rising}
 use Rattle.basket_sets.proofs.theory.Members.{Member, Contains-from_Member, Member-filter, Member-from_filter, Member-from_map, Member-map, at_Member}
-use Rattle.basket_sets.proofs.theory.Rising.{Member-from_has, Member-into_rising, Member-rising, has-from_Member, has_place, same_test}
+use Rattle.basket_sets.proofs.theory.Rising.{Member-from_has, has-from_Member, has_place, same_test}
 use Rattle.basket_sets.proofs.theory.Tests.{rising_at}
 use Rattle.mine_apriori.specs.UsedItems.{AreNumbers}
 
@@ -29,11 +29,6 @@ pub missing_at : (items : List ℕ) (item place : ℕ) → IsRising items → pl
     → (place < length items → item < get_or items place 0) → has items item ≡ false
 missing_at items item place up short before after = missing items item place up
     (λ k low here. let less = before (omega arith) in let le = non_decreasing_from_sorted items up k (place - 1) 0 (omega arith) (omega arith) in omega arith) after
-
-pub has_rising : (numbers : List ℕ) (item : ℕ) → has (rising numbers) item ≡ has numbers item
-has_rising numbers item = same_test (has (rising numbers) item) (has numbers item)
-    (λ h. has-from_Member numbers item (Member-rising numbers item (Member-from_has (rising numbers) item h)))
-    (λ h. has-from_Member (rising numbers) item (Member-into_rising numbers item (Member-from_has numbers item h)))
 
 -- an item stands at one place of rising ones
 one_place : (items : List ℕ) (j k : ℕ) → IsRising items → j < length items → k < length items → get_or items j 0 ≡ get_or items k 0 → j ≡ k
