@@ -13,8 +13,9 @@ INPUTS = {
     "1,550 texts": "shapes.py news 1550 1",
     "56,000 of packages": "shapes.py packages 56000 1",
     "990,000 visits to pages": "shapes.py clicks 990000 1",
+    "1,000,000 of eight items, as CSV": "baskets.py 1000000 8 100000 1 ,",
 }
-MANY, SPARSE, FORTY, SHORT, DENSE, STORE, NEWS, PACKAGES, CLICKS = INPUTS
+MANY, SPARSE, FORTY, SHORT, DENSE, STORE, NEWS, PACKAGES, CLICKS, CSV = INPUTS
 
 TABLES = {
     "Items": [(MANY, "items --min 1")],
@@ -40,14 +41,25 @@ TABLES = {
 
 SHARED = [
     (MANY, "items --min 1"),
-    (SPARSE, "sets --min 1/1000 --miner apriori"),
+    (CLICKS, "items --min 1"),
+    (CSV, "items --form baskets --min 1"),
+    (SPARSE, "sets --min 1/200 --miner eclat-bits"),
     (SPARSE, "sets --min 1/1000 --miner eclat-bits"),
+    (SPARSE, "sets --min 1/1000 --miner apriori"),
     (FORTY, "sets --min 1% --miner eclat-bits"),
+    (SHORT, "sets --min 1/5000 --miner eclat-bits"),
     (DENSE, "sets --min 10% --miner eclat-bits"),
     (DENSE, "sets --min 5% --miner eclat-bits"),
+    (DENSE, "sets --min 5% --miner eclat-diff"),
     (DENSE, "sets --min 5% --miner apriori"),
     (STORE, "sets --min 3% --miner eclat-bits"),
+    (NEWS, "sets --min 4% --miner eclat-bits"),
+    (PACKAGES, "sets --min 1/2000 --miner eclat-bits"),
+    (CLICKS, "sets --min 1/1000 --miner eclat-bits"),
     (CLICKS, "sets --min 1/1000 --miner fpgrowth"),
+    (DENSE, "closed --min 10% --miner eclat-bits"),
+    (DENSE, "maximal --min 10% --miner eclat-bits"),
+    (DENSE, "rules --min 20% --conf 1/10 --miner eclat-bits"),
     (SPARSE, "rules --min 1/1000 --conf 1/2 --miner eclat-bits"),
 ]
 
