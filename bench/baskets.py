@@ -1,5 +1,5 @@
 #!/usr/bin/env python3
-"""Writes baskets of random items: baskets.py BASKETS ITEMS_IN_A_BASKET ITEMS SEED SEPARATOR.
+"""Writes baskets of random items: baskets.py BASKETS ITEMS_IN_A_BASKET ITEMS SEED [SEPARATOR].
 
 Without a separator it is a space, as in the FIMI format."""
 
