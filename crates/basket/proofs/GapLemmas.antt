@@ -48,15 +48,15 @@ all_of_it : (items : List ℕ) → Member items (subsets_of_size (length items) 
 all_of_it [] = inl refl
 all_of_it (item ∷ items) = Member-append_left (item ∷ items) _ _ (Member-map (λ set. item ∷ set) items (subsets_of_size (length items) items) (all_of_it items))
 
-behind_first : (size item : ℕ) (items set : List ℕ) → Member set (subsets_of_size size items) → Member set (subsets_of_size size (item ∷ items))
-behind_first zero item items set m = m
-behind_first (suc size) item items set m = Member-append_right set (map (λ s. item ∷ s) (subsets_of_size size items)) (subsets_of_size (suc size) items) m
+after_first : (size item : ℕ) (items set : List ℕ) → Member set (subsets_of_size size items) → Member set (subsets_of_size size (item ∷ items))
+after_first zero item items set m = m
+after_first (suc size) item items set m = Member-append_right set (map (λ s. item ∷ s) (subsets_of_size size items)) (subsets_of_size (suc size) items) m
 
 without_is_subset : (place size : ℕ) (items : List ℕ) → place < length items → suc size ≡ length items → Member (without place items) (subsets_of_size size items)
 without_is_subset place size [] below sized = absurd (omega (arith, below))
 without_is_subset zero size (item ∷ items) below sized =
     let e : length items ≡ size = omega (arith, sized) in
-    behind_first size item items items (subst (λ n. Member items (subsets_of_size n items)) e (all_of_it items))
+    after_first size item items items (subst (λ n. Member items (subsets_of_size n items)) e (all_of_it items))
 without_is_subset (suc place) zero (item ∷ items) below sized = absurd (omega (arith, below, sized))
 without_is_subset (suc place) (suc size) (item ∷ items) below sized =
     Member-append_left (item ∷ without place items) (map (λ s. item ∷ s) (subsets_of_size size items)) (subsets_of_size (suc size) items)

@@ -27,8 +27,8 @@ not_found text = grammar.other_fault is_line fault_at refl Read (λ before byte.
     at (text ∷ others) last line byte true e = count (cut_at is_close last).ended line byte e
 
 -- as many bytes as an input may have
-pub front : (bytes : List ℕ) (most : ℕ) → most ≤ MOST_BYTES → (most < length bytes → most ≡ MOST_BYTES) → take most bytes ≡ take MOST_BYTES bytes
-front bytes most few all = elim (cases_lt most (length bytes)) [
+pub first_bytes : (bytes : List ℕ) (most : ℕ) → most ≤ MOST_BYTES → (most < length bytes → most ≡ MOST_BYTES) → take most bytes ≡ take MOST_BYTES bytes
+first_bytes bytes most few all = elim (cases_lt most (length bytes)) [
   | inl more ↦ ap (λ n. take n bytes) (all more)
   | inr whole ↦ take_all most bytes whole ∙ sym (take_all MOST_BYTES bytes (omega arith))
 ]

@@ -17,7 +17,7 @@ use Rattle.basket_counts.specs.ListedSets.{HasEntries}
 use Rattle.basket_counts.specs.Text.{IsTextSoFar}
 use Rattle.basket_read.proofs.theory.Cuts.{cut, cut_ended, cut_on, size_after}
 use Rattle.basket_counts.proofs.LineLemmas.{no_line_feed, line_says, digit_says}
-use Rattle.basket_counts.proofs.GrammarLemmas.{line_front, line_prefixes_are_good}
+use Rattle.basket_counts.proofs.GrammarLemmas.{line_prefix, line_prefixes_are_good}
 use Rattle.basket_read.proofs.theory.Grammar as grammar
 
 -- what more lines say
@@ -48,7 +48,7 @@ module _ (text : SetText) (number : ℕ) (bytes : List ℕ) (t : IsTextSoFar tex
   goes_on line run s =
       let joined = cut_on is_line_feed is_line line_prefixes_are_good no_line_feed bytes run s.good in
       record {
-        faultless = (grammar.good_is_faultless is_line (fault_at_from number) refl line_front (bytes ++ run)).0
+        faultless = (grammar.good_is_faultless is_line (fault_at_from number) refl line_prefix (bytes ++ run)).0
             (ap (λ (j : Cut). list_all is_line (j.ended ++ j.last ∷ [])) joined
             ∙ all_push is_line ended (last ++ run)
             ∙ and_from (list_all is_line ended) (is_line (last ++ run)) (grammar.lines_good is_line (fault_at_from number) refl bytes t.faultless).0 s.good);
@@ -105,7 +105,7 @@ fewer_lines text number bytes t some = at (cut_at is_line_feed bytes).last refl
 
 -- bytes that the line took after a place
 pub run_taken : (text : SetText) (line : SetLine) (number : ℕ) (bytes piece : List ℕ) (i count : ℕ) → IsTextSoFar text number (take i bytes) → piece ≡ drop i bytes
-    → ((front : List ℕ) → IsLineSoFar text.line front → IsLineSoFar line (front ++ take count piece)) → IsTextSoFar (record text { line = line }) number (take (i + count) bytes)
+    → ((prefix : List ℕ) → IsLineSoFar text.line prefix → IsLineSoFar line (prefix ++ take count piece)) → IsTextSoFar (record text { line = line }) number (take (i + count) bytes)
 run_taken text line number bytes piece i count t e took =
     subst (IsTextSoFar (record text { line = line }) number) (ap (λ l. take i bytes ++ take count l) e ∙ sym (take-add i count bytes))
     (goes_on text number (take i bytes) t line (take count piece) (took (cut_at is_line_feed (take i bytes)).last (line_so_far text number (take i bytes) t)))

@@ -135,10 +135,10 @@ line_is counted = sym (parts (items_text counted.set) (decimal counted.count))
     parts items count = simp append_assoc
 
 module _ (counted : Counted) (written : IsWritten counted) where
-  abbrev front : List ℕ
-  front = items_text counted.set
+  abbrev prefix : List ℕ
+  prefix = items_text counted.set
 
-  says : Says counted.set front
+  says : Says counted.set prefix
   says = items_say counted.set written.items
 
   count_numeral : IsNumeral counted.count (decimal counted.count)
@@ -152,17 +152,17 @@ module _ (counted : Counted) (written : IsWritten counted) where
       cut_ended is_close (decimal counted.count) 41 refl
       ∙ ap (λ (k : Cut). cut (k.ended ++ k.last ∷ []) []) (cut_free is_close [] (decimal counted.count) (digits_free is_close (spares 41 (omega arith)) (decimal counted.count) count_numeral.digits))
 
-  body_cut : cut_at is_open (body counted) ≡ cut (front ∷ []) (tail_of counted.count)
+  body_cut : cut_at is_open (body counted) ≡ cut (prefix ∷ []) (tail_of counted.count)
   body_cut =
-      ap (cut_at is_open) (sym (append_assoc front (40 ∷ []) (tail_of counted.count)))
-      ∙ cut_free is_open (front ++ 40 ∷ []) (tail_of counted.count) (tail_free is_open (spares 40 (omega arith)) refl)
+      ap (cut_at is_open) (sym (append_assoc prefix (40 ∷ []) (tail_of counted.count)))
+      ∙ cut_free is_open (prefix ++ 40 ∷ []) (tail_of counted.count) (tail_free is_open (spares 40 (omega arith)) refl)
       ∙ ap (λ (k : Cut). cut k.ended (k.last ++ tail_of counted.count))
-      (cut_ended is_open front 40 refl ∙ ap (λ (k : Cut). cut (k.ended ++ k.last ∷ []) []) (cut_free is_open [] front says.no_open))
+      (cut_ended is_open prefix 40 refl ∙ ap (λ (k : Cut). cut (k.ended ++ k.last ∷ []) []) (cut_free is_open [] prefix says.no_open))
 
   body_good : is_line (body counted) ≡ true
   body_good =
       ap (λ (k : Cut). is_line_of k.ended k.last) body_cut
-      ∙ and_from (are_numbers front) (is_tail (tail_of counted.count)) says.numbers
+      ∙ and_from (are_numbers prefix) (is_tail (tail_of counted.count)) says.numbers
       (ap (λ (k : Cut). is_tail_of k.ended k.last) tail_cut
       ∙ and_from (not (is_nil (decimal counted.count)) && is_count (decimal counted.count)) true
       (and_from (not (is_nil (decimal counted.count))) (is_count (decimal counted.count)) (ap not (not_nil (decimal counted.count) count_numeral.some))
@@ -171,12 +171,12 @@ module _ (counted : Counted) (written : IsWritten counted) where
   body_says : (line : ℕ) → entry_of (body counted) line ≡ record { set = counted.set; count = Some counted.count; line = line } ∷ []
   body_says line =
       ap (λ (k : Cut). entry_of_parts k.ended k.last line) body_cut
-      ∙ ap (λ (k : Cut). entry (numbers_of front) (count_before k.ended) line ∷ []) tail_cut
+      ∙ ap (λ (k : Cut). entry (numbers_of prefix) (count_before k.ended) line ∷ []) tail_cut
       ∙ (λ i. entry (says.values i) (Some (count_numeral.value i)) line ∷ [])
       ∙ ap (λ set. record { set = set; count = Some counted.count; line = line } ∷ []) (rising-rising counted.set written.rising)
 
   body_free : free is_line_feed (body counted) ≡ true
-  body_free = free-append is_line_feed front (40 ∷ tail_of counted.count) says.no_feed (tail_free is_line_feed (spares 10 (omega arith)) refl)
+  body_free = free-append is_line_feed prefix (40 ∷ tail_of counted.count) says.no_feed (tail_free is_line_feed (spares 10 (omega arith)) refl)
 
 -- ---- a text
 

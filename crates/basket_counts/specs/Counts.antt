@@ -28,7 +28,7 @@ is_close byte = byte == 41
 abbrev pub is_count : List ℕ → Bool
 is_count word = list_all is_digit word && nat_le (value_of word) MOST_WEIGHT
 
--- what follows the `(`, cut at each `)`: there is none and a count may end here, or there is one, with a count before it and only blanks behind it
+-- what follows the `(`, cut at each `)`: there is none and a count may end here, or there is one, with a count before it and only blanks after it
 abbrev pub is_tail_of : List (List ℕ) → List ℕ → Bool
 is_tail_of [] last = is_count last
 is_tail_of (count ∷ []) last = not (is_nil count) && is_count count && list_all is_blank last
@@ -73,7 +73,7 @@ fault_at before byte = fault_in_line (cut_at is_line_feed before).last (line_aft
 abbrev pub fault_at_from : ℕ → List ℕ → ℕ → ReadFault
 fault_at_from line before byte = fault_in_line (cut_at is_line_feed before).last (length (cut_at is_line_feed before).ended + line) byte
 
--- the first fault in a text that goes on after a good front: at the first byte with which the text so far is not good
+-- the first fault in a text that goes on after a good prefix: at the first byte with which the text so far is not good
 abbrev pub fault_after : List ℕ → List ℕ → Option ReadFault
 fault_after before text = first_fault_by is_good fault_at before text
 

@@ -26,19 +26,19 @@ pub fn listed_shared<R: Threads + Sync>(
     let Some(end) = middle_of(bytes, workers) else {
         return listed_in(alloc, before, bytes);
     };
-    let (front, rest) = bytes.split_at(end);
+    let (prefix, rest) = bytes.split_at(end);
     let few = workers / 2;
     let others = workers - few;
     let (later, listed) = join(
         rt,
         || -> Result<ListedSets, ReadFault>
-            requires { IsSync R.row × (before + length front.now + length rest.now ≤ MOST_BYTES) }
-            ensures { SaysFrom (before + length (cut_at is_line_feed front.entry.now).ended + 1) rest.entry.now result }
-        { listed_shared(rt, alloc, before + line_feeds(front), rest, others) },
+            requires { IsSync R.row × (before + length prefix.now + length rest.now ≤ MOST_BYTES) }
+            ensures { SaysFrom (before + length (cut_at is_line_feed prefix.entry.now).ended + 1) rest.entry.now result }
+        { listed_shared(rt, alloc, before + line_feeds(prefix), rest, others) },
         || -> Result<ListedSets, ReadFault>
-            requires { IsSync R.row × (before + length front.now ≤ MOST_BYTES) }
-            ensures { SaysFrom (before + 1) front.entry.now result }
-        { listed_shared(rt, alloc, before, front, few) },
+            requires { IsSync R.row × (before + length prefix.now ≤ MOST_BYTES) }
+            ensures { SaysFrom (before + 1) prefix.entry.now result }
+        { listed_shared(rt, alloc, before, prefix, few) },
     );
     let mut listed = listed?;
     listed.append(later?)?;

@@ -20,29 +20,29 @@ with_later item first items more =
     ∙ ap (λ b. cond b (first ∷ items) (first ∷ with_item item items)) not_equal
 
 -- an item between those below it and those above
-pub with_between : (item : ℕ) (before behind : List ℕ) → ((other : ℕ) → Member other before → other < item) → ((other : ℕ) → Member other behind → item < other)
-    → with_item item (before ++ behind) ≡ before ++ item ∷ behind
-with_between item [] behind less more = with_first item behind more
-with_between item (first ∷ before) behind less more =
-    with_later item first (before ++ behind) (less first (inl refl)) ∙ ap (λ l. first ∷ l) (with_between item before behind (λ other m. less other (inr m)) more)
+pub with_between : (item : ℕ) (before after : List ℕ) → ((other : ℕ) → Member other before → other < item) → ((other : ℕ) → Member other after → item < other)
+    → with_item item (before ++ after) ≡ before ++ item ∷ after
+with_between item [] after less more = with_first item after more
+with_between item (first ∷ before) after less more =
+    with_later item first (before ++ after) (less first (inl refl)) ∙ ap (λ l. first ∷ l) (with_between item before after (λ other m. less other (inr m)) more)
 
 -- the items of a rising list before one are below it, and those after it above
-pub before_below : (before : List ℕ) (item : ℕ) (behind : List ℕ) → IsRising (before ++ item ∷ behind) → (other : ℕ) → Member other before → other < item
-before_below [] item behind up other m = absurd m
-before_below (first ∷ before) item behind up other (inl same) =
-    subst (λ x. x < item) same (first_below first (before ++ item ∷ behind) up item (Member-append_right item before (item ∷ behind) (inl refl)))
-before_below (first ∷ before) item behind up other (inr m) = before_below before item behind (rest_rises first (before ++ item ∷ behind) up) other m
+pub before_below : (before : List ℕ) (item : ℕ) (after : List ℕ) → IsRising (before ++ item ∷ after) → (other : ℕ) → Member other before → other < item
+before_below [] item after up other m = absurd m
+before_below (first ∷ before) item after up other (inl same) =
+    subst (λ x. x < item) same (first_below first (before ++ item ∷ after) up item (Member-append_right item before (item ∷ after) (inl refl)))
+before_below (first ∷ before) item after up other (inr m) = before_below before item after (rest_rises first (before ++ item ∷ after) up) other m
 
-pub behind_above : (before : List ℕ) (item : ℕ) (behind : List ℕ) → IsRising (before ++ item ∷ behind) → (other : ℕ) → Member other behind → item < other
-behind_above [] item behind up other m = first_below item behind up other m
-behind_above (first ∷ before) item behind up other m = behind_above before item behind (rest_rises first (before ++ item ∷ behind) up) other m
+pub after_above : (before : List ℕ) (item : ℕ) (after : List ℕ) → IsRising (before ++ item ∷ after) → (other : ℕ) → Member other after → item < other
+after_above [] item after up other m = first_below item after up other m
+after_above (first ∷ before) item after up other m = after_above before item after (rest_rises first (before ++ item ∷ after) up) other m
 
 -- parts of a rising list rise
-pub first_part_rises : (before behind : List ℕ) → IsRising (before ++ behind) → IsRising before
-first_part_rises [] behind up = nil_rises
-first_part_rises (first ∷ before) behind up =
-    cons_rises first before (λ other m. first_below first (before ++ behind) up other (Member-append_left other before behind m))
-    (first_part_rises before behind (rest_rises first (before ++ behind) up))
+pub first_part_rises : (before after : List ℕ) → IsRising (before ++ after) → IsRising before
+first_part_rises [] after up = nil_rises
+first_part_rises (first ∷ before) after up =
+    cons_rises first before (λ other m. first_below first (before ++ after) up other (Member-append_left other before after m))
+    (first_part_rises before after (rest_rises first (before ++ after) up))
 
 -- a part of a rising list with the next item is the longer part
 pub with_next : (items : List ℕ) (i : ℕ) → IsRising items → i < length items → with_item (get_or items i 0) (take i items) ≡ take (i + 1) items
@@ -71,13 +71,13 @@ items_above items places place up below more item m =
     subst (λ x. get_or items place 0 < x) at.2 (item_less items place at.0 up (more at.0 at.1) (below at.0 at.1))
 
 -- with an item at a place between others
-pub items_between : (items before behind : List ℕ) (place : ℕ) → IsRising items → place < length items → ((other : ℕ) → Member other behind → other < length items)
-    → ((other : ℕ) → Member other before → other < place) → ((other : ℕ) → Member other behind → place < other)
-    → items_at items (before ++ place ∷ behind) ≡ with_item (get_or items place 0) (items_at items (before ++ behind))
-items_between items before behind place up below within less more =
-    map-append (λ p. get_or items p 0) before (place ∷ behind)
-    ∙ sym (with_between (get_or items place 0) (items_at items before) (items_at items behind) (items_below items before place up below less) (items_above items behind place up within more))
-    ∙ ap (with_item (get_or items place 0)) (sym (map-append (λ p. get_or items p 0) before behind))
+pub items_between : (items before after : List ℕ) (place : ℕ) → IsRising items → place < length items → ((other : ℕ) → Member other after → other < length items)
+    → ((other : ℕ) → Member other before → other < place) → ((other : ℕ) → Member other after → place < other)
+    → items_at items (before ++ place ∷ after) ≡ with_item (get_or items place 0) (items_at items (before ++ after))
+items_between items before after place up below within less more =
+    map-append (λ p. get_or items p 0) before (place ∷ after)
+    ∙ sym (with_between (get_or items place 0) (items_at items before) (items_at items after) (items_below items before place up below less) (items_above items after place up within more))
+    ∙ ap (with_item (get_or items place 0)) (sym (map-append (λ p. get_or items p 0) before after))
 
 -- items at rising places rise
 pub items_rise : (items places : List ℕ) → IsRising items → IsRising places → ((other : ℕ) → Member other places → other < length items) → IsRising (items_at items places)

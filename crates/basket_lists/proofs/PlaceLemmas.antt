@@ -6,7 +6,7 @@ use Rattle.basket_lists.specs.declared.packed.Packed.{Packed}
 use Rattle.basket_lists.specs.Known.{FitsWord, IsBetween, IsWordOf, longer_number, shorter_number}
 use Rattle.basket_lists.specs.Packed.{Coding, IsCoding, IsLonger, IsPacked, code_of, digits, items_at, number_of, places_of, set_of, size_of}
 use Rattle.basket_lists.specs.Without.{IsLongerBy}
-use Rattle.basket_lists.proofs.BetweenLemmas.{before_below, behind_above, items_between, items_rise, with_between}
+use Rattle.basket_lists.proofs.BetweenLemmas.{before_below, after_above, items_between, items_rise, with_between}
 use Rattle.basket_lists.proofs.DigitLemmas.{digit_at, digits_same, digits_split, length-digits}
 use Rattle.basket_lists.proofs.WordLemmas.{size_bits}
 use Rattle.basket_sets.specs.Itemset.{IsRising, has, with_item}
@@ -43,19 +43,19 @@ module _ (bits size number place above : ℕ) (few : above ≤ size) (small : pl
   abbrev before : List ℕ
   before = digits bits (size - above) (number / 2 ^ (above * bits))
 
-  abbrev behind : List ℕ
-  behind = digits bits above number
+  abbrev after : List ℕ
+  after = digits bits above number
 
   abbrev first : ℕ
   first = number / 2 ^ (above * bits) * 2 ^ bits + place
 
-  pub longer_digits : digits bits (size + 1) (longer_number bits number place (above * bits)) ≡ before ++ place ∷ behind
+  pub longer_digits : digits bits (size + 1) (longer_number bits number place (above * bits)) ≡ before ++ place ∷ after
   longer_digits =
       let one : digits bits (suc (size - above)) first ≡ before ++ place ∷ [] =
       ap (λ h. digits bits (size - above) h ++ first % 2 ^ bits ∷ []) (shr_high (number / 2 ^ (above * bits)) bits place small)
       ∙ ap (λ p. before ++ p ∷ []) (mod_low (number / 2 ^ (above * bits)) bits place small) in
       digits_joined bits (suc (size - above)) above first number (size + 1) (omega (arith, few))
-      ∙ ap (λ l. l ++ behind) one ∙ append_assoc before (place ∷ []) behind
+      ∙ ap (λ l. l ++ after) one ∙ append_assoc before (place ∷ []) after
 
   pub longer_below : number < 2 ^ (size * bits) → longer_number bits number place (above * bits) < 2 ^ ((size + 1) * bits)
   longer_below below =
@@ -172,7 +172,7 @@ module _ (coding : Coding) (is : IsCoding coding) (packed : Packed) (set : IsPac
     front = before bits size number place above between.few small
 
     abbrev back : List ℕ
-    back = behind bits size number place above between.few small
+    back = after bits size number place above between.few small
 
     parts : digits bits size number ≡ front ++ back
     parts = digits_split bits (size - above) above size number (omega (arith, between.few))
@@ -249,7 +249,7 @@ module _ (coding : Coding) (is : IsCoding coding) (packed : Packed) (set : IsPac
         ap (items_at coding.items) around
         ∙ items_between coding.items ahead rear place is.rises known_place
         (λ other m. within other (subst (Member other) (sym around) (Member-append_right other ahead (place ∷ rear) (inr m))))
-        (before_below ahead place rear rising_around) (behind_above ahead place rear rising_around) in
+        (before_below ahead place rear rising_around) (after_above ahead place rear rising_around) in
         record {
           rises = items_rise coding.items (digits bits size number) is.rises set.code.rises within;
           is = whole ∙ ap (λ i. with_item i (items_at coding.items (ahead ++ rear))) (sym item_is)

@@ -107,9 +107,9 @@ heavy_first kept (line ∷ lines) heavy = at (is_of kept.set line) (heavy_first 
     at true h = h
     at false h = or_left (is_heavy kept) (list_any is_heavy (merged_from line lines)) (lt-ltb MOST_WEIGHT kept.count heavy)
 
-pub heavy_behind : (front back : List CountedLine) → list_any is_heavy back ≡ true → list_any is_heavy (front ++ back) ≡ true
-heavy_behind [] back h = h
-heavy_behind (line ∷ front) back h = or_right (is_heavy line) (list_any is_heavy (front ++ back)) (heavy_behind front back h)
+pub heavy_after : (front back : List CountedLine) → list_any is_heavy back ≡ true → list_any is_heavy (front ++ back) ≡ true
+heavy_after [] back h = h
+heavy_after (line ∷ front) back h = or_right (is_heavy line) (list_any is_heavy (front ++ back)) (heavy_after front back h)
 
 -- a line that is added to the one that is kept makes it heavy
 pub heavy_sum : (kept line : CountedLine) (lines : List CountedLine) → is_of kept.set line ≡ true → MOST_WEIGHT < kept.count + line.count → list_any is_heavy (merged_from kept (line ∷ lines)) ≡ true

@@ -2,13 +2,11 @@
 use Rattle.std.proofs.Common.{◌≡◌, ◌+◌, ◌≤◌, ◌⊎◌, Bool, true, false, List, [], ◌++◌, length, inl, inr, sym, ap, ◌∙◌, subst, append_assoc, append-nil, arith}
 use Rattle.std.proofs.lemmas.List.Sums.{sum_by-append}
 use Rattle.basket_sets.specs.declared.weighted.Weighted.{Weighted}
-use Rattle.basket_sets.specs.Database.{MOST_BASKETS, MOST_WEIGHT}
+use Rattle.basket_sets.specs.Database.{MOST_WEIGHT}
 use Rattle.basket_sets.specs.ItemTable.{HasCounted}
 use Rattle.basket_sets.specs.Support.{total_of, weight_at}
 use Rattle.basket_read.specs.declared.gathered.GatheredBaskets.{GatheredBaskets}
-use Rattle.basket_read.specs.GatheredBaskets.{FitTogether, HasBaskets, HasGathered}
-use Rattle.basket_read.proofs.RoomLemmas.{merely_at_most}
-use Rattle.basket_read.proofs.theory.Gathered.{kept_few}
+use Rattle.basket_read.specs.GatheredBaskets.{HasBaskets, HasGathered}
 
 -- if none of the first are kept, or none of the others are past, the past ones come before those that are kept
 baskets_joined : (past kept counted baskets before more : List Weighted) → past ++ kept ≡ before → counted ++ baskets ≡ more → (kept ≡ []) ⊎ (counted ≡ [])
@@ -44,8 +42,3 @@ module _ (gathered other : GatheredBaskets) where
               let both = sum_by-append (weight_at []) baskets more in let e = ap total_of a.0 in let f = ap total_of b.0 in omega (arith, h.counted.total, k.counted.total),
         );
       }
-
-  pub few_together : FitTogether gathered other → gathered.heavy ≡ false → other.heavy ≡ false → length gathered.baskets + length other.baskets ≤ MOST_BASKETS
-  few_together fit light light_other =
-      merely_at_most (length gathered.baskets + length other.baskets) MOST_BASKETS fit
-      (λ w. let kept = kept_few gathered w.0 w.2 w.4 light in let also = kept_few other w.1 w.3 w.5 light_other in let few = w.6 in omega arith)

@@ -7,7 +7,7 @@ use Rattle.basket_sets.proofs.theory.Numerals.{all_push}
 use Rattle.basket_read.specs.Cut.{cut_at}
 use Rattle.basket_read.specs.Fimi.{is_blank, is_times, is_line_feed, is_nil, is_number, are_numbers, is_weight, is_line_of, is_line, is_good, fault_at}
 use Rattle.basket_read.proofs.theory.Cuts.{good_before, stands_nowhere}
-use Rattle.basket_read.proofs.theory.Numbers.{numbers_front, refuses_other}
+use Rattle.basket_read.proofs.theory.Numbers.{numbers_prefix, refuses_other}
 use Rattle.basket_read.specs.Grammar.{PrefixesAreGood, GoodIsFaultless, FirstFaultIsExact}
 use Rattle.basket_read.proofs.theory.Grammar as grammar
 
@@ -30,13 +30,13 @@ before_times (weight ∷ []) text h = absurd cc
 before_times (weight ∷ other ∷ others) text h = absurd cc
 
 before_other : (heads : List (List ℕ)) (text : List ℕ) (byte : ℕ) → is_line_of heads (text ++ byte ∷ []) ≡ true → is_line_of heads text ≡ true
-before_other [] text byte h = numbers_front text byte h
+before_other [] text byte h = numbers_prefix text byte h
 before_other (weight ∷ []) text byte h =
-    let p = and_parts (is_weight weight) (are_numbers (text ++ byte ∷ [])) h in and_from (is_weight weight) (are_numbers text) p.0 (numbers_front text byte p.1)
+    let p = and_parts (is_weight weight) (are_numbers (text ++ byte ∷ [])) h in and_from (is_weight weight) (are_numbers text) p.0 (numbers_prefix text byte p.1)
 before_other (weight ∷ other ∷ others) text byte h = absurd cc
 
-pub line_front : (line : List ℕ) (byte : ℕ) → is_line (line ++ byte ∷ []) ≡ true → is_line line ≡ true
-line_front = good_before is_times is_line_of before_times before_other
+pub line_prefix : (line : List ℕ) (byte : ℕ) → is_line (line ++ byte ∷ []) ≡ true → is_line line ≡ true
+line_prefix = good_before is_times is_line_of before_times before_other
 
 -- a line feed stands in no line
 pub no_line_feed : (line : List ℕ) (byte : ℕ) → is_line (line ++ byte ∷ []) ≡ true → is_line_feed byte ≡ false
@@ -50,10 +50,10 @@ no_line_feed = stands_nowhere is_times is_line_of 10 refl ends
 -- ---- a text
 
 pub prefixes_are_good : PrefixesAreGood is_good
-prefixes_are_good = grammar.prefixes_are_good is_line fault_at refl line_front
+prefixes_are_good = grammar.prefixes_are_good is_line fault_at refl line_prefix
 
 pub good_is_faultless : GoodIsFaultless is_good fault_at
-good_is_faultless = grammar.good_is_faultless is_line fault_at refl line_front
+good_is_faultless = grammar.good_is_faultless is_line fault_at refl line_prefix
 
 pub first_fault_is_exact : FirstFaultIsExact is_good fault_at
-first_fault_is_exact = grammar.first_fault_is_exact is_line fault_at refl line_front
+first_fault_is_exact = grammar.first_fault_is_exact is_line fault_at refl line_prefix

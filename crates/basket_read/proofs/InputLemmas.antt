@@ -1,4 +1,4 @@
--- What stands at the front of an input, and the faults of an input that goes on.
+-- What stands at the beginning of an input, and the faults of an input that goes on.
 use Rattle.std.proofs.Common.{◌≡◌, ◌≢◌, ℕ, ◌+◌, ◌-◌, ◌<◌, ◌≤◌, Bool, true, false, ◌&&◌, ◌||◌, not, eqb, ltb, List, [], ◌∷◌, ◌++◌, length, take, drop, cond, Option, Some, None, refl, sym, ap, ◌∙◌, subst, inl, inr, arith, suc, nat_eq, ◌⊎◌, get_or}
 use Rattle.std.specs.Cmp.Lexicographic.{pointwise, bytes_decides}
 use Rattle.std.specs.List.{starts_with}
@@ -7,19 +7,19 @@ use Rattle.std.proofs.lemmas.List.{append-nil, length-append, length-drop, take_
 use Rattle.std.proofs.Math.Logic.{∥∥₁_map}
 use Rattle.basket_read.specs.declared.fault.ReadFault.{ReadFault}
 use Rattle.basket_read.specs.declared.fault.ReadFault.TheVariants.{Byte, TooLong}
-use Rattle.basket_read.specs.declared.input.Front.{Front}
-use Rattle.basket_read.specs.declared.input.Front.TheVariants.{Empty, OneByte, TwoBytes, Decided}
+use Rattle.basket_read.specs.declared.input.Beginning.{Beginning}
+use Rattle.basket_read.specs.declared.input.Beginning.TheVariants.{Empty, OneByte, TwoBytes, Decided}
 use Rattle.basket_read.specs.declared.input.Input.{Input}
 use Rattle.basket_read.specs.declared.text.Text.{Text}
 use Rattle.basket_read.specs.Fimi.{fault_at, is_line, MARK, text_of, MOST_BYTES, first_fault, or_else, fault_in, may_be_mark, settled_fault}
 use Rattle.basket_read.specs.Laws.{SettledFaultsStay, UnsettledMayBeGood}
 use Rattle.basket_read.specs.Fault.{ReturnsFault}
 use Rattle.basket_read.specs.Text.{IsTextSoFar, HasRoom}
-use Rattle.basket_read.specs.Input.{is_decided, IsFront, text_after, IsInputSoFar, IsSomeInput}
+use Rattle.basket_read.specs.Input.{is_decided, IsBeginning, text_after, IsInputSoFar, IsSomeInput}
 use Rattle.basket_read.proofs.TextLemmas.{take_rest}
 use Rattle.basket_read.proofs.theory.Grammar as grammar
 
--- ---- what is decided at the front
+-- ---- what is decided at the beginning
 
 first_alone : (x : Bool) → not ((x && true) || (x && false)) ≡ true → x ≡ false
 first_alone true h = absurd cc
@@ -63,7 +63,7 @@ three_bytes a b c bytes more = (at (pointwise nat_eq MARK (a ∷ b ∷ c ∷ [])
     also true false = refl
     also false y = refl
 
--- once it is decided what stands at the front, what follows is text
+-- once it is decided what stands at the beginning, what follows is text
 pub decided-append : (bytes more : List ℕ) → is_decided bytes ≡ true → (text_of (bytes ++ more) ≡ text_of bytes ++ more) × (is_decided (bytes ++ more) ≡ true)
 decided-append [] more h = absurd cc
 decided-append (a ∷ []) more h =
@@ -104,7 +104,7 @@ fault_long bytes piece room h e long =
     (lt-ltb MOST_BYTES (length (bytes ++ piece)) (let sum = length-append bytes piece in omega arith))
     ∙ ap (λ l. or_else (first_fault l) (Some TooLong)) (decided-append bytes (take room piece) h).0
 
--- what is decided at the front is settled
+-- what is decided at the beginning is settled
 pub settled-decided : (bytes : List ℕ) → is_decided bytes ≡ true → settled_fault bytes ≡ fault_in bytes
 settled-decided [] h = absurd cc
 settled-decided (byte ∷ bytes) h = at (may_be_mark (byte ∷ bytes)) (fault_in (byte ∷ bytes)) h
@@ -157,7 +157,7 @@ text_of_le bytes = at (starts_with nat_eq bytes MARK)
     at true = let cut = length-drop 3 bytes in omega arith
     at false = omega arith
 
-text_after_le : (front : Front) (bytes : List ℕ) → length (text_after front bytes) ≤ length bytes
+text_after_le : (beginning : Beginning) (bytes : List ℕ) → length (text_after beginning bytes) ≤ length bytes
 text_after_le Empty bytes = omega arith
 text_after_le OneByte bytes = omega arith
 text_after_le TwoBytes bytes = omega arith
@@ -166,53 +166,53 @@ text_after_le Decided bytes = text_of_le bytes
 -- the text has room for what the input has room for
 pub has_room : (input : Input) (more : ℕ) → ((counting : Bool) (bytes : List ℕ) → IsInputSoFar input counting bytes → length bytes + more ≤ MOST_BYTES) → IsSomeInput input → HasRoom input.text more
 has_room input more few some =
-    ∥∥₁_map some (λ w. (text_after input.front w.1, (w.0, w.2.text), let shorter = text_after_le input.front w.1 in let enough = few w.0 w.1 w.2 in omega arith))
+    ∥∥₁_map some (λ w. (text_after input.beginning w.1, (w.0, w.2.text), let shorter = text_after_le input.beginning w.1 in let enough = few w.0 w.1 w.2 in omega arith))
 
 module _ (input : Input) (counting : Bool) (bytes : List ℕ) (r : IsInputSoFar input counting bytes) where
-  pub at_front : (front : Front) → input.front ≡ front → IsFront front bytes × IsTextSoFar input.text counting (text_after front bytes)
-  at_front front e = (subst (λ f. IsFront f bytes) e r.front, subst (λ f. IsTextSoFar input.text counting (text_after f bytes)) e r.text)
+  pub at_beginning : (beginning : Beginning) → input.beginning ≡ beginning → IsBeginning beginning bytes × IsTextSoFar input.text counting (text_after beginning bytes)
+  at_beginning beginning e = (subst (λ f. IsBeginning f bytes) e r.beginning, subst (λ f. IsTextSoFar input.text counting (text_after f bytes)) e r.text)
 
-  -- after the front the text goes on
-  pub with_text : (text : Text) (piece : List ℕ) → input.front ≡ Decided → length bytes + length piece ≤ MOST_BYTES → IsTextSoFar text counting (text_of bytes ++ piece)
-      → IsInputSoFar (record { front = input.front; taken = input.taken + length piece; text = text }) counting (bytes ++ piece)
+  -- after the beginning the text goes on
+  pub with_text : (text : Text) (piece : List ℕ) → input.beginning ≡ Decided → length bytes + length piece ≤ MOST_BYTES → IsTextSoFar text counting (text_of bytes ++ piece)
+      → IsInputSoFar (record { beginning = input.beginning; taken = input.taken + length piece; text = text }) counting (bytes ++ piece)
   with_text text piece e few t =
-      let h = (at_front Decided e).0 in
+      let h = (at_beginning Decided e).0 in
       record {
-        front = subst (λ f. IsFront f (bytes ++ piece)) (sym e) (decided-append bytes piece h).1;
+        beginning = subst (λ f. IsBeginning f (bytes ++ piece)) (sym e) (decided-append bytes piece h).1;
         taken = ap (λ n. n + length piece) r.taken ∙ sym (length-append bytes piece);
         few = let sum = length-append bytes piece in omega arith;
         text = subst (λ f. IsTextSoFar text counting (text_after f (bytes ++ piece))) (sym e) (subst (IsTextSoFar text counting) (sym (decided-append bytes piece h).0) t);
       }
 
-  -- the fault of a text after the front is that of the input
-  pub text_fault : (piece : List ℕ) (fault : ReadFault) → input.front ≡ Decided → length bytes + length piece ≤ MOST_BYTES → first_fault (text_of bytes ++ piece) ≡ Some fault
+  -- the fault of a text after the beginning is that of the input
+  pub text_fault : (piece : List ℕ) (fault : ReadFault) → input.beginning ≡ Decided → length bytes + length piece ≤ MOST_BYTES → first_fault (text_of bytes ++ piece) ≡ Some fault
       → settled_fault (bytes ++ piece) ≡ Some fault
   text_fault piece fault e few found =
-      let h = (at_front Decided e).0 in
+      let h = (at_beginning Decided e).0 in
       settled-decided (bytes ++ piece) (decided-append bytes piece h).1
       ∙ fault_few (bytes ++ piece) (let sum = length-append bytes piece in omega arith)
       ∙ ap first_fault (decided-append bytes piece h).0 ∙ found
 
-  pub long_fault : (piece : List ℕ) (room : ℕ) → input.front ≡ Decided → length bytes + room ≡ MOST_BYTES → room < length piece
+  pub long_fault : (piece : List ℕ) (room : ℕ) → input.beginning ≡ Decided → length bytes + room ≡ MOST_BYTES → room < length piece
       → settled_fault (bytes ++ piece) ≡ or_else (first_fault (text_of bytes ++ take room piece)) (Some TooLong)
   long_fault piece room e f long =
-      let h = (at_front Decided e).0 in settled-decided (bytes ++ piece) (decided-append bytes piece h).1 ∙ fault_long bytes piece room h f long
+      let h = (at_beginning Decided e).0 in settled-decided (bytes ++ piece) (decided-append bytes piece h).1 ∙ fault_long bytes piece room h f long
 
   -- an input without a settled fault
   pub faultless_input : settled_fault bytes ≡ None
-  faultless_input = at input.front r.front r.text
+  faultless_input = at input.beginning r.beginning r.text
     where
-      at : (front : Front) → IsFront front bytes → IsTextSoFar input.text counting (text_after front bytes) → settled_fault bytes ≡ None
+      at : (beginning : Beginning) → IsBeginning beginning bytes → IsTextSoFar input.text counting (text_after beginning bytes) → settled_fault bytes ≡ None
       at Empty e t = ap settled_fault e
       at OneByte e t = ap settled_fault e
       at TwoBytes e t = ap settled_fault e
       at Decided e t = settled-decided bytes e ∙ fault_few bytes r.few ∙ t.faultless
 
   -- the text of an input without a fault
-  pub text_is : fault_in bytes ≡ None → text_after input.front bytes ≡ text_of bytes
-  text_is none = at input.front r.front
+  pub text_is : fault_in bytes ≡ None → text_after input.beginning bytes ≡ text_of bytes
+  text_is none = at input.beginning r.beginning
     where
-      at : (front : Front) → IsFront front bytes → text_after front bytes ≡ text_of bytes
+      at : (beginning : Beginning) → IsBeginning beginning bytes → text_after beginning bytes ≡ text_of bytes
       at Empty e = ap text_of (sym e)
       at OneByte e = absurd (let no : Some (Byte 1 239) ≡ None = ap fault_in (sym e) ∙ none in cc)
       at TwoBytes e = absurd (let no : Some (Byte 1 239) ≡ None = ap fault_in (sym e) ∙ none in cc)

@@ -4,7 +4,7 @@ use Rattle.std.specs.List.{flat_map}
 use Rattle.std.specs.Option.{option_map}
 use Rattle.std.proofs.lemmas.Grind.{flat_map-append}
 use Rattle.std.proofs.lemmas.List.{append-nil, length-append}
-use Rattle.std.proofs.Math.Logic.{∥∥₁_map}
+use Rattle.basket_sets.specs.Database.{MOST_BASKETS}
 use Rattle.basket_sets.specs.Number.{is_digit}
 use Rattle.basket_read.specs.declared.fault.ReadFault.{ReadFault}
 use Rattle.basket_read.specs.declared.fault.ReadFault.TheVariants.{Byte, Number}
@@ -12,38 +12,39 @@ use Rattle.basket_read.specs.declared.text.Text.{Text}
 use Rattle.basket_read.specs.Cut.{Cut, cut_at}
 use Rattle.basket_read.specs.Fimi.{is_line_feed, is_line, is_good, basket_of, baskets_of, line_after, fault_at, fault_after, first_fault, or_else, MOST_BYTES}
 use Rattle.basket_read.specs.Line.{line_state, line_at}
-use Rattle.basket_read.specs.GatheredBaskets.{FitTogether, HasGathered}
+use Rattle.basket_read.specs.GatheredBaskets.{HasGathered, MayKeep}
 use Rattle.basket_read.specs.Text.{IsTextSoFar, HasRoomFor}
 use Rattle.basket_read.specs.Grammar.{first_fault_by}
 use Rattle.basket_read.specs.Laws.{counted_on, LinesSayTheirs}
 use Rattle.basket_read.proofs.theory.Cuts.{cut, size_after, cut_after}
 use Rattle.basket_read.proofs.RoomLemmas.{merely_at_most, baskets_after}
+use Rattle.basket_read.proofs.theory.Gathered.{kept_few}
 use Rattle.basket_read.proofs.theory.Grammar as grammar
 
-module _ (front : List ℕ) (whole : (cut_at is_line_feed front).last ≡ []) where
+module _ (prefix : List ℕ) (whole : (cut_at is_line_feed prefix).last ≡ []) where
   abbrev lines : List (List ℕ)
-  lines = (cut_at is_line_feed front).ended
+  lines = (cut_at is_line_feed prefix).ended
 
-  baskets_front : baskets_of front ≡ flat_map basket_of lines
-  baskets_front =
+  baskets_before : baskets_of prefix ≡ flat_map basket_of lines
+  baskets_before =
       ap (λ last. flat_map basket_of (lines ++ last ∷ [])) whole ∙ flat_map-append basket_of lines ([] ∷ []) ∙ append-nil (flat_map basket_of lines)
 
-  baskets_of_both : (rest : List ℕ) → baskets_of (front ++ rest) ≡ baskets_of front ++ baskets_of rest
+  baskets_of_both : (rest : List ℕ) → baskets_of (prefix ++ rest) ≡ baskets_of prefix ++ baskets_of rest
   baskets_of_both rest =
       let k = cut_at is_line_feed rest in
-      ap (λ (j : Cut). flat_map basket_of (j.ended ++ j.last ∷ [])) (cut_after is_line_feed front rest whole)
+      ap (λ (j : Cut). flat_map basket_of (j.ended ++ j.last ∷ [])) (cut_after is_line_feed prefix rest whole)
       ∙ ap (flat_map basket_of) (append_assoc lines k.ended (k.last ∷ []))
       ∙ flat_map-append basket_of lines (k.ended ++ k.last ∷ [])
-      ∙ ap (λ l. l ++ baskets_of rest) (sym baskets_front)
+      ∙ ap (λ l. l ++ baskets_of rest) (sym baskets_before)
 
-  line_on : (before : List ℕ) → line_after (front ++ before) ≡ length lines + line_after before
+  line_on : (before : List ℕ) → line_after (prefix ++ before) ≡ length lines + line_after before
   line_on before =
       let k = cut_at is_line_feed before in
       let sum = length-append lines k.ended in
-      let same = ap (λ (j : Cut). length j.ended) (cut_after is_line_feed front before whole) in
+      let same = ap (λ (j : Cut). length j.ended) (cut_after is_line_feed prefix before whole) in
       omega (arith, sum, same)
 
-  fault_at_on : (before : List ℕ) (byte : ℕ) → fault_at (front ++ before) byte ≡ counted_on (length lines) (fault_at before byte)
+  fault_at_on : (before : List ℕ) (byte : ℕ) → fault_at (prefix ++ before) byte ≡ counted_on (length lines) (fault_at before byte)
   fault_at_on before byte = ap (λ n. cond (is_digit byte) (Number n) (Byte n byte)) (line_on before) ∙ at (is_digit byte)
     where
       at : (b : Bool)
@@ -64,12 +65,12 @@ told_by f before (byte ∷ text) = at (is_good (before ++ byte ∷ [])) (told_by
     at false e = refl
 
 pub lines_say_theirs : LinesSayTheirs
-lines_say_theirs front rest whole =
-    let lines = length (cut_at is_line_feed front).ended in
+lines_say_theirs prefix rest whole =
+    let lines = length (cut_at is_line_feed prefix).ended in
     record {
-      baskets = baskets_of_both front whole rest;
-      fault = grammar.fault_of_both is_line fault_at refl front whole (λ before byte. counted_on lines (fault_at before byte)) (fault_at_on front whole) rest
-          ∙ ap (or_else (first_fault front)) (told_by (counted_on lines) [] rest);
+      baskets = baskets_of_both prefix whole rest;
+      fault = grammar.fault_of_both is_line fault_at refl prefix whole (λ before byte. counted_on lines (fault_at before byte)) (fault_at_on prefix whole) rest
+          ∙ ap (or_else (first_fault prefix)) (told_by (counted_on lines) [] rest);
     }
 
 -- ---- two texts that were read
@@ -97,14 +98,8 @@ few_joined text other room =
     merely_at_most (text.lines + other.lines) MOST_BYTES room
     (λ w. let t = w.2.1.lines in let o = w.3.1.lines in let a = size_after is_line_feed (cut [] []) w.0 in let b = size_after is_line_feed (cut [] []) w.1 in let small = w.4 in omega arith)
 
-pub fit_together : (text other : Text) → HasRoomFor text other → FitTogether text.gathered other.gathered
-fit_together text other room =
-    ∥∥₁_map room (λ w. (
-      w.2.0,
-      w.3.0,
-      flat_map basket_of (cut_at is_line_feed w.0).ended,
-      flat_map basket_of (cut_at is_line_feed w.1).ended,
-      w.2.1.gathered,
-      w.3.1.gathered,
-      let few = baskets_after (cut [] []) w.0 in let few_other = baskets_after (cut [] []) w.1 in let small = w.4 in omega arith,
-    ))
+pub kept_together : (text other : Text) → HasRoomFor text other → other.gathered.heavy ≡ false → MayKeep text.gathered (length other.gathered.baskets)
+kept_together text other room light_other light =
+    merely_at_most (length text.gathered.baskets + length other.gathered.baskets) MOST_BASKETS room
+    (λ w. let kept = kept_few text.gathered w.2.0 _ w.2.1.gathered light in let kept_other = kept_few other.gathered w.3.0 _ w.3.1.gathered light_other in
+        let few = baskets_after (cut [] []) w.0 in let few_other = baskets_after (cut [] []) w.1 in let small = w.4 in omega arith)

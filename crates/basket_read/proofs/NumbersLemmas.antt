@@ -71,7 +71,7 @@ module _ (old : Numbers) (text : List ℕ) (so_far : IsNumbersSoFar old text) wh
   -- ---- more digits of a number
 
   pub goes_on : (new : Numbers) (value longer : ℕ) (word : List ℕ) → old.begun ≡ Some value → list_all is_digit word ≡ true → longer ≤ MOST_NUMBER
-      → ((front : List ℕ) → value_of front ≡ value → value_of (front ++ word) ≡ longer)
+      → ((prefix : List ℕ) → value_of prefix ≡ value → value_of (prefix ++ word) ≡ longer)
       → numbers_state new ≡ record { begun = Some longer; ended = old.ended.items } → IsNumbersSoFar new (text ++ word)
   goes_on new value longer word some digits below value_is new_is =
       let k = at last word (sym begun ∙ some) in

@@ -9,19 +9,13 @@ use Rattle.basket_sets.specs.Database.{MOST_BASKETS}
 use Rattle.basket_read.specs.declared.text.Text.{Text}
 use Rattle.basket_read.specs.Cut.{Cut, cut_more, cut_at}
 use Rattle.basket_read.specs.Fimi.{is_line_feed, is_times, basket_of, numbers_of, weight_before}
-use Rattle.basket_read.specs.GatheredBaskets.{HasPlace}
+use Rattle.basket_read.specs.GatheredBaskets.{MayKeep}
 use Rattle.basket_read.specs.Text.{IsTextSoFar, HasRoom}
 use Rattle.basket_read.proofs.theory.Cuts.{cut, size_after}
 use Rattle.basket_read.proofs.theory.Gathered.{kept_few}
 use Rattle.basket_read.proofs.theory.Numbers.{one_basket}
 
 -- a bound that follows from what is there
-merely_below : {A : Type 0} (a b : ℕ) → ∥ A ∥₁ → (A → a < b) → a < b
-merely_below a b h f = elim (cases_lt a b) [
-  | inl lt ↦ lt
-  | inr le ↦ absurd (not_there h (λ w. let lt = f w in absurd (omega arith)))
-]
-
 pub merely_at_most : {A : Type 0} (a b : ℕ) → ∥ A ∥₁ → (A → a ≤ b) → a ≤ b
 merely_at_most a b h f = elim (cases_lt b a) [
   | inl lt ↦ absurd (not_there h (λ w. let le = f w in absurd (omega arith)))
@@ -31,7 +25,7 @@ merely_at_most a b h f = elim (cases_lt b a) [
 -- a line feed for each line that has ended
 pub few_lines : (text : Text) (more : ℕ) → HasRoom text (more + 1) → text.lines + 1 < 2 ^ 32
 few_lines text more room =
-    merely_below (text.lines + 1) (2 ^ 32) room (λ w. let t = w.1.1.lines in let e = size_after is_line_feed (cut [] []) w.0 in let small = w.2 in omega arith)
+    omega (arith, merely_at_most (text.lines + 2) (2 ^ 32) room (λ w. let t = w.1.1.lines in let e = size_after is_line_feed (cut [] []) w.0 in let small = w.2 in omega arith))
 
 -- a basket has a number, and so its line a byte
 basket_size : (line : List ℕ) → 2 * length (basket_of line) ≤ length line + 1
@@ -57,9 +51,9 @@ baskets_after c (x ∷ xs) = at (is_line_feed x) (baskets_after (cut (c.ended ++
         omega arith
     at false ended joined = let one = length-append c.last (x ∷ []) in omega arith
 
-pub few_baskets : (text : Text) (more : ℕ) → HasRoom text more → HasPlace text.gathered
+pub few_baskets : (text : Text) (more : ℕ) → HasRoom text more → MayKeep text.gathered 1
 few_baskets text more room light =
-    merely_below (length text.gathered.baskets) MOST_BASKETS room
+    merely_at_most (length text.gathered.baskets + 1) MOST_BASKETS room
     (λ w. let kept = kept_few text.gathered w.1.0 _ w.1.1.gathered light in let few = baskets_after (cut [] []) w.0 in let small = w.2 in omega arith)
 
 -- after a part of a piece there is room for its rest

@@ -1,4 +1,4 @@
--- Parts of a piece, and digits at its front.
+-- Parts of a piece, and digits at its prefix.
 use Rattle.std.proofs.Common.{◌≡◌, ℕ, ◌+◌, ◌*◌, ◌^◌, ◌-◌, ◌<◌, ◌≤◌, true, List, ◌++◌, length, take, drop, get_or, Some, sym, ap, ◌∙◌, subst, append_assoc, length-drop, add-one, leb, arith}
 use Rattle.std.specs.List.{list_all}
 use Rattle.std.proofs.lemmas.Bool.{and_parts, and_from, leb-true}
@@ -72,7 +72,7 @@ short_value_more bytes i value digit below byte value_is =
     let same : get_or bytes i 0 - 48 ≡ digit = omega arith in
     ap value_of (take_more bytes i 0 below) ∙ value_push (take i bytes) (get_or bytes i 0) ∙ (λ j. value_is j * 10 + same j)
 
--- a number at the front, and more digits after them
+-- a number at the prefix, and more digits after them
 pub number_goes_on : (bytes : List ℕ) (i more : ℕ) → list_all is_digit (take i bytes) ≡ true → list_all is_digit (take more (take (length bytes - i) (drop i bytes))) ≡ true
     → list_all is_digit (take (i + more) bytes) ≡ true
 number_goes_on bytes i more a b =

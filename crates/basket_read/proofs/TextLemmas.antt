@@ -19,7 +19,7 @@ use Rattle.basket_read.specs.GatheredBaskets.{HasGathered}
 use Rattle.basket_read.specs.Text.{basket_said, IsTextSoFar}
 use Rattle.basket_read.proofs.theory.Cuts.{cut_ended, cut_on}
 use Rattle.basket_read.proofs.LineLemmas.{line_numbers, line_weight}
-use Rattle.basket_read.proofs.GrammarLemmas.{line_front, no_line_feed, good_is_faultless}
+use Rattle.basket_read.proofs.GrammarLemmas.{line_prefix, no_line_feed, good_is_faultless}
 use Rattle.basket_read.proofs.theory.Grammar as grammar
 
 module _ (text : Text) (counting : Bool) (bytes : List ℕ) (t : IsTextSoFar text counting bytes) where
@@ -37,7 +37,7 @@ module _ (text : Text) (counting : Bool) (bytes : List ℕ) (t : IsTextSoFar tex
   pub goes_on : (line : Line) (run : List ℕ) → IsLineSoFar line (last ++ run) → IsTextSoFar (with_line line) counting (bytes ++ run)
   goes_on line run s =
       let k = cut_at is_line_feed bytes in
-      let joined = cut_on is_line_feed is_line (grammar.line_prefixes_are_good is_line fault_at refl line_front) no_line_feed bytes run s.good in
+      let joined = cut_on is_line_feed is_line (grammar.line_prefixes_are_good is_line fault_at refl line_prefix) no_line_feed bytes run s.good in
       record {
         faultless = (good_is_faultless (bytes ++ run)).0
             (ap (λ (j : Cut). list_all is_line (j.ended ++ j.last ∷ [])) joined
@@ -80,10 +80,10 @@ module _ (text : Text) (counting : Bool) (bytes : List ℕ) (t : IsTextSoFar tex
 pub take_rest : (bytes piece : List ℕ) (i : ℕ) → (bytes ++ take i piece) ++ drop i piece ≡ bytes ++ piece
 take_rest bytes piece i = append_assoc bytes (take i piece) (drop i piece) ∙ ap (λ l. bytes ++ l) (take-append-drop i piece)
 
--- a fault in the front of a piece is that of the piece
-pub fault_in_front : (bytes front rest piece : List ℕ) (fault : ReadFault) → front ++ rest ≡ piece → ReturnsFault fault (first_fault (bytes ++ front)) → ReturnsFault fault (first_fault (bytes ++ piece))
-fault_in_front bytes front rest piece fault whole told no_memory =
-    ap first_fault (ap (λ l. bytes ++ l) (sym whole) ∙ sym (append_assoc bytes front rest)) ∙ grammar.first_fault_stays is_line fault_at refl (bytes ++ front) rest fault (told no_memory)
+-- a fault in the prefix of a piece is that of the piece
+pub fault_in_prefix : (bytes prefix rest piece : List ℕ) (fault : ReadFault) → prefix ++ rest ≡ piece → ReturnsFault fault (first_fault (bytes ++ prefix)) → ReturnsFault fault (first_fault (bytes ++ piece))
+fault_in_prefix bytes prefix rest piece fault whole told no_memory =
+    ap first_fault (ap (λ l. bytes ++ l) (sym whole) ∙ sym (append_assoc bytes prefix rest)) ∙ grammar.first_fault_stays is_line fault_at refl (bytes ++ prefix) rest fault (told no_memory)
 
 pub if_ok : {A : Type 0} (result : Result A ReadFault) (P : A → Type 0) (Q : ReadFault → Type 0) → MatchResult result P Q → IfOk result P
 if_ok (Ok x) P Q h = h

@@ -89,7 +89,7 @@ line_after before = length (cut_at is_line_feed before).ended + 1
 abbrev pub fault_at : List ℕ → ℕ → ReadFault
 fault_at before byte = if is_digit byte then Number (line_after before) else Byte (line_after before) byte
 
--- the first fault in a text that goes on after a good front: at the first byte with which the text so far is not good
+-- the first fault in a text that goes on after a good prefix: at the first byte with which the text so far is not good
 abbrev pub fault_after : List ℕ → List ℕ → Option ReadFault
 fault_after before text = first_fault_by is_good fault_at before text
 

@@ -1,5 +1,5 @@
 -- Baskets that are gathered one after another.
-use Rattle.std.specs.Prelude.{◌≡◌, ◌≤◌, ◌<◌, ◌+◌, Bool, true, false, List, [], ◌++◌, length, Result, Ok}
+use Rattle.std.specs.Prelude.{◌≡◌, ◌≤◌, ◌<◌, ◌+◌, ℕ, Bool, true, false, List, [], ◌++◌, length, Result, Ok}
 use Rattle.basket_sets.specs.declared.weighted.Weighted.{Weighted}
 use Rattle.basket_sets.specs.ItemTable.{HasCounted}
 use Rattle.basket_sets.specs.Database.{MOST_BASKETS, MOST_WEIGHT}
@@ -22,15 +22,9 @@ pub record HasGathered (gathered : GatheredBaskets) (counting : Bool) (baskets :
   pub counted : HasCounted gathered.table past
   pub kept : HasBaskets gathered.heavy (past ++ gathered.baskets) baskets
 
--- one more basket may be kept
-abbrev pub HasPlace : GatheredBaskets → Type 0
-HasPlace gathered = gathered.heavy ≡ false → length gathered.baskets < MOST_BASKETS
-
--- a database may have as many baskets as these and those that were gathered after them
-abbrev pub FitTogether : GatheredBaskets → GatheredBaskets → Type 0
-FitTogether gathered other =
-    ∥ ((counting : Bool) × (apart : Bool) × (baskets : List Weighted) × (more : List Weighted)
-    × HasGathered gathered counting baskets × HasGathered other apart more × (length baskets + length more ≤ MOST_BASKETS)) ∥₁
+-- so many more baskets may be kept
+abbrev pub MayKeep : GatheredBaskets → ℕ → Type 0
+MayKeep gathered more = gathered.heavy ≡ false → length gathered.baskets + more ≤ MOST_BASKETS
 
 -- these are the counts of some baskets, which a database may have, and all are kept unless baskets are counted
 abbrev pub AreGathered : Bool → ItemCounts → List Weighted → Type 0

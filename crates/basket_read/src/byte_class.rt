@@ -38,7 +38,7 @@ pub fn class_of(byte: u8) -> ByteClass
 /// How many blanks to take from the beginning of the bytes. After a number that is at most one,
 /// since mostly another number follows.
 #[inline(always)]
-pub(crate) fn blanks_behind(number: bool, bytes: &[u8]) -> usize
+pub(crate) fn blanks_after(number: bool, bytes: &[u8]) -> usize
     ensures within { result ≤ length bytes.now }
     ensures blanks { list_all is_blank (take result bytes.now) ≡ true }
 {

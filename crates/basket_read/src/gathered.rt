@@ -1,12 +1,13 @@
 //! Baskets that are gathered one after another.
-ghost use Rattle.std.specs.Prelude.{◌≡◌, ◌≤◌, ◌+◌, Bool, [], ◌++◌, List, OnOk, IfOk, IfErr, IsTrue, true, false, length, min};
-ghost use Rattle.basket_sets.specs.Database.{MOST_WEIGHT};
+ghost use Rattle.std.specs.Prelude.{◌≡◌, ◌≤◌, ◌+◌, Bool, [], ◌∷◌, ◌++◌, List, OnOk, IfOk, IfErr, IsTrue, true, false, length, min};
+ghost use Rattle.basket_sets.specs.Database.{MOST_WEIGHT, weighted};
 ghost use Rattle.basket_sets.specs.declared.weighted.Weighted.{Weighted};
 ghost use Rattle.basket_sets.specs.ItemTable.{HasCounted};
+ghost use Rattle.basket_sets.specs.Itemset.{rising};
 ghost use Rattle.basket_sets.specs.Support.{total_of};
 ghost use Rattle.basket_read.specs.Fault.{ReturnsBy};
 ghost use Rattle.basket_read.specs.Fimi.{basket_of_numbers, if_light};
-ghost use Rattle.basket_read.specs.GatheredBaskets.{FitTogether, Gathers, HasGathered, HasPlace};
+ghost use Rattle.basket_read.specs.GatheredBaskets.{Gathers, HasGathered, MayKeep};
 
 use crate::fault::ReadFault;
 use crate::item_counts::ItemCounts;
@@ -65,10 +66,10 @@ impl GatheredBaskets {
 
     /// Adds the basket of the numbers, which may come in any order and repeat, unless there is none.
     #[inline]
-    #[tactic(auto, using(crate::proofs::theory::Numbers::rising_nonempty))]
+    #[tactic(auto, using(crate::proofs::theory::Numbers::rising_nonempty, crate::proofs::theory::Numbers::rising_again))]
     pub fn add(&mut self, numbers: &[u32], weight: u32) -> Result<(), ReadFault>
         requires weighs { 1 ≤ weight }
-        requires place { HasPlace self.old }
+        requires room { MayKeep self.old 1 }
         ensures baskets { (counting : Bool) (baskets : List Weighted) → HasGathered self.old counting baskets
             → OnOk result (HasGathered self.new counting (baskets ++ basket_of_numbers numbers.now weight)) }
         ensures err { IfErr result (λ fault. fault ≡ ReadFault.Memory) }
@@ -83,10 +84,13 @@ impl GatheredBaskets {
         if self.heavy {
             return Ok(());
         }
-        if self.counts() && self.table.add_distinct(numbers, weight) {
+        if self.count_basket(numbers, weight) {
             return Ok(());
         }
         let basket = Itemset::from_items(self.alloc, numbers)?;
+        if self.count_basket(basket.items(), weight) {
+            return Ok(());
+        }
         if self.baskets.push(basket, weight).is_err() {
             return Err(ReadFault::Memory);
         }
@@ -94,10 +98,23 @@ impl GatheredBaskets {
         Ok(())
     }
 
+    /// Counts the basket of the numbers, if baskets are counted, none is kept and the table counts
+    /// it. Returns whether it did.
+    #[inline]
+    fn count_basket(&mut self, numbers: &[u32], weight: u64) -> bool
+        requires light { self.old.table.total + total_of self.old.baskets + weight ≤ MOST_WEIGHT }
+        requires known { self.old.heavy ≡ false }
+        ensures counted { IsTrue result → (counting : Bool) (baskets : List Weighted) → HasGathered self.old counting baskets
+            → HasGathered self.new counting (baskets ++ weighted (rising numbers.now) weight ∷ []) }
+        ensures left { result ≡ false → self.new ≡ self.old }
+    {
+        self.counts() && self.table.add_distinct(numbers, weight)
+    }
+
     /// Adds baskets that were gathered after these, and returns whether it did: some that are past
     /// can't come after one that is kept.
     pub(crate) fn append(&mut self, other: GatheredBaskets) -> Result<bool, AllocError>
-        requires { FitTogether self.old other }
+        requires { other.heavy ≡ false → MayKeep self.old (length other.baskets) }
         ensures baskets { (counting apart : Bool) (baskets more : List Weighted) → HasGathered self.old counting baskets → HasGathered other apart more
             → IfOk result (λ added. IsTrue added → HasGathered self.new counting (baskets ++ more)) }
         ensures left { IfOk result (λ added. added ≡ false → self.new ≡ self.old) }

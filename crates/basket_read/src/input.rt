@@ -20,7 +20,7 @@ const HALF_A_MARK: ReadFault = ReadFault::Byte {
 
 /// What the input begins with.
 #[derive(Clone, Copy, Debug)]
-pub enum Front {
+pub enum Beginning {
     /// Nothing yet.
     Empty,
     /// One byte that may begin the mark.
@@ -35,7 +35,7 @@ pub enum Front {
 /// beginning.
 #[derive(Debug, Drop)]
 pub struct Input {
-    front: Front,
+    beginning: Beginning,
     taken: u32,
     text: Text,
 }
@@ -46,7 +46,7 @@ impl Input {
         ensures { IsInputSoFar result counting [] }
     {
         Input {
-            front: Front::Empty,
+            beginning: Beginning::Empty,
             taken: 0,
             text: Text::new(alloc, counting, 0),
         }
@@ -59,7 +59,7 @@ impl Input {
         ensures { TakesOn self.old piece.now result self.new }
     {
         for (place, byte) in piece.iter().enumerate() {
-            if let Front::Decided = self.front {
+            if let Beginning::Decided = self.beginning {
                 return self.take_text(feeder, &piece[place..]);
             }
             self.take_byte(*byte)?;
@@ -72,31 +72,31 @@ impl Input {
         requires { IsSomeInput self.old }
         ensures { TakesOn self.old (byte ∷ []) result self.new }
     {
-        match self.front {
-            Front::Empty => {
+        match self.beginning {
+            Beginning::Empty => {
                 if byte == MARK[0] {
-                    self.front = Front::OneByte;
+                    self.beginning = Beginning::OneByte;
                 } else {
                     self.text.feed(&[byte])?;
-                    self.front = Front::Decided;
+                    self.beginning = Beginning::Decided;
                 }
                 self.taken = 1;
             }
-            Front::OneByte => {
+            Beginning::OneByte => {
                 if byte != MARK[1] {
                     return Err(HALF_A_MARK);
                 }
-                self.front = Front::TwoBytes;
+                self.beginning = Beginning::TwoBytes;
                 self.taken = 2;
             }
-            Front::TwoBytes => {
+            Beginning::TwoBytes => {
                 if byte != MARK[2] {
                     return Err(HALF_A_MARK);
                 }
-                self.front = Front::Decided;
+                self.beginning = Beginning::Decided;
                 self.taken = 3;
             }
-            Front::Decided => return self.take_text(&Alone, &[byte]),
+            Beginning::Decided => return self.take_text(&Alone, &[byte]),
         }
         Ok(())
     }
@@ -105,7 +105,7 @@ impl Input {
     fn take_text<F: Feeder>(&mut self, feeder: &F, piece: &[u8]) -> Result<(), ReadFault>
         requires ready { F.is_ready feeder.now }
         requires some { IsSomeInput self.old }
-        requires decided { self.old.front ≡ Front.Decided }
+        requires decided { self.old.beginning ≡ Beginning.Decided }
         ensures { TakesOn self.old piece.now result self.new }
     {
         let room = MAX_BYTES - self.taken as usize;
@@ -122,9 +122,9 @@ impl Input {
     pub fn fault_so_far(&self) -> Option<ReadFault>
         ensures { (counting : Bool) (bytes : List ℕ) → IsInputSoFar self.now counting bytes → result ≡ fault_in bytes }
     {
-        match self.front {
-            Front::OneByte | Front::TwoBytes => Some(HALF_A_MARK),
-            Front::Empty | Front::Decided => None,
+        match self.beginning {
+            Beginning::OneByte | Beginning::TwoBytes => Some(HALF_A_MARK),
+            Beginning::Empty | Beginning::Decided => None,
         }
     }
 

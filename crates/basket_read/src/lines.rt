@@ -32,12 +32,10 @@ pub fn feed_shared<R: Threads + Sync>(
     let (prefix, rest) = piece.split_at(end);
     let (text, read) = feed_halves(rt, text, prefix, rest, workers);
     let mut text = text?;
-    if let Ok(read) = read {
-        if text.append(read)? {
-            return Ok(text);
-        }
+    if text.append(read)? {
+        return Ok(text);
     }
-    // The text meets the fault again, and knows the number of its line.
+    // The rest follows in order: its baskets are kept too, or its fault has the number of its line.
     text.feed(rest)?;
     Ok(text)
 }

@@ -1,7 +1,7 @@
 //! Blanks and numbers of which not all have been read.
 ghost use Rattle.std.specs.Prelude.{◌≡◌, ◌≤◌, ℕ, List, [], ◌∷◌, ◌++◌, length, take, nat_lt, if◌then◌else◌, None, Some, IfOk, OnOk};
 
-use crate::byte_class::{ByteClass, blanks_behind, class_of};
+use crate::byte_class::{ByteClass, blanks_after, class_of};
 use crate::number::{Digits, number_at, with_digit, with_digits};
 use std::alloc::{AllocError, Global};
 
@@ -74,7 +74,7 @@ impl Numbers {
         loop {
             let digits = number_at(&bytes[taken..]);
             taken += digits.count;
-            let blanks = blanks_behind(digits.count > 0, &bytes[taken..]);
+            let blanks = blanks_after(digits.count > 0, &bytes[taken..]);
             if blanks == 0 {
                 self.begin(digits);
                 return Ok(taken);

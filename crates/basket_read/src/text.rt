@@ -6,8 +6,8 @@ ghost use Rattle.basket_read.specs.Fimi.{is_line_feed, first_fault, baskets_of, 
 ghost use Rattle.basket_sets.specs.Number.{is_digit};
 ghost use Rattle.basket_read.specs.Line.{line_state, line_at, line_ended};
 ghost use Rattle.basket_read.specs.Fault.{ReturnsBy, ReturnsFault};
-ghost use Rattle.basket_read.specs.GatheredBaskets.{Gathers, HasGathered, HasPlace};
-ghost use Rattle.basket_read.specs.Text.{basket_said, HasRoom, HasRoomFor, IsTextSoFar, ReadsOn};
+ghost use Rattle.basket_read.specs.GatheredBaskets.{Gathers, HasGathered, MayKeep};
+ghost use Rattle.basket_read.specs.Text.{basket_said, HasRoom, HasRoomFor, IsSomeText, IsTextSoFar, ReadsOn};
 
 use crate::fault::ReadFault;
 use crate::gathered::GatheredBaskets;
@@ -103,7 +103,7 @@ impl Text {
     /// Adds the line's basket, if it has a number, and begins a new line.
     #[inline]
     fn end_line(&mut self) -> Result<(), ReadFault>
-        requires { HasPlace self.old.gathered }
+        requires { MayKeep self.old.gathered 1 }
         ensures line { OnOk result (line_state self.new.line ≡ line_at []) }
         ensures lines { self.new.lines ≡ self.old.lines }
         ensures baskets { (counting : Bool) (baskets : List Weighted) → HasGathered self.old.gathered counting baskets →
@@ -127,18 +127,22 @@ impl Text {
     }
 
     /// Adds what was read of the text that follows, if this one ends after a line feed, and returns
-    /// whether it did: baskets that were counted can't come after some that are kept.
-    pub fn append(&mut self, other: Text) -> Result<bool, AllocError>
-        requires { HasRoomFor self.old other }
-        ensures text { (counting apart : Bool) (lines more : List ℕ) → IsTextSoFar self.old counting lines → (cut_at is_line_feed lines).last ≡ [] → IsTextSoFar other apart more
+    /// whether it did: not if that text has a fault, or if its baskets were counted and some of this
+    /// one are kept.
+    pub fn append(&mut self, other: Result<Text, ReadFault>) -> Result<bool, AllocError>
+        requires { IfOk other (HasRoomFor self.old) }
+        ensures text { (counting : Bool) (lines more : List ℕ) → IsTextSoFar self.old counting lines → (cut_at is_line_feed lines).last ≡ [] → IfOk other (IsSomeText more)
             → IfOk result (λ appended. IsTrue appended → IsTextSoFar self.new counting (lines ++ more)) }
         ensures left { IfOk result (λ appended. appended ≡ false → self.new ≡ self.old) }
     {
-        let Text {
+        let Ok(Text {
             lines,
             gathered,
             line,
-        } = other;
+        }) = other
+        else {
+            return Ok(false);
+        };
         if !self.gathered.append(gathered)? {
             return Ok(false);
         }

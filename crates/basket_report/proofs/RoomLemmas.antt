@@ -1,4 +1,4 @@
--- Texts in a room, one behind another.
+-- Texts in a room, one after another.
 use Rattle.std.proofs.Common.{◌≡◌, ◌∙◌, ◌+◌, ◌≤◌, ◌++◌, ℕ, List, drop, length, take, ap, sym, arith, length-take-le, take_at}
 use Rattle.std.proofs.lemmas.List.{take-take}
 use Rattle.std.proofs.lemmas.Simd.{length-put_chunk, take_more_put_chunk}
@@ -6,7 +6,7 @@ use lib.Lanes.{put_chunk}
 use Rattle.basket_report.specs.Room.{IsPut}
 use Rattle.basket_report.proofs.TextLemmas.{take_past}
 
--- the front of a small room was copied behind the first bytes, and so many of its bytes count
+-- the front of a small room was copied after the first bytes, and so many of its bytes count
 pub front_put : (room text : List ℕ) (start wide count : ℕ) → wide ≤ length text → start + wide ≤ length room → count ≤ wide
     → IsPut room (put_chunk start room (take wide text)) start (take count text) (start + count)
 front_put room text start wide count long fits few =

@@ -45,8 +45,8 @@ module _ (wording : Wording) (listing : Listing) (confidence : ℕ × ℕ) where
       ∙ ap (rules_report_of wording) (sym (flat_map-append f (take number listing.sets) (set ∷ [])) ∙ ap (flat_map f) (sym (take_more listing.sets number none below)))
 
   both : (from middle to : ℕ) (front rest : List ℕ) → Reports from middle front → Reports middle to rest → Reports from to (front ++ rest)
-  both from middle to front rest before behind consistent =
-      sym (append_assoc (first_rules wording listing confidence from) front rest) ∙ ap (λ text. text ++ rest) (before consistent) ∙ behind consistent
+  both from middle to front rest before after consistent =
+      sym (append_assoc (first_rules wording listing confidence from) front rest) ∙ ap (λ text. text ++ rest) (before consistent) ∙ after consistent
 
   -- the texts between cuts
   cut_texts : (cut : ℕ → ℕ) (texts : List (Vec ℕ Global)) → ((i : ℕ) (text : Vec ℕ Global) → i < length texts → Reports (cut i) (cut (suc i)) (get_or texts i text).items)

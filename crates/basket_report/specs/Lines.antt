@@ -6,7 +6,7 @@ use Rattle.basket_sets.specs.declared.counted.Counted.{Counted}
 use Rattle.basket_rules.specs.declared.association.Rule.{Rule}
 use Rattle.basket_report.specs.Texts.{ratio_text}
 
--- the items of a set with a space behind each
+-- the items of a set with a space after each
 abbrev pub items_text : List ℕ → List ℕ
 items_text items = flat_map (λ item. decimal item ++ 32 ∷ []) items
 

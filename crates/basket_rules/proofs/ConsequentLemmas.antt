@@ -250,10 +250,10 @@ all_kept p [] h = refl
 all_kept p (consequent ∷ consequents) h = ap (λ b. cond b (consequent ∷ filter p consequents) (filter p consequents)) (h consequent (inl refl)) ∙ ap (λ l. consequent ∷ l) (all_kept p consequents (λ r m. h r (inr m)))
 
 -- those without the first place are those that have it before their first
-behind : (size place x : ℕ) (items : List ℕ) → place + length (x ∷ items) ≤ MOST_PLACES → filter (before place) (sides_of size place (x ∷ items)) ≡ sides_of size (suc place) items
+after : (size place x : ℕ) (items : List ℕ) → place + length (x ∷ items) ≤ MOST_PLACES → filter (before place) (sides_of size place (x ∷ items)) ≡ sides_of size (suc place) items
 unfolding sides_of before
-behind zero place x items bound = ap (λ b. cond b (no_places ∷ []) []) (lt-ltb place MOST_PLACES (omega (arith, bound)))
-behind (suc size) place x items bound =
+after zero place x items bound = ap (λ b. cond b (no_places ∷ []) []) (lt-ltb place MOST_PLACES (omega (arith, bound)))
+after (suc size) place x items bound =
     filter-append (before place) (map (with_place place) (sides_of size (suc place) items)) (sides_of (suc size) (suc place) items)
     ∙ (λ i. none_before place place (sides_of size (suc place) items) (omega arith) i
     ++ all_kept (before place) (sides_of (suc size) (suc place) items)
@@ -273,7 +273,7 @@ longer_from : (size place : ℕ) (items : List ℕ) (consequents : List Conseque
 unfolding sides_of before
 longer_from size place [] consequents bound same = refl
 longer_from size place (x ∷ items) consequents bound same =
-    λ i. map (with_place place) ((same place (omega arith) ∙ behind size place x items bound) i)
+    λ i. map (with_place place) ((same place (omega arith) ∙ after size place x items bound) i)
     ++ (ap (λ n. flat_map (longer_by consequents) (range_with_len n (length items))) (add-one place)
     ∙ longer_from size (suc place) items consequents (omega (arith, bound)) (λ other h. same other (omega (arith, h)) ∙ later size place x items other (omega (arith, h)))) i
 

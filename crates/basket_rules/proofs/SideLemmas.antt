@@ -90,7 +90,7 @@ others_of_word word union fits few = chosen_alike (has_place (bit_not w64 word))
 
 -- ---- both sides place by place
 
--- an item that passes is kept behind those before it
+-- an item that passes is kept after those before it
 pub put_taken : (test : ℕ → Bool) (union side : List ℕ) (place on : ℕ) → place < length union → on < length side → test place ≡ true
     → take on side ≡ chosen test (take place union) → take (on + 1) (set side on (get_or union place 0)) ≡ chosen test (take (place + 1) union)
 put_taken test union side place on below room passes so =

@@ -58,7 +58,7 @@ pub fn covered(
 /// Where the sets end that begin at `start` and have as many items as the first of them.
 fn end_of_size(sets: &CountedSets, start: usize) -> usize
     requires { start < length sets.now }
-    ensures behind { start < result }
+    ensures after { start < result }
     ensures within { result ≤ length sets.now }
 {
     let count = sets.len();

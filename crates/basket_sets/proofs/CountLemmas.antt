@@ -1,7 +1,7 @@
 -- Counting items in a table: its slots while the places are added, and the entries that it gives in the end.
 use Rattle.std.proofs.Common.{◌≡◌, ◌≢◌, ℕ, ◌+◌, ◌<◌, ◌≤◌, ◌^◌, Bool, true, false, ◌&&◌, ◌||◌, List, [], ◌∷◌, ◌++◌, length, take, get_or, set, map, cond, Option, Some, None, unwrap_or, Result, Ok, Err, refl, sym, ap, ◌∙◌, subst, inl, inr, arith, add-zero, zero-add, ◌-◌, zero, suc}
-use Rattle.std.specs.List.{zip}
-use Rattle.std.specs.Prelude.{IfOk}
+use Rattle.std.specs.List.{IsDistinct, zip}
+use Rattle.std.specs.Prelude.{IfOk, nat_eq}
 use Rattle.std.proofs.lemmas.List.{append-nil, length-take, take_more, get_or-set_same, get_or-set_other, get_or_default, get_or_past}
 use Rattle.std.proofs.lemmas.List.Concat.{flat_map-append}
 use Rattle.std.proofs.lemmas.List.Sums.{sum_by_more_le}
@@ -9,14 +9,14 @@ use Rattle.std.proofs.Math.Bool.{or-false, or-true}
 use Rattle.std.proofs.lemmas.Bool.{cases_eq, cases_lt, cases_order, or_cases, cond-true, cond-false, eq-eqb, ne_eqb, false≢true}
 use Rattle.std.proofs.lemmas.Map.Keys.{below_from_sorted}
 use Rattle.basket_sets.specs.declared.weighted.Weighted.{Weighted}
-use Rattle.basket_sets.specs.Itemset.{AreDistinct, IsRising, has}
+use Rattle.basket_sets.specs.Itemset.{IsRising, has}
 use Rattle.basket_sets.specs.Counts.{item_supports, tally, IsTable, AllBelow, entries_from, entries_of}
 use Rattle.basket_sets.specs.ItemTable.{Tabled, HasCounted}
 use Rattle.basket_sets.specs.Slot.{slot_with, slots_joined}
 use Rattle.basket_sets.specs.Database.{MOST_WEIGHT}
 use Rattle.basket_sets.specs.Support.{weight_at, support_of, total_of, all_items, items_of}
 use Rattle.basket_sets.proofs.theory.Members.{Member, Contains-from_Member}
-use Rattle.basket_sets.proofs.theory.Rising.{has-append, has_more, not_before, Member-from_has, has-from_Member, nil_rises, cons_rises, same_rising, rising-rises, Member-rising, Member-into_rising}
+use Rattle.basket_sets.proofs.theory.Rising.{has-append, has_more, not_before, rising_distinct, Member-from_has, has-from_Member, nil_rises, cons_rises, same_rising, rising-rises, Member-rising, Member-into_rising}
 use Rattle.basket_sets.proofs.theory.Support.{support_falls, support-append, in_items}
 
 -- ---- the items of the baskets so far
@@ -50,11 +50,11 @@ abbrev pub HasAdded : List (Option ℕ) → ℕ → List ℕ → List (Option �
 HasAdded old weight items table =
     (number : ℕ) → get_or table number None ≡ cond (has items number) (slot_with weight (get_or old number None)) (get_or old number None)
 
-pub slot_before : (items : List ℕ) (old table : List (Option ℕ)) (i weight : ℕ) → AreDistinct items → i < length items → HasAdded old weight (take i items) table
+pub slot_before : (items : List ℕ) (old table : List (Option ℕ)) (i weight : ℕ) → IsDistinct nat_eq items → i < length items → HasAdded old weight (take i items) table
     → get_or table (get_or items i 0) None ≡ get_or old (get_or items i 0) None
-slot_before items old table i weight apart below added = added (get_or items i 0) ∙ cond-false _ _ _ (apart i below)
+slot_before items old table i weight distinct below added = added (get_or items i 0) ∙ cond-false _ _ _ (not_before items i distinct below)
 
-pub added_more : (items : List ℕ) (old table : List (Option ℕ)) (i weight : ℕ) → AreDistinct items → i < length items → get_or items i 0 < length table
+pub added_more : (items : List ℕ) (old table : List (Option ℕ)) (i weight : ℕ) → IsDistinct nat_eq items → i < length items → get_or items i 0 < length table
     → HasAdded old weight (take i items) table
     → HasAdded old weight (take (i + 1) items) (set table (get_or items i 0) (slot_with weight (get_or table (get_or items i 0) None)))
 added_more items old table i weight distinct below within added number = elim (cases_eq (get_or items i 0) number) [
@@ -115,7 +115,7 @@ tally-append a b item =
     at false true none_a none_b = ap (λ n. Some (n + support_of b (item ∷ []))) (none_a refl)
     at false false none_a none_b = refl
 
--- the table behind one more place
+-- the table after one more place
 pub table_push : (before : List Weighted) (place : Weighted) (old table : List (Option ℕ)) → length table ≡ length old
     → HasAdded old place.weight place.basket table → IsTable before old → IsTable (before ++ place ∷ []) table
 table_push before place old table long added so_far item within =
@@ -130,7 +130,7 @@ table_push before place old table long added so_far item within =
     at true slot = refl
     at false slot = refl
 
--- the table behind one more basket
+-- the table after one more basket
 pub counted_push : (before : List Weighted) (place : Weighted) (old : Tabled) (slots : List (Option ℕ)) (total : ℕ) → HasCounted old before → AllBelow (length old.slots) place.basket
     → length slots ≡ length old.slots → total ≡ old.total + place.weight → HasAdded old.slots place.weight place.basket slots
     → HasCounted (record { slots = slots; total = total }) (before ++ place ∷ [])
@@ -164,7 +164,7 @@ counted_both before more a b slots total counted also shorter long sum joined = 
     items : (item : ℕ) → has (all_items (before ++ more)) item ≡ (has (all_items before) item || has (all_items more) item)
     items item = ap (λ l. has l item) (flat_map-append (λ p. p.basket) before more) ∙ has-append (all_items before) (all_items more) item
 
-    -- the table of fewer slots knows of no item behind them
+    -- the table of fewer slots knows of no item after them
     known : (item : ℕ) → get_or b.slots item None ≡ tally more item
     known item = elim (cases_lt item (length b.slots)) [
       | inl below ↦ also.slots item below
@@ -306,7 +306,7 @@ pub found_more : (items basket old supports : List ℕ) (j weight found : ℕ) �
 found_more items basket old supports j weight found up over long below here is before k within = elim (cases_eq k found) [
   | inl same ↦ subst At (sym same)
       (get_or-set_same supports found (get_or supports found 0 + weight) 0 (omega arith)
-      ∙ ap (λ n. n + weight) (before found here ∙ ap (λ b. get_or old found 0 + cond b weight 0) (ap (has (take j basket)) is ∙ not_before basket j over below) ∙ add-zero (get_or old found 0))
+      ∙ ap (λ n. n + weight) (before found here ∙ ap (λ b. get_or old found 0 + cond b weight 0) (ap (has (take j basket)) is ∙ not_before basket j (rising_distinct basket over) below) ∙ add-zero (get_or old found 0))
       ∙ ap (λ b. get_or old found 0 + cond b weight 0) (sym now_here))
   | inr apart ↦ get_or-set_other supports found k (get_or supports found 0 + weight) 0 apart
       ∙ before k within

@@ -39,7 +39,7 @@ pub with_no_weights : (places : List Weighted) → with_weights places [] ≡ pl
 with_no_weights [] = refl
 with_no_weights (place ∷ places) = refl
 
--- a place behind the weights is as it was, and its weight is the next
+-- a place after the weights is as it was, and its weight is the next
 pub with_weights_more : (places : List Weighted) (weights : List ℕ) (i : ℕ) (d : Weighted) → i < length weights → length weights ≡ length places
     → set (with_weights places (take i weights)) i (weighted (get_or (with_weights places (take i weights)) i d).basket (get_or weights i 0)) ≡ with_weights places (take (i + 1) weights)
 with_weights_more places [] i d below long = absurd (omega arith)

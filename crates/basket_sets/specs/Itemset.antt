@@ -29,10 +29,6 @@ rising (number ∷ numbers) = with_item number (rising numbers)
 abbrev pub AllBelow : ℕ → List ℕ → Type 0
 AllBelow bound items = (item : ℕ) → IsTrue (has items item) → item < bound
 
--- no number is equal to one before it
-abbrev pub AreDistinct : List ℕ → Type 0
-AreDistinct numbers = (place : ℕ) → place < length numbers → has (take place numbers) (slice_index numbers place) ≡ false
-
 -- the items without the one at a place
 abbrev pub without : ℕ → List ℕ → List ℕ
 without place [] = []

@@ -1,9 +1,9 @@
-ghost use Rattle.std.specs.Prelude.{◌≡◌, ◌<◌, ◌≤◌, ◌+◌, ◌++◌, ◌^◌, ℕ, List, None, IfOk, IsTrue, if◌then◌else◌, length, map, unwrap_or, slice_index, slice_index_or};
-ghost use Rattle.std.specs.List.{zip};
+ghost use Rattle.std.specs.Prelude.{◌≡◌, ◌<◌, ◌≤◌, ◌+◌, ◌++◌, ◌^◌, ℕ, List, None, IfOk, IsTrue, if◌then◌else◌, length, map, nat_eq, unwrap_or, slice_index, slice_index_or};
+ghost use Rattle.std.specs.List.{IsDistinct, zip};
 ghost use Rattle.basket_sets.specs.declared.weighted.Weighted.{Weighted as Basket};
 ghost use Rattle.basket_sets.specs.Counts.{item_supports, tally, IsTable, AllBelow, entries_of};
 ghost use Rattle.basket_sets.specs.Database.{MOST_WEIGHT};
-ghost use Rattle.basket_sets.specs.Itemset.{AreDistinct, IsRising, has};
+ghost use Rattle.basket_sets.specs.Itemset.{IsRising, has};
 ghost use Rattle.basket_sets.specs.Slot.{slot_with, slots_joined};
 ghost use Rattle.basket_sets.specs.Support.{total_of, all_items, items_of};
 
@@ -79,7 +79,7 @@ pub fn add_places(table: &mut [Slot], baskets: &[Weighted])
 
 /// Adds a weight at each of some items, no two of which are equal.
 pub fn add_to_table(table: &mut [Slot], items: &[u32], weight: u64)
-    requires distinct { AreDistinct items.now }
+    requires distinct { IsDistinct nat_eq items.now }
     requires within { AllBelow (length table.old) items.now }
     requires fits { (item : ℕ) → IsTrue (has items.now item)
         → unwrap_or (slice_index_or table.old item None) 0 + weight + 1 < 2 ^ 64 }

@@ -1,11 +1,11 @@
 //! The supports of items while baskets come.
-ghost use Rattle.std.specs.Prelude.{◌≡◌, ◌≢◌, ◌<◌, ◌≤◌, ◌+◌, ◌∷◌, ◌++◌, ◌^◌, [], List, false, IfOk, IsTrue, OnOk, length, map, nat_lt};
-ghost use Rattle.std.specs.List.{list_all};
+ghost use Rattle.std.specs.Prelude.{◌≡◌, ◌<◌, ◌≤◌, ◌+◌, ◌∷◌, ◌++◌, ◌^◌, [], List, false, IfOk, IsTrue, OnOk, length, map, nat_eq, nat_lt};
+ghost use Rattle.std.specs.List.{IsDistinct, list_all};
 ghost use Rattle.basket_sets.specs.declared.weighted.Weighted.{Weighted as Basket};
 ghost use Rattle.basket_sets.specs.Counts.{AllBelow, item_supports};
 ghost use Rattle.basket_sets.specs.Database.{weighted, MOST_WEIGHT};
 ghost use Rattle.basket_sets.specs.ItemTable.{HasCounted};
-ghost use Rattle.basket_sets.specs.Itemset.{AreDistinct, IsRising, rising};
+ghost use Rattle.basket_sets.specs.Itemset.{IsRising, rising};
 ghost use Rattle.basket_sets.specs.Support.{all_items, total_of};
 
 use crate::counts::{
@@ -87,14 +87,13 @@ impl ItemTable {
         Ok(true)
     }
 
-    /// Counts a basket of these numbers, which may come in any order, if there are some, no two are
-    /// equal and the table has a slot for each. Numbers that don't rise are not counted if they are
-    /// more than 16. Returns whether they were counted.
+    /// Counts a basket of these numbers, which may come in any order, if no two are equal and the
+    /// table has a slot for each. Numbers that don't rise are not counted if they are more than 16.
+    /// Returns whether they were counted.
     #[inline]
     pub fn add_distinct(&mut self, numbers: &[u32], weight: u64) -> bool
         requires { self.old.total + weight ≤ MOST_WEIGHT }
         ensures counted { IsTrue result → (before : List Basket) → HasCounted self.old before → HasCounted self.new (before ++ weighted (rising numbers.now) weight ∷ []) }
-        ensures some { IsTrue result → numbers.now ≢ [] }
         ensures left { result ≡ false → self.new ≡ self.old }
     {
         if !are_distinct_below(numbers, self.slots.len()) {
@@ -109,7 +108,8 @@ impl ItemTable {
     /// Counts the baskets that another table has counted.
     pub fn append(&mut self, other: &ItemTable) -> Result<(), AllocError>
         requires { self.old.total + other.now.total ≤ MOST_WEIGHT }
-        ensures { OnOk result ((before more : List Basket) → HasCounted self.old before → HasCounted other.now more → HasCounted self.new (before ++ more)) }
+        ensures counted { OnOk result ((before more : List Basket) → HasCounted self.old before → HasCounted other.now more → HasCounted self.new (before ++ more)) }
+        ensures total { OnOk result (self.new.total ≡ self.old.total + other.now.total) }
     {
         self.reach(other.slots.len())?;
         add_slots(&mut self.slots, &other.slots);
@@ -155,8 +155,7 @@ impl ItemTable {
 /// rise are compared with each other, if they are few.
 #[inline]
 fn are_distinct_below(numbers: &[u32], bound: usize) -> bool
-    ensures some { IsTrue result → numbers.now ≢ [] }
-    ensures distinct { IsTrue result → AreDistinct numbers.now }
+    ensures distinct { IsTrue result → IsDistinct nat_eq numbers.now }
     ensures below { IsTrue result → AllBelow bound numbers.now }
 {
     let Some(last) = numbers.last() else {

@@ -2,11 +2,11 @@ ghost use Rattle.std.specs.Prelude.{◌≡◌, ◌≤◌, ◌<◌, [], ◌↔◌
 ghost use Rattle.std.specs.Cmp.{partial_equiv_from_equiv};
 ghost use Rattle.std.specs.Cmp.Lexicographic.{pointwise, nat_list_eq_equiv};
 ghost use Rattle.std.specs.Hash as fed;
-ghost use Rattle.std.specs.List.{filter_map};
+ghost use Rattle.std.specs.List.{IsDistinct, filter_map};
 ghost use Rattle.std.specs.Ordering.{as_partial_cmp};
 ghost use Rattle.std.proofs.Common.{refl};
 ghost use Rattle.basket_sets.specs.Order.{report_order, report_order_total, report_order_ties, report_order_partial, items_fed_alike};
-ghost use Rattle.basket_sets.specs.Itemset.{AllBelow, AreDistinct, IsRising, has, contains, rising, spaced, with_item};
+ghost use Rattle.basket_sets.specs.Itemset.{AllBelow, IsRising, has, contains, rising, spaced, with_item};
 ghost use Rattle.basket_sets.specs.declared.itemset.TheConstants.{INLINE_ITEMS};
 
 use crate::renumbering::{Renumbering, renumber};
@@ -30,7 +30,7 @@ pub fn is_rising(numbers: &[u32]) -> bool
 
 /// Whether no two numbers are equal. Each is compared with all before it.
 pub fn are_distinct(numbers: &[u32]) -> bool
-    ensures { IsTrue result → AreDistinct numbers.now }
+    ensures { IsTrue result → IsDistinct nat_eq numbers.now }
 {
     for (place, number) in numbers.iter().enumerate() {
         if numbers[..place].contains(number) {

@@ -14,7 +14,7 @@ use Rattle.basket_sets.proofs.theory.Rising.{rising-rises}
 use Rattle.basket_sets.proofs.theory.Subsets.{IsSubset, IsSubset-from_Member, Member-from_IsSubset, of_size_sorted}
 use Rattle.mine_apriori.specs.Candidates.{items_in, is_one_of, has_subsets, candidates_of}
 use Rattle.mine_apriori.specs.Join.{share_front, join, joined_with, joined_from}
-use Rattle.mine_apriori.proofs.JoinLemmas.{ends_of, parted, length_front, without_second, without_first, shares, joins, shared, less_last, last_less, less_longer, between, rises_behind, rising_ends}
+use Rattle.mine_apriori.proofs.JoinLemmas.{ends_of, parted, length_front, without_second, without_first, shares, joins, shared, less_last, last_less, less_longer, between, rises_after, rising_ends}
 use Rattle.mine_apriori.proofs.PruneLemmas.{Member-from_is_one_of, Member-without, in_items, of_size, of_size_is}
 use Rattle.basket_sets.proofs.theory.Without.{each_passes}
 
@@ -182,11 +182,11 @@ join_rises last set other long long' same less rises =
     let p = parted last set long in
     let q = shared last set other long' same in
     let ends : slice_cmp nat_cmp (front ++ x ∷ []) (front ++ y ∷ []) ≡ Less = sym (λ i. slice_cmp nat_cmp (p i) (q i)) ∙ less in
-    subst (λ s. IsRising (s ++ y ∷ [])) (sym p) (rises_behind front x y (subst IsRising p rises) (last_less front x y ends))
+    subst (λ s. IsRising (s ++ y ∷ [])) (sym p) (rises_after front x y (subst IsRising p rises) (last_less front x y ends))
 
-pub length_behind : (set : List ℕ) (item size : ℕ) → length set ≡ size → length (set ++ item ∷ []) ≡ suc size
-length_behind [] item size e = ap suc e
-length_behind (x ∷ set) item size e = ap suc (length_behind set item (length set) refl) ∙ ap suc e
+pub length_after : (set : List ℕ) (item size : ℕ) → length set ≡ size → length (set ++ item ∷ []) ≡ suc size
+length_after [] item size e = ap suc e
+length_after (x ∷ set) item size e = ap suc (length_after set item (length set) refl) ∙ ap suc e
 
 join_is_subset : (last : ℕ) (sets : List (List ℕ)) (joined : List ℕ) → Sized (suc last) sets → ((set : List ℕ) → Member set sets → IsRising set) → IsJoinFrom last sets sets joined → IsSubset (suc (suc last)) (items_in sets) joined
 join_is_subset last sets joined sized rises j =
@@ -197,7 +197,7 @@ join_is_subset last sets joined sized rises j =
     subst (IsSubset (suc (suc last)) (items_in sets)) (sym j.is)
     (record {
       rises = join_rises last set other (sized set j.member) (sized other j.later) j.shares j.less (rises set j.member);
-      sized = length_behind set y (suc last) (sized set j.member);
+      sized = length_after set y (suc last) (sized set j.member);
       within = λ item m. elim (Member-append item set (y ∷ []) m) [
         | inl n ↦ in_items sets set item j.member n
         | inr n ↦ in_items sets other item j.later (subst (Member item) (sym q) (Member-append_right item (take last set) (y ∷ []) n))

@@ -68,7 +68,7 @@ module _ (groups : List Group) (number start : ℕ) (d : Group) (below : number 
   module _ (baskets : List Weighted) (initial counts new : List ℕ) (now : AreAdded (extended group) baskets start counts new)
       (rest : (k : ℕ) → start ≤ k → get_or counts k 0 ≡ get_or initial k 0) where
     pub rest_more : (k : ℕ) → start + length group.items ≤ k → get_or new k 0 ≡ get_or initial k 0
-    rest_more k from = now.behind k (let more = length-map group.items (λ item. group.prefix ++ item ∷ []) in omega (arith, more, from)) ∙ rest k (omega arith)
+    rest_more k from = now.after k (let more = length-map group.items (λ item. group.prefix ++ item ∷ []) in omega (arith, more, from)) ∙ rest k (omega arith)
 
     pub added_more : ((k : ℕ) → k < start → get_or counts k 0 ≡ get_or initial k 0 + support_of baskets (get_or (sets_of groups) k []))
         → (k : ℕ) → k < start + length group.items → get_or new k 0 ≡ get_or initial k 0 + support_of baskets (get_or (sets_of groups) k [])

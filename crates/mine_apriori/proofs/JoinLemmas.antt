@@ -55,16 +55,16 @@ pub take_front : (front rest : List ℕ) → take (length front) (front ++ rest)
 take_front [] rest = refl
 take_front (z ∷ front) rest = ap (λ l. z ∷ l) (take_front front rest)
 
-pub item_behind : (front : List ℕ) (x : ℕ) → get_or (front ++ x ∷ []) (length front) 0 ≡ x
-item_behind [] x = refl
-item_behind (z ∷ front) x = item_behind front x
+pub item_after : (front : List ℕ) (x : ℕ) → get_or (front ++ x ∷ []) (length front) 0 ≡ x
+item_after [] x = refl
+item_after (z ∷ front) x = item_after front x
 
 -- two sets that share their front
 pub shares : (front : List ℕ) (x y : ℕ) → share_front (length front) (front ++ x ∷ []) (front ++ y ∷ []) ≡ true
 shares front x y = (bytes_decides _ _).1 (take_front front (y ∷ []) ∙ sym (take_front front (x ∷ [])))
 
 pub joins : (front : List ℕ) (x y : ℕ) → join (length front) (front ++ x ∷ []) (front ++ y ∷ []) ≡ (front ++ x ∷ []) ++ y ∷ []
-joins front x y = ap (λ item. (front ++ x ∷ []) ++ item ∷ []) (item_behind front y)
+joins front x y = ap (λ item. (front ++ x ∷ []) ++ item ∷ []) (item_after front y)
 
 pub shared : (last : ℕ) (set other : List ℕ) → length other ≡ suc last → share_front last set other ≡ true → other ≡ take last set ++ get_or other last 0 ∷ []
 shared last set other long same = parted last other long ∙ ap (λ front. front ++ get_or other last 0 ∷ []) ((bytes_decides (take last other) (take last set)).0 same)
@@ -122,19 +122,19 @@ between (z ∷ front) x y (w ∷ set) long low high =
 
 -- ---- rising sets
 
-pub rises_behind : (front : List ℕ) (x y : ℕ) → IsRising (front ++ x ∷ []) → x < y → IsRising ((front ++ x ∷ []) ++ y ∷ [])
-rises_behind [] x y up h = cons_rises x (y ∷ []) (λ z m. elim m [ inl e ↦ omega arith | inr n ↦ absurd n ]) (cons_rises y [] (λ z m. absurd m) nil_rises)
-rises_behind (z ∷ front) x y up h =
+pub rises_after : (front : List ℕ) (x y : ℕ) → IsRising (front ++ x ∷ []) → x < y → IsRising ((front ++ x ∷ []) ++ y ∷ [])
+rises_after [] x y up h = cons_rises x (y ∷ []) (λ z m. elim m [ inl e ↦ omega arith | inr n ↦ absurd n ]) (cons_rises y [] (λ z m. absurd m) nil_rises)
+rises_after (z ∷ front) x y up h =
     cons_rises z ((front ++ x ∷ []) ++ y ∷ [])
     (λ w m. elim (Member-append w (front ++ x ∷ []) (y ∷ []) m) [
       | inl n ↦ first_below z (front ++ x ∷ []) up w n
-      | inr n ↦ elim n [ inl e ↦ (let b = first_below z (front ++ x ∷ []) up x (behind front) in omega arith) | inr k ↦ absurd k ]
+      | inr n ↦ elim n [ inl e ↦ (let b = first_below z (front ++ x ∷ []) up x (after front) in omega arith) | inr k ↦ absurd k ]
     ])
-    (rises_behind front x y (rest_rises z (front ++ x ∷ []) up) h)
+    (rises_after front x y (rest_rises z (front ++ x ∷ []) up) h)
   where
-    behind : (l : List ℕ) → Member x (l ++ x ∷ [])
-    behind [] = inl refl
-    behind (v ∷ l) = inr (behind l)
+    after : (l : List ℕ) → Member x (l ++ x ∷ [])
+    after [] = inl refl
+    after (v ∷ l) = inr (after l)
 
 pub rising_ends : (front : List ℕ) (x y : ℕ) → IsRising ((front ++ x ∷ []) ++ y ∷ []) → x < y
 rising_ends [] x y up = first_below x (y ∷ []) up y (inl refl)

@@ -16,7 +16,7 @@ use Rattle.basket_sets.proofs.theory.Without.{each_passes}
 use Rattle.mine_apriori.specs.Candidates.{is_one_of, has_subsets, candidates_of}
 use Rattle.mine_apriori.specs.Extensions.{AreGrouped, Group, extend, kept, sets_of, prefixes_of, has_items}
 use Rattle.mine_apriori.specs.Join.{has_parts, joined_group, joined_groups, join, joined_with, joined_from, share_front}
-use Rattle.mine_apriori.proofs.CandidateLemmas.{joins_are_candidates, length_behind}
+use Rattle.mine_apriori.proofs.CandidateLemmas.{joins_are_candidates, length_after}
 use Rattle.mine_apriori.proofs.ExtensionLemmas.{filter_prefix, filter_sorted, other_prefix, passing, sets_filled}
 use Rattle.mine_apriori.proofs.JoinLemmas.{joins, same_order, shares, take_front, without_first, without_second}
 use Rattle.mine_apriori.proofs.LawLemmas.{size_at}
@@ -65,10 +65,10 @@ parts_decide sets prefix first item one other =
     joined = set ++ item ∷ []
 
     set_long : length set ≡ suc last
-    set_long = length_behind prefix first last refl
+    set_long = length_after prefix first last refl
 
     long : length joined ≡ suc (suc last)
-    long = length_behind set item (suc last) set_long
+    long = length_after set item (suc last) set_long
 
 and_step : (x : ℕ) (rest : List ℕ) (q : ℕ → Bool) (a : Bool) → filter q (cond a (x ∷ rest) rest) ≡ cond (a && q x) (x ∷ filter q rest) (filter q rest)
 and_step x rest q true = refl
@@ -150,7 +150,7 @@ groups_joined last sets (group ∷ groups) sized up =
 sets_long : (last : ℕ) (groups : List Group) → ((other : List ℕ) → Member other (prefixes_of groups) → length other ≡ last) → (set : List ℕ) → Member set (sets_of groups) → length set ≡ suc last
 sets_long last [] sized set m = absurd m
 sets_long last (group ∷ groups) sized set m = elim (Member-append set (extend group.prefix group.items) (sets_of groups) m) [
-  | inl n ↦ (let p = Member-from_map (λ x. group.prefix ++ x ∷ []) set group.items n in ap length (sym p.2) ∙ length_behind group.prefix p.0 last (sized group.prefix (inl refl)))
+  | inl n ↦ (let p = Member-from_map (λ x. group.prefix ++ x ∷ []) set group.items n in ap length (sym p.2) ∙ length_after group.prefix p.0 last (sized group.prefix (inl refl)))
   | inr n ↦ sets_long last groups (λ o k. sized o (inr k)) set n
 ]
 

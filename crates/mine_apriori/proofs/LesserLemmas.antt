@@ -11,7 +11,7 @@ use Rattle.basket_sets.proofs.theory.Members.{Member, Member-append_right, Membe
 use Rattle.basket_sets.proofs.theory.Rising.{Less-from_lt, cons_rises, lt-from_Less, nil_rises}
 use Rattle.mine_apriori.specs.Extensions.{AreGrouped, Group, extend, prefixes_of}
 use Rattle.mine_apriori.specs.Sizes.{AreOfSize}
-use Rattle.mine_apriori.proofs.JoinLemmas.{first_at_most, last_less, less_last, rises_behind}
+use Rattle.mine_apriori.proofs.JoinLemmas.{first_at_most, last_less, less_last, rises_after}
 
 -- the prefixes of groups are single ranks, which rise and are below a rank
 pub record AreFirsts (groups : List Group) (lesser : ℕ) : Type 0 where
@@ -35,7 +35,7 @@ pub firsts_more : (groups : List Group) (lesser next : ℕ) (items : List ℕ) �
 firsts_more groups lesser next items firsts less = record {
   ranks = firsts.ranks ++ lesser ∷ [];
   are = prefixes_more groups lesser items firsts.ranks firsts.are;
-  up = rises_behind firsts.ranks lesser next firsts.up less;
+  up = rises_after firsts.ranks lesser next firsts.up less;
 }
 
 pub firsts_grouped : (groups : List Group) (lesser : ℕ) (items : List ℕ) → AreFirsts groups lesser → AreGrouped (groups ++ record { prefix = lesser ∷ []; items = items } ∷ [])

@@ -35,7 +35,7 @@ use Rattle.mine_classes.proofs.theory.Lists.{distinct-append}
 use Rattle.mine_classes.specs.Pairs.{ArePairs, lists_of, pairs_of}
 use Rattle.mine_apriori.specs.declared.pairs.Pair.{Pair}
 use Rattle.mine_apriori.specs.Levels.{level_of}
-use Rattle.mine_apriori.proofs.JoinLemmas.{rises_behind}
+use Rattle.mine_apriori.proofs.JoinLemmas.{rises_after}
 use Rattle.mine_apriori.proofs.LesserLemmas.{single_rises}
 use Rattle.mine_apriori.proofs.LevelsLemmas.{from_level, into_level, items_rise}
 
@@ -159,7 +159,7 @@ module _ (coding : Coding) where
       (IsPermutation-map (λ (pair : Pair). pair.ranks) pairs sorted moved))
       up pairs_sorted
       (λ set m. let p = from_below count set m in
-      into_level coding 2 set (subst IsRising p.2 (rises_behind [] p.0 p.1 (single_rises p.0) p.3)) (ap length (sym p.2)) p.5)
+      into_level coding 2 set (subst IsRising p.2 (rises_after [] p.0 p.1 (single_rises p.0) p.3)) (ap length (sym p.2)) p.5)
       (λ set m. let s = from_level coding 2 set m in pair set s.0.rises s.0.sized s.1)
     where
       count : ℕ

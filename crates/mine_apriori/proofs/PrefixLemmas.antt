@@ -82,9 +82,9 @@ none_added baskets prefix items start counts prefixes short are none = record {
       ∙ none (prefix ++ get_or items k 0 ∷ []) (prefixes_longer baskets prefix (get_or items k 0) prefixes short are) in
       omega (arith, zero);
   before = λ k below. refl;
-  behind = λ k from. refl;
+  after = λ k from. refl;
 }
 
--- the rest of a set behind some of its items
+-- the rest of a set after some of its items
 pub rest_joined : (items : List ℕ) (depth : ℕ) → take depth items ++ take (length items - depth) (drop depth items) ≡ items
 rest_joined items depth = ap (λ l. take depth items ++ l) (take_rest items depth) ∙ take-append-drop depth items

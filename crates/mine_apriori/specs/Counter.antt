@@ -11,4 +11,4 @@ pub record IsShared (before items : List ℕ) (count : ℕ) : Type 0 where
 pub record AreAdded (sets : List (List ℕ)) (baskets : List Weighted) (start : ℕ) (old new : List ℕ) : Type 0 where
   pub added : (k : ℕ) → k < length sets → slice_index new (start + k) ≡ slice_index old (start + k) + support_of baskets (slice_index_or sets k [])
   pub before : (k : ℕ) → k < start → slice_index new k ≡ slice_index old k
-  pub behind : (k : ℕ) → start + length sets ≤ k → slice_index new k ≡ slice_index old k
+  pub after : (k : ℕ) → start + length sets ≤ k → slice_index new k ≡ slice_index old k

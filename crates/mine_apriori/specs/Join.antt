@@ -24,7 +24,7 @@ pub record IsJoin (last : ℕ) (sets : List (List ℕ)) (set : List ℕ) : Type 
 abbrev pub share_front : ℕ → List ℕ → List ℕ → Bool
 share_front last set other = pointwise nat_eq (take last other) (take last set)
 
--- the set and behind it the last item of the other
+-- the set and after it the last item of the other
 abbrev pub join : ℕ → List ℕ → List ℕ → List ℕ
 join last set other = set ++ slice_index_or other last 0 ∷ []
 
@@ -37,7 +37,7 @@ joined_with last sets set (other ∷ others) =
     else joined_with last sets set others)
     else []
 
--- the joins of each set of a list with those behind it
+-- the joins of each set of a list with those after it
 abbrev pub joined_from : ℕ → List (List ℕ) → List (List ℕ) → List (List ℕ)
 joined_from last sets [] = []
 joined_from last sets (set ∷ others) = joined_with last sets set others ++ joined_from last sets others

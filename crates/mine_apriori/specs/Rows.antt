@@ -6,7 +6,7 @@ use Rattle.basket_sets.specs.Itemset.{has}
 use Rattle.mine_apriori.specs.declared.rows.Rows.{Rows}
 use Rattle.mine_apriori.specs.TidWord.{basket_at}
 
--- whether rows of so many words, one behind the other, have a bit for a place in the row of a number
+-- whether rows of so many words, one after another, have a bit for a place in the row of a number
 abbrev pub bit_in : List ℕ → ℕ → ℕ → ℕ → Bool
 bit_in bits words number place = bit_at (slice_index bits (number * words + place / 64)) (place % 64) == 1
 

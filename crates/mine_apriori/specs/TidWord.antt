@@ -32,7 +32,7 @@ weight_from place row set (first ∷ others) = (if has_place row place then weig
 pub record ArePlacesOf (baskets : List Weighted) (set : List ℕ) (places : List TidWord) : Type 0 where
   pub weighs : (row : ℕ → ℕ) → shared_weight row places ≡ weight_from 0 row set baskets
 
--- the basket at a place, or an empty one behind the last
+-- the basket at a place, or an empty one after the last
 abbrev pub basket_at : List Weighted → ℕ → List ℕ
 basket_at baskets place = slice_index_or (map (λ basket. basket.basket) baskets) place []
 

@@ -65,7 +65,7 @@ pub fn add_place(
     Ok(())
 }
 
-/// A word of a row, or 0 behind its end.
+/// A word of a row, or 0 after its end.
 #[inline]
 fn word_of(row: &[u64], word: usize) -> u64
     ensures { result ≡ slice_index row.now word }

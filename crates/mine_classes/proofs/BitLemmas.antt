@@ -18,7 +18,7 @@ use Rattle.mine_baskets.specs.declared.words.TheConstants.{WORD_RANKS}
 use Rattle.mine_baskets.specs.ListBaskets.{IsRankBasket}
 use Rattle.mine_baskets.specs.Words.{has_rank, ranks_in, word_places}
 use Rattle.mine_classes.specs.BitTable.{AreBits, option_bit, place_bit, table_bits, table_word}
-use Rattle.mine_classes.proofs.SumStepLemmas.{has_more}
+use Rattle.basket_sets.proofs.theory.Rising.{has_more}
 use Rattle.mine_classes.proofs.PlaceLemmas.{all_coded, from_places, into_places, placed, places_in, places_rise, rank_at, rank_from_none, stands}
 use Rattle.mine_baskets.proofs.theory.Bits.{has_either}
 

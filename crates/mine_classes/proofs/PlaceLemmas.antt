@@ -19,7 +19,7 @@ use Rattle.mine_baskets.specs.declared.span.Span.{Span}
 use Rattle.mine_baskets.specs.ListBaskets.{AreRankBaskets, IsRankBasket}
 use Rattle.mine_classes.specs.RankPlaces.{ArePlaces, by_table, table_places}
 use Rattle.mine_baskets.specs.Span.{IsWithin, basket_at, baskets_at}
-use Rattle.mine_classes.proofs.SumStepLemmas.{has_more}
+use Rattle.basket_sets.proofs.theory.Rising.{has_more}
 use Rattle.mine_baskets.proofs.theory.Neighbours.{pushed_basket}
 
 pub place_le : (xs : List ℕ) (k : ℕ) → IsRising xs → k < length xs → k ≤ get_or xs k 0

@@ -9,31 +9,19 @@ use Rattle.std.proofs.lemmas.List.Folds.{list_any_more}
 use Rattle.basket_sets.specs.Counts.{AllBelow}
 use Rattle.basket_sets.specs.Itemset.{IsRising, has, rising}
 use Rattle.basket_sets.proofs.theory.Members.{Member, Member-append, Member-append_left, Member-append_right, Member-filter}
-use Rattle.basket_sets.proofs.theory.Rising.{Member-from_has, has-from_Member, Member-rising}
+use Rattle.basket_sets.proofs.theory.Rising.{Member-from_has, has-from_Member, has_more, not_before, rising_distinct, Member-rising}
 use Rattle.basket_sets.proofs.theory.Tests.{apart_eqb, or_false, or_true}
 use Rattle.mine_classes.specs.Sums.{AreSums, WithBasket}
 use Rattle.mine_classes.proofs.RunStepLemmas.{front_is}
 
 -- ---- a basket's ranks, one after another
 
-not_before : (basket : List ℕ) (i : ℕ) → IsRising basket → i < length basket → has (take i basket) (get_or basket i 0) ≡ false
-not_before basket i up here = elim (cases_Bool (has (take i basket) (get_or basket i 0))) [
-  | inl e ↦
-      (let m = subst (Member (get_or basket i 0)) (sym (front_is basket i up here)) (Member-from_has (take i basket) (get_or basket i 0) e) in
-      let less = ltb-true (get_or basket i 0) (get_or basket i 0) (Member-filter (λ other. ltb other (get_or basket i 0)) (get_or basket i 0) basket m).1 in
-      absurd (omega arith))
-  | inr e ↦ e
-]
-
-pub has_more : (basket : List ℕ) (i rank : ℕ) → i < length basket → has (take (i + 1) basket) rank ≡ (has (take i basket) rank || eqb (get_or basket i 0) rank)
-has_more basket i rank here = list_any_more (λ other. eqb other rank) basket i 0 here
-
 pub with_more : (basket : List ℕ) (i weight : ℕ) (old now : List ℕ) → IsRising basket → i < length basket → get_or basket i 0 < length now → length now ≡ length old → WithBasket (take i basket) weight old now
     → WithBasket (take (i + 1) basket) weight old (set now (get_or basket i 0) (get_or now (get_or basket i 0) 0 + weight))
 with_more basket i weight old now up here inside long added rank below = elim (cases_eq rank (get_or basket i 0)) [
   | inl e ↦
       (let as_was : get_or now rank 0 ≡ get_or old rank 0 + 0 = added rank below
-      ∙ ap (λ b. get_or old rank 0 + cond b weight 0) (ap (has (take i basket)) e ∙ not_before basket i up here) in
+      ∙ ap (λ b. get_or old rank 0 + cond b weight 0) (ap (has (take i basket)) e ∙ not_before basket i (rising_distinct basket up) here) in
       let new = ap (λ b. get_or old rank 0 + cond b weight 0) (has_more basket i rank here ∙ ap (λ b. has (take i basket) rank || b) (eq-eqb (get_or basket i 0) rank (sym e)) ∙ or_true (has (take i basket) rank)) in
       subst (λ r. get_or (set now r (get_or now r 0 + weight)) rank 0 ≡ get_or old rank 0 + cond (has (take (i + 1) basket) rank) weight 0) e
       (get_or-set_same now rank (get_or now rank 0 + weight) 0 (omega arith) ∙ ap (λ n. n + weight) (as_was ∙ add-zero (get_or old rank 0)) ∙ sym new))
@@ -69,7 +57,7 @@ below_push count found rank below here other h = elim (Member-append other found
   | inr (inr n) ↦ absurd n
 ]
 
--- a rank put down behind those that are listed, and kept where its sum was 0
+-- a rank put down after those that are listed, and kept where its sum was 0
 pub listed_more : (count : ℕ) (sums found : List ℕ) (end rank weight more : ℕ) → AreSums count sums (take end found) → rank < count → end < length found
     → more ≡ bool_byte (eqb (get_or sums rank 0) 0) → AreSums count (set sums rank (get_or sums rank 0 + weight)) (take (end + more) (set found end rank))
 listed_more count sums found end rank weight more are here room counted = elim (cases_Bool (eqb (get_or sums rank 0) 0)) [

@@ -13,7 +13,7 @@ use Rattle.basket_sets.specs.Itemset.{IsRising, has}
 use Rattle.basket_sets.specs.Support.{total_of, weight_at}
 use Rattle.basket_sets.proofs.theory.Members.{Member, Member-filter, Member-from_filter}
 use Rattle.basket_sets.proofs.theory.Ranges.{filter_rises}
-use Rattle.basket_sets.proofs.theory.Rising.{Member-from_has, has-from_Member, has_more, not_before, same_test}
+use Rattle.basket_sets.proofs.theory.Rising.{Member-from_has, has-from_Member, has_more, not_before, rising_distinct, same_test}
 use Rattle.basket_sets.proofs.theory.Support.{support_falls}
 use Rattle.mine_classes.specs.Pairs.{pairs_of}
 use Rattle.mine_classes.specs.Sums.{WithBasket, is_met}
@@ -61,7 +61,7 @@ module _ (first weight : ℕ) (ranks : List ℕ) (old now : List (List ℕ)) whe
     -- the row of the next rank is as it was
     pub as_was : (lesser : ℕ) → lesser < length (row_at old k) → get_or (row_at now k) lesser 0 ≡ get_or (row_at old k) lesser 0
     as_was lesser below = with.added k within lesser below
-        ∙ ap (λ b. get_or (row_at old k) lesser 0 + cond (has (cond b ranks []) lesser) weight 0) (ap (has (take place ranks)) is ∙ not_before ranks place up here)
+        ∙ ap (λ b. get_or (row_at old k) lesser 0 + cond (has (cond b ranks []) lesser) weight 0) (ap (has (take place ranks)) is ∙ not_before ranks place (rising_distinct ranks up) here)
         ∙ add-zero (get_or (row_at old k) lesser 0)
 
     pub row_more : (row : List ℕ) → length now ≡ length old → length (row_at old k) ≡ first + k → length row ≡ length (row_at now k) → WithBasket (take place ranks) weight (row_at now k) row

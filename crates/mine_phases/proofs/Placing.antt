@@ -185,8 +185,8 @@ module _ {X : Type 0} where
   pub room_for_front : (places : List (Option X)) (front rest : List ℕ) → AreAll places (front ++ rest) → HaveRoom places front
   room_for_front places front rest all x = let a = all x in let t = times-append x front rest in omega arith
 
-  pub all_behind : (places : List (Option X)) (values : List (ℕ × X)) (rest : List ℕ) → AreAll places (numbers_of values ++ rest) → AreAll (placed places values) rest
-  all_behind places values rest all x =
+  pub all_after : (places : List (Option X)) (values : List (ℕ × X)) (rest : List ℕ) → AreAll places (numbers_of values ++ rest) → AreAll (placed places values) rest
+  all_after places values rest all x =
       let a = all x in
       let t = times-append x (numbers_of values) rest in
       let m = moved_all places values (room_for_front places (numbers_of values) rest all) x in

@@ -18,7 +18,7 @@ worse None found = Some found
 worse (Some Memory) found = Some found
 worse (Some (TooMany limit)) found = Some (TooMany limit)
 
--- the fault to tell behind a result
+-- the fault to tell after a result
 abbrev pub fault_after : {X : Type 0} → Option MineFault → Result X MineFault → Option MineFault
 fault_after fault (Ok value) = fault
 fault_after fault (Err found) = worse fault found

@@ -10,7 +10,7 @@ use Rattle.std.proofs.lemmas.Nat.{shr-shr, shr_le}
 use Rattle.std.proofs.lemmas.Nat.Bits.{bit_at-trailing_zeros, bit_at_above}
 use Rattle.std.proofs.lemmas.Simd.{bit_mask_l}
 use Rattle.basket_sets.specs.Itemset.{IsRising, has}
-use Rattle.basket_sets.proofs.theory.Rising.{has_more, not_before}
+use Rattle.basket_sets.proofs.theory.Rising.{has_more, not_before, rising_distinct}
 use Rattle.mine_rows.specs.Bits.{word_at, words_from}
 use Rattle.mine_rows.specs.Cover.{IsAdded}
 use Rattle.mine_rows.specs.Planes.{has_bit}
@@ -34,7 +34,7 @@ more_added cover i bit old now up here long below added = λ r low.
         → cond e word (get_or now r 0) ≡ cond (has (take i cover) r || e) (bit_or (get_or old r 0) bit) (get_or old r 0)
     at r low true is =
         let same : rank ≡ r = eqb-true rank r is in
-        let absent : has (take i cover) r ≡ false = ap (has (take i cover)) (sym same) ∙ not_before cover i up here in
+        let absent : has (take i cover) r ≡ false = ap (has (take i cover)) (sym same) ∙ not_before cover i (rising_distinct cover up) here in
         let was : get_or now r 0 ≡ get_or old r 0 = added r low ∙ ap (λ b. cond b (bit_or (get_or old r 0) bit) (get_or old r 0)) absent in
         ap (λ k. bit_or (get_or now k 0) bit) same ∙ ap (λ n. bit_or n bit) was
         ∙ sym (ap (λ b. cond (b || true) (bit_or (get_or old r 0) bit) (get_or old r 0)) absent)

@@ -17,7 +17,7 @@ use Rattle.mine_round.specs.SeatView.{SeatView}
 use Rattle.mine_round.specs.Totals.{added_by, claimed_by}
 use Rattle.mine_sets.specs.Supports.{AddsSupports, part_support}
 use Rattle.mine_phases.specs.declared.worker_result.WorkerResult.{WorkerResult}
-use Rattle.mine_phases.proofs.theory.Claims.{behind, behind-le, behind_push}
+use Rattle.mine_phases.proofs.theory.Claims.{after, after-le, after_push}
 use Rattle.mine_phases.proofs.theory.Seats.{Ends, each_seat, sum_by-flat_map, sum_by-map, sums_at_most}
 
 module _ (baskets : List Weighted) (pieces : ℕ) (set : List ℕ) where
@@ -46,14 +46,14 @@ module _ (baskets : List Weighted) (pieces : ℕ) (set : List ℕ) where
 
   -- what was added so far is bounded, and so it is with the next part
   abbrev pub IsBounded : List ℕ → Type 0
-  IsBounded claimed = sum_by (part_support baskets pieces set) claimed ≤ front (behind claimed)
+  IsBounded claimed = sum_by (part_support baskets pieces set) claimed ≤ front (after claimed)
 
   pub bounded_next : 1 ≤ pieces → (claimed : List ℕ) (piece : ℕ) → All (λ x. x < piece) claimed → IsBounded claimed → IsBounded (claimed ++ piece ∷ [])
   bounded_next some claimed piece below bounded =
-      let le = front-le some (behind claimed) piece (behind-le claimed piece below) in
+      let le = front-le some (after claimed) piece (after-le claimed piece below) in
       let step = front_more some piece in
       let push = sum_by_push (part_support baskets pieces set) claimed piece in
-      let e = ap front (behind_push claimed piece below) in omega arith
+      let e = ap front (after_push claimed piece below) in omega arith
 
   -- all parts together
   pub parts_are_all : 1 ≤ pieces → sum_by (part_support baskets pieces set) (range_with_len 0 pieces) ≡ support_of baskets set
@@ -86,7 +86,7 @@ pub added_fits : (baskets : List Weighted) (pieces : ℕ) (sets : List (List ℕ
 added_fits baskets pieces sets claimed added has light k within =
     let each = has.each k within in
     let bounded = has.bounded k within in
-    let most = front_is_light baskets pieces (get_or sets k []) (behind claimed) light in omega arith
+    let most = front_is_light baskets pieces (get_or sets k []) (after claimed) light in omega arith
 
 -- one part more
 module _ (baskets : List Weighted) (pieces : ℕ) (sets : List (List ℕ)) (claimed added : List ℕ) (piece : ℕ) (some : 1 ≤ pieces) (below : All (λ x. x < piece) claimed)
@@ -97,7 +97,7 @@ module _ (baskets : List Weighted) (pieces : ℕ) (sets : List (List ℕ)) (clai
       let short : k < length sets = omega (arith, before.sized) in
       let each = before.each k short in
       let bounded = before.bounded k short in
-      let le = front-le baskets pieces set some (behind claimed) piece (behind-le claimed piece below) in
+      let le = front-le baskets pieces set some (after claimed) piece (after-le claimed piece below) in
       let fall = support_falls (take (shard_start piece pieces (length baskets)) baskets) set [] refl in
       let step = front_more baskets pieces [] some piece in
       let most = front_is_light baskets pieces [] (piece + 1) light in omega arith

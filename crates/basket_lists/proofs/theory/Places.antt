@@ -10,7 +10,7 @@ pub set_kept : (before more sets : List Counted) (place : ℕ) → place < lengt
 set_kept before more sets place here are =
     ap (λ l. set_at l place) are ∙ ap (λ (c : Counted). c.set) (get_or_append_left before more (record { set = []; count = 0 }) place here)
 
--- the set that was added stands behind them
+-- the set that was added stands after them
 pub set_added : (sets new : List Counted) (one : Counted) (place : ℕ) → place ≡ length sets → new ≡ sets ++ one ∷ [] → set_at new place ≡ one.set
 set_added sets new one place last adds =
     ap (set_at new) last ∙ ap (λ l. set_at l (length sets)) adds ∙ ap (λ (c : Counted). c.set) (get_or-append_seam sets one [] (record { set = []; count = 0 }))

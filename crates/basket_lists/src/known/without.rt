@@ -29,13 +29,13 @@ impl KnownItems {
     {
         let size = self.code_size(packed);
         let number = self.number(packed);
-        let mut behind = 0;
-        while behind < size {
-            let shorter = self.without_place(number, behind * self.item_bits);
+        let mut after = 0;
+        while after < size {
+            let shorter = self.without_place(number, after * self.item_bits);
             let shorter = self.word(size - 1, shorter, 0);
             let place = find_code(words, places, self.code(&shorter), self.count_bits);
-            behind += 1;
-            found[(size - behind) as usize] = place;
+            after += 1;
+            found[(size - after) as usize] = place;
         }
     }
 

@@ -32,7 +32,7 @@ pub map_members : {X Y : Type 0} (f g : X → Y) (xs : List X) → ((x : X) → 
 map_members f g [] same = refl
 map_members f g (x ∷ xs) same = let first = same x (inl refl) in let rest = map_members f g xs (λ y m. same y (inr m)) in λ i. first i ∷ rest i
 
--- the number of an item at an entry, and behind it
+-- the number of an item at an entry, and after it
 pub number-here : (item number : ℕ) (rest : List (ℕ × ℕ)) → number_of ((item, number) ∷ rest) item ≡ number + number_of rest item
 number-here item number rest =
     sum_by-cons (λ (entry : ℕ × ℕ). cond (eqb entry.0 item) entry.1 0) (item, number) rest ∙ ap (λ n. n + number_of rest item) (cond-true (eqb item item) number 0 (eq-eqb item item refl))
@@ -72,20 +72,20 @@ added_first a b left others item number begins =
     ap (map (λ y. (y, number_of a y + number_of b y))) items
     ∙ (λ i. (item, begins.is i) ∷ rest i)
   where
-    behind : List ℕ
-    behind = rising (items_of_counts left ++ items_of_counts others)
+    after : List ℕ
+    after = rising (items_of_counts left ++ items_of_counts others)
 
-    items : rising (items_of_counts a ++ items_of_counts b) ≡ item ∷ behind
-    items = rising_is (items_of_counts a ++ items_of_counts b) (item ∷ behind)
-        (cons_rises item behind (λ y m. begins.below y (Member-rising (items_of_counts left ++ items_of_counts others) y m)) (rising-rises (items_of_counts left ++ items_of_counts others)))
+    items : rising (items_of_counts a ++ items_of_counts b) ≡ item ∷ after
+    items = rising_is (items_of_counts a ++ items_of_counts b) (item ∷ after)
+        (cons_rises item after (λ y m. begins.below y (Member-rising (items_of_counts left ++ items_of_counts others) y m)) (rising-rises (items_of_counts left ++ items_of_counts others)))
         (λ y m. elim (begins.into y m) [ inl e ↦ inl e | inr n ↦ inr (Member-into_rising (items_of_counts left ++ items_of_counts others) y n) ])
         (λ y m. begins.back y (elim m as (λ _. (item ≡ y) ⊎ Member y (items_of_counts left ++ items_of_counts others)) [ inl e ↦ inl e | inr n ↦ inr (Member-rising (items_of_counts left ++ items_of_counts others) y n) ]))
 
-    rest : map (λ y. (y, number_of a y + number_of b y)) behind ≡ added_counts left others
-    rest = map_members (λ y. (y, number_of a y + number_of b y)) (λ y. (y, number_of left y + number_of others y)) behind
+    rest : map (λ y. (y, number_of a y + number_of b y)) after ≡ added_counts left others
+    rest = map_members (λ y. (y, number_of a y + number_of b y)) (λ y. (y, number_of left y + number_of others y)) after
         (λ y m. ap (λ n. (y, n)) (begins.same y (begins.below y (Member-rising (items_of_counts left ++ items_of_counts others) y m))))
 
--- the first entry of a list whose items rise, and the lists behind it
+-- the first entry of a list whose items rise, and the lists after it
 first_of : (x n : ℕ) (counts : List (ℕ × ℕ)) → IsRising (items_of_counts ((x, n) ∷ counts)) → number_of ((x, n) ∷ counts) x ≡ n
 first_of x n counts up =
     let absent = number_absent x counts (λ y m e. let b = first_below x (items_of_counts counts) up y m in absurd (omega arith)) in
@@ -173,7 +173,7 @@ nil-added counts up =
     ∙ map_members (λ y. (y, number_of counts y + 0)) (λ y. (y, number_of counts y)) (items_of_counts counts) (λ y m. ap (λ n. (y, n)) (omega arith))
     ∙ counts_by_items counts up
 
--- the numbers behind an entry are no greater
+-- the numbers after an entry are no greater
 pub number-tail : (x n item : ℕ) (counts : List (ℕ × ℕ)) → number_of counts item ≤ number_of ((x, n) ∷ counts) item
 number-tail x n item counts = let e = sum_by-cons (λ (entry : ℕ × ℕ). cond (eqb entry.0 item) entry.1 0) (x, n) counts in omega arith
 
@@ -247,7 +247,7 @@ module _ (counts ours theirs whole rest others : List (ℕ × ℕ)) (first other
         let g : number_of theirs first.0 ≡ other.1 = ap (λ l. number_of l first.0) b ∙ ap (number_of (other ∷ others)) (eq-from_Equal first.0 other.0 (sym same)) ∙ first_of other.0 other.1 others theirs_up in
         omega arith
 
--- one of the lists is at its end, and what is left of the other stands behind the counts
+-- one of the lists is at its end, and what is left of the other stands after the counts
 pub none_left : (counts ours theirs whole : List (ℕ × ℕ)) → Leaves counts ours theirs whole → (ours ≡ []) ⊎ (theirs ≡ []) → (counts ++ ours) ++ theirs ≡ whole
 none_left counts ours theirs whole before (inl e) =
     let is : added_counts ours theirs ≡ theirs = ap (λ l. added_counts l theirs) e ∙ added-nil theirs before.theirs_rise in

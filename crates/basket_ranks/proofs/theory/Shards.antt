@@ -14,7 +14,7 @@ pub shard_start-le : (i j pieces n : ℕ) → 1 ≤ pieces → i ≤ j → shard
 shard_start-le i j pieces n some le =
     le-div (i * n / pieces) (j * n) pieces some (let d = div-mul-le_self (i * n) pieces in let m : i * n ≤ j * n = grind arith in omega arith)
 
--- the first part starts at the beginning, and behind the last is the end
+-- the first part starts at the beginning, and after the last is the end
 pub shard_start-zero : (pieces n : ℕ) → shard_start 0 pieces n ≡ 0
 shard_start-zero pieces n = ap (λ x. x / pieces) (zero-mul n) ∙ zero-div pieces
 

@@ -29,13 +29,13 @@ cut_joined p xs x h =
 -- and so do several with which the last part is good, if no separator stands in a good part
 pub cut_on : (p : ℕ → Bool) (good : List ℕ → Bool) → PrefixesAreGood good → ((part : List ℕ) (x : ℕ) → good (part ++ x ∷ []) ≡ true → p x ≡ false)
     → (xs run : List ℕ) → good ((cut_at p xs).last ++ run) ≡ true → cut_at p (xs ++ run) ≡ cut (cut_at p xs).ended ((cut_at p xs).last ++ run)
-cut_on p good fronts none xs [] h = ap (cut_at p) (append-nil xs) ∙ ap (cut (cut_at p xs).ended) (sym (append-nil (cut_at p xs).last))
-cut_on p good fronts none xs (x ∷ run) h =
+cut_on p good prefixes none xs [] h = ap (cut_at p) (append-nil xs) ∙ ap (cut (cut_at p xs).ended) (sym (append-nil (cut_at p xs).last))
+cut_on p good prefixes none xs (x ∷ run) h =
     let k = cut_at p xs in
     let whole : good ((k.last ++ x ∷ []) ++ run) ≡ true = ap good (append_assoc k.last (x ∷ []) run) ∙ h in
-    let joined = cut_joined p xs x (none k.last x (fronts (k.last ++ x ∷ []) run whole)) in
+    let joined = cut_joined p xs x (none k.last x (prefixes (k.last ++ x ∷ []) run whole)) in
     ap (cut_at p) (sym (append_assoc xs (x ∷ []) run))
-    ∙ cut_on p good fronts none (xs ++ x ∷ []) run (ap (λ (j : Cut). good (j.last ++ run)) joined ∙ whole)
+    ∙ cut_on p good prefixes none (xs ++ x ∷ []) run (ap (λ (j : Cut). good (j.last ++ run)) joined ∙ whole)
     ∙ ap (λ (j : Cut). cut j.ended (j.last ++ run)) joined
     ∙ ap (cut k.ended) (append_assoc k.last (x ∷ []) run)
 
@@ -77,12 +77,12 @@ module _ (p : ℕ → Bool) (good : List (List ℕ) → List ℕ → Bool) where
 -- each part of a list is good if each is with one element more
 pub parts_good_before : (p : ℕ → Bool) (good : List ℕ → Bool) → ((part : List ℕ) (x : ℕ) → good (part ++ x ∷ []) ≡ true → good part ≡ true)
     → (xs : List ℕ) (x : ℕ) → list_all good (parts_of p (xs ++ x ∷ [])) ≡ true → list_all good (parts_of p xs) ≡ true
-parts_good_before p good front =
+parts_good_before p good prefix =
     good_before p (λ ended last. list_all good (ended ++ last ∷ []))
     (λ ended last h. (and_parts (list_all good (ended ++ last ∷ [])) (good []) (sym (all_push good (ended ++ last ∷ []) []) ∙ h)).0)
     (λ ended last x h.
     let p = and_parts (list_all good ended) (good (last ++ x ∷ [])) (sym (all_push good ended (last ++ x ∷ [])) ∙ h) in
-    all_push good ended last ∙ and_from (list_all good ended) (good last) p.0 (front last x p.1))
+    all_push good ended last ∙ and_from (list_all good ended) (good last) p.0 (prefix last x p.1))
 
 abbrev pub size : Cut → ℕ
 size k = length k.ended + length k.last
@@ -121,10 +121,10 @@ fold_with p before ended last (x ∷ xs) =
     at false ends joins = joins
 
 -- a text after one that ends with a separator
-pub cut_after : (p : ℕ → Bool) (front rest : List ℕ) → (cut_at p front).last ≡ [] → cut_at p (front ++ rest) ≡ with_ended (cut_at p front).ended (cut_at p rest)
-cut_after p front rest whole =
-    let ended = (cut_at p front).ended in
-    fold-append (cut_more p) (cut [] []) front rest
+pub cut_after : (p : ℕ → Bool) (prefix rest : List ℕ) → (cut_at p prefix).last ≡ [] → cut_at p (prefix ++ rest) ≡ with_ended (cut_at p prefix).ended (cut_at p rest)
+cut_after p prefix rest whole =
+    let ended = (cut_at p prefix).ended in
+    fold-append (cut_more p) (cut [] []) prefix rest
     ∙ ap (λ last. fold (cut_more p) (cut ended last) rest) whole
     ∙ ap (λ e. fold (cut_more p) (cut e []) rest) (sym (append-nil ended))
     ∙ fold_with p ended [] [] rest

@@ -66,8 +66,8 @@ module _ (is_line : List ℕ → Bool) (fault_at : List ℕ → ℕ → ReadFaul
   good-from_faultless text e = good_after [] text none_good e
 
   -- what follows a text without a fault
-  pub first_fault_behind : (a b : List ℕ) → after [] a ≡ None → after [] (a ++ b) ≡ after a b
-  first_fault_behind a b e = fault_after-append [] a b ∙ ap (λ f. or_else f (after a b)) e
+  pub first_fault_after : (a b : List ℕ) → after [] a ≡ None → after [] (a ++ b) ≡ after a b
+  first_fault_after a b e = fault_after-append [] a b ∙ ap (λ f. or_else f (after a b)) e
 
   -- what follows a fault changes nothing
   pub first_fault_stays : (a b : List ℕ) (fault : ReadFault) → after [] a ≡ Some fault → after [] (a ++ b) ≡ Some fault
@@ -82,7 +82,7 @@ module _ (is_line : List ℕ → Bool) (fault_at : List ℕ → ℕ → ReadFaul
 
   first_fault_push : (text : List ℕ) (byte : ℕ) (well : Bool) → after [] text ≡ None → good (text ++ byte ∷ []) ≡ well
       → after [] (text ++ byte ∷ []) ≡ cond well None (Some (fault_at text byte))
-  first_fault_push text byte well e g = first_fault_behind text (byte ∷ []) e ∙ ap (λ b. found b None (fault_at text byte)) g
+  first_fault_push text byte well e g = first_fault_after text (byte ∷ []) e ∙ ap (λ b. found b None (fault_at text byte)) g
 
   -- a fault that no byte has is that of no text
   pub other_fault : (fault : ReadFault) → ((before : List ℕ) (byte : ℕ) → fault_at before byte ≢ fault) → (before text : List ℕ) → after before text ≢ Some fault
@@ -118,58 +118,58 @@ module _ (is_line : List ℕ → Bool) (fault_at : List ℕ → ℕ → ReadFaul
 
   -- ---- after whole lines
 
-  module _ (front : List ℕ) (whole : (cut_at is_line_feed front).last ≡ []) where
-    good_behind : good front ≡ true → (rest : List ℕ) → good (front ++ rest) ≡ good rest
-    good_behind well rest =
-        let lines = (cut_at is_line_feed front).ended in
+  module _ (prefix : List ℕ) (whole : (cut_at is_line_feed prefix).last ≡ []) where
+    good_after_lines : good prefix ≡ true → (rest : List ℕ) → good (prefix ++ rest) ≡ good rest
+    good_after_lines well rest =
+        let lines = (cut_at is_line_feed prefix).ended in
         let k = cut_at is_line_feed rest in
-        let lines_good = (and_parts (list_all is_line lines) _ (sym (list_all-append is_line lines ((cut_at is_line_feed front).last ∷ [])) ∙ well)).0 in
-        ap (λ (j : Cut). list_all is_line (j.ended ++ j.last ∷ [])) (cut_after is_line_feed front rest whole)
+        let lines_good = (and_parts (list_all is_line lines) _ (sym (list_all-append is_line lines ((cut_at is_line_feed prefix).last ∷ [])) ∙ well)).0 in
+        ap (λ (j : Cut). list_all is_line (j.ended ++ j.last ∷ [])) (cut_after is_line_feed prefix rest whole)
         ∙ ap (list_all is_line) (append_assoc lines k.ended (k.last ∷ []))
         ∙ list_all-append is_line lines (k.ended ++ k.last ∷ [])
         ∙ ap (λ b. b && good rest) lines_good
 
     -- the fault of a byte after the lines, as it is told without them
-    module _ (told : List ℕ → ℕ → ReadFault) (same : (before : List ℕ) (byte : ℕ) → fault_at (front ++ before) byte ≡ told before byte) where
-      fault_behind_lines : good front ≡ true → (before rest : List ℕ) → after (front ++ before) rest ≡ first_fault_by good told before rest
-      fault_behind_lines well before [] = refl
-      fault_behind_lines well before (byte ∷ rest) =
-          let longer = append_assoc front before (byte ∷ []) in
-          λ i. found ((ap good longer ∙ good_behind well (before ++ byte ∷ [])) i) ((ap (λ l. after l rest) longer ∙ fault_behind_lines well (before ++ byte ∷ []) rest) i) (same before byte i)
+    module _ (told : List ℕ → ℕ → ReadFault) (same : (before : List ℕ) (byte : ℕ) → fault_at (prefix ++ before) byte ≡ told before byte) where
+      fault_after_lines : good prefix ≡ true → (before rest : List ℕ) → after (prefix ++ before) rest ≡ first_fault_by good told before rest
+      fault_after_lines well before [] = refl
+      fault_after_lines well before (byte ∷ rest) =
+          let longer = append_assoc prefix before (byte ∷ []) in
+          λ i. found ((ap good longer ∙ good_after_lines well (before ++ byte ∷ [])) i) ((ap (λ l. after l rest) longer ∙ fault_after_lines well (before ++ byte ∷ []) rest) i) (same before byte i)
 
       -- the fault of the lines, else that of the rest
-      pub fault_of_both : (rest : List ℕ) → after [] (front ++ rest) ≡ or_else (after [] front) (first_fault_by good told [] rest)
-      fault_of_both rest = at (after [] front) refl
+      pub fault_of_both : (rest : List ℕ) → after [] (prefix ++ rest) ≡ or_else (after [] prefix) (first_fault_by good told [] rest)
+      fault_of_both rest = at (after [] prefix) refl
         where
-          at : (fault : Option ReadFault) → after [] front ≡ fault → after [] (front ++ rest) ≡ or_else (after [] front) (first_fault_by good told [] rest)
-          at (Some fault) e = first_fault_stays front rest fault e ∙ ap (λ f. or_else f (first_fault_by good told [] rest)) (sym e)
+          at : (fault : Option ReadFault) → after [] prefix ≡ fault → after [] (prefix ++ rest) ≡ or_else (after [] prefix) (first_fault_by good told [] rest)
+          at (Some fault) e = first_fault_stays prefix rest fault e ∙ ap (λ f. or_else f (first_fault_by good told [] rest)) (sym e)
           at None e =
-              first_fault_behind front rest e ∙ ap (λ l. after l rest) (sym (append-nil front)) ∙ fault_behind_lines (good-from_faultless front e) [] rest
+              first_fault_after prefix rest e ∙ ap (λ l. after l rest) (sym (append-nil prefix)) ∙ fault_after_lines (good-from_faultless prefix e) [] rest
               ∙ ap (λ f. or_else f (first_fault_by good told [] rest)) (sym e)
 
-  -- ---- fronts
+  -- ---- prefixes
 
-  module _ (line_front : (line : List ℕ) (byte : ℕ) → is_line (line ++ byte ∷ []) ≡ true → is_line line ≡ true) where
+  module _ (line_prefix : (line : List ℕ) (byte : ℕ) → is_line (line ++ byte ∷ []) ≡ true → is_line line ≡ true) where
     pub line_prefixes_are_good : PrefixesAreGood is_line
-    line_prefixes_are_good front [] h = ap is_line (sym (append-nil front)) ∙ h
-    line_prefixes_are_good front (byte ∷ rest) h =
-        line_front front byte (line_prefixes_are_good (front ++ byte ∷ []) rest (ap is_line (append_assoc front (byte ∷ []) rest) ∙ h))
+    line_prefixes_are_good prefix [] h = ap is_line (sym (append-nil prefix)) ∙ h
+    line_prefixes_are_good prefix (byte ∷ rest) h =
+        line_prefix prefix byte (line_prefixes_are_good (prefix ++ byte ∷ []) rest (ap is_line (append_assoc prefix (byte ∷ []) rest) ∙ h))
 
     pub prefixes_are_good : PrefixesAreGood good
-    prefixes_are_good front [] h = ap good (sym (append-nil front)) ∙ h
-    prefixes_are_good front (byte ∷ rest) h =
-        parts_good_before is_line_feed is_line line_front front byte (prefixes_are_good (front ++ byte ∷ []) rest (ap good (append_assoc front (byte ∷ []) rest) ∙ h))
+    prefixes_are_good prefix [] h = ap good (sym (append-nil prefix)) ∙ h
+    prefixes_are_good prefix (byte ∷ rest) h =
+        parts_good_before is_line_feed is_line line_prefix prefix byte (prefixes_are_good (prefix ++ byte ∷ []) rest (ap good (append_assoc prefix (byte ∷ []) rest) ∙ h))
 
-    -- a good text has no fault after any front
-    faultless_behind : (before text : List ℕ) → good (before ++ text) ≡ true → after before text ≡ None
-    faultless_behind before [] h = refl
-    faultless_behind before (byte ∷ text) h =
+    -- a good text has no fault after any prefix
+    faultless_after : (before text : List ℕ) → good (before ++ text) ≡ true → after before text ≡ None
+    faultless_after before [] h = refl
+    faultless_after before (byte ∷ text) h =
         let whole = ap good (append_assoc before (byte ∷ []) text) ∙ h in
         ap (λ b. found b (after (before ++ byte ∷ []) text) (fault_at before byte)) (prefixes_are_good (before ++ byte ∷ []) text whole)
-        ∙ faultless_behind (before ++ byte ∷ []) text whole
+        ∙ faultless_after (before ++ byte ∷ []) text whole
 
     pub good_is_faultless : GoodIsFaultless good fault_at
-    good_is_faultless text = (faultless_behind [] text, good-from_faultless text)
+    good_is_faultless text = (faultless_after [] text, good-from_faultless text)
 
     -- where the first fault stands
     fault_stands : (before text : List ℕ) (fault : ReadFault) → good before ≡ true → after before text ≡ Some fault → HasFault good fault_at (before ++ text) fault
@@ -185,6 +185,6 @@ module _ (is_line : List ℕ → Bool) (fault_at : List ℕ → ℕ → ReadFaul
     pub first_fault_is_exact : FirstFaultIsExact good fault_at
     first_fault_is_exact text fault = (
       fault_stands [] text fault none_good,
-      λ f. ap (λ t. after [] t) f.whole ∙ first_fault_behind f.before (f.byte ∷ f.rest) (faultless_behind [] f.before f.good)
+      λ f. ap (λ t. after [] t) f.whole ∙ first_fault_after f.before (f.byte ∷ f.rest) (faultless_after [] f.before f.good)
           ∙ ap (λ b. found b (after (f.before ++ f.byte ∷ []) f.rest) (fault_at f.before f.byte)) f.bad ∙ ap Some (sym f.told),
     )

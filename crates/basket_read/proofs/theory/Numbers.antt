@@ -9,7 +9,7 @@ use Rattle.basket_sets.specs.Itemset.{rising}
 use Rattle.basket_sets.specs.Number.{is_digit, value_of}
 use Rattle.basket_sets.proofs.theory.Members.{Member}
 use Rattle.basket_sets.proofs.theory.Numerals.{all_push, value_push}
-use Rattle.basket_sets.proofs.theory.Rising.{Member-into_rising}
+use Rattle.basket_sets.proofs.theory.Rising.{Member-into_rising, rising-rises, rising-rising}
 use Rattle.basket_read.specs.declared.numbers.Numbers.{Numbers}
 use Rattle.basket_read.specs.Cut.{Cut, cut_at}
 use Rattle.basket_read.specs.Fimi.{is_blank, is_nil, is_number, are_numbers, numbers_of, basket_of_numbers, fault_at, MOST_NUMBER}
@@ -51,8 +51,8 @@ within_ends bound word byte d =
     ap (λ b. b && leb (value_of (word ++ byte ∷ [])) bound)
     (all_push is_digit word byte ∙ ap (λ b. list_all is_digit word && b) d ∙ and_right (list_all is_digit word) false refl)
 
-pub within_front : (bound : ℕ) (word : List ℕ) (byte : ℕ) → within bound (word ++ byte ∷ []) ≡ true → within bound word ≡ true
-within_front bound word byte h =
+pub within_prefix : (bound : ℕ) (word : List ℕ) (byte : ℕ) → within bound (word ++ byte ∷ []) ≡ true → within bound word ≡ true
+within_prefix bound word byte h =
     let p = and_parts (list_all is_digit (word ++ byte ∷ [])) (leb (value_of (word ++ byte ∷ [])) bound) h in
     let digits = and_parts (list_all is_digit word) (is_digit byte) (sym (all_push is_digit word byte) ∙ p.0) in
     let below = leb-true (value_of (word ++ byte ∷ [])) bound p.1 in
@@ -132,16 +132,16 @@ takes_blanks numbers text (byte ∷ other ∷ blanks) good b some is =
     (takes_blanks numbers (text ++ byte ∷ []) (other ∷ blanks) one.good parts.1 (λ e. cc)
     (is ∙ ap number_ended (sym is) ∙ ap number_ended one.state ∙ ended_at (text ++ byte ∷ [])))
 
--- ---- fronts
+-- ---- prefixes
 
-pub numbers_front : (text : List ℕ) (byte : ℕ) → are_numbers (text ++ byte ∷ []) ≡ true → are_numbers text ≡ true
-numbers_front = parts_good_before is_blank is_number (within_front MOST_NUMBER)
+pub numbers_prefix : (text : List ℕ) (byte : ℕ) → are_numbers (text ++ byte ∷ []) ≡ true → are_numbers text ≡ true
+numbers_prefix = parts_good_before is_blank is_number (within_prefix MOST_NUMBER)
 
 -- numbers join the last part of a list that is cut at another byte
 pub numbers_joined : (k : ℕ) → is_digit k ≡ false → is_blank k ≡ false → (xs run : List ℕ) → are_numbers ((cut_at (λ byte. eqb byte k) xs).last ++ run) ≡ true
     → cut_at (λ byte. eqb byte k) (xs ++ run) ≡ cut (cut_at (λ byte. eqb byte k) xs).ended ((cut_at (λ byte. eqb byte k) xs).last ++ run)
 numbers_joined k d b =
-    cut_on (λ byte. eqb byte k) are_numbers (grammar.line_prefixes_are_good are_numbers fault_at refl numbers_front)
+    cut_on (λ byte. eqb byte k) are_numbers (grammar.line_prefixes_are_good are_numbers fault_at refl numbers_prefix)
     (λ text byte h. ne_eqb byte k (λ e. unlike (sym (refuses_other text k d b) ∙ ap (λ x. are_numbers (text ++ x ∷ [])) (sym e) ∙ h)))
 
 -- ---- sets of numbers
@@ -150,6 +150,9 @@ numbers_joined k d b =
 pub rising_nonempty : (numbers : List ℕ) → numbers ≢ [] → rising numbers ≢ []
 rising_nonempty [] some e = some refl
 rising_nonempty (number ∷ numbers) some e = absurd (subst (Member number) e (Member-into_rising (number ∷ numbers) number (inl refl)))
+
+pub rising_again : (numbers : List ℕ) → rising (rising numbers) ≡ rising numbers
+rising_again numbers = rising-rising (rising numbers) (rising-rises numbers)
 
 -- some numbers are one basket, or none
 pub one_basket : (numbers : List ℕ) (weight : ℕ) → length (basket_of_numbers numbers weight) ≤ 1

@@ -27,7 +27,7 @@ fn counts_are_the_same_however_bytes_are_given_and_baskets_shared(
 }
 
 #[test]
-fn counts_of_parts_one_behind_another_are_added_up(rt: HostRuntime) -> Result<(), Fail> {
+fn counts_of_concatenated_parts_are_added_up(rt: HostRuntime) -> Result<(), Fail> {
     let parts = b"(4)\n1 2 (2)\n9 4294967295 (0)\n3 (1)\n3 (5)\n1 2 (2)\n(5)\n9 4294967295 (0)\n";
     let plan = CountPlan::of(Layout::of(Form::Counts));
     let mut sets = MemSource::new(SETS, 100, None);

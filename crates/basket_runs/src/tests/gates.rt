@@ -115,7 +115,7 @@ pub struct FirstLast {
 }
 
 impl FirstLast {
-    pub fn behind(others: u64) -> FirstLast {
+    pub fn after(others: u64) -> FirstLast {
         FirstLast {
             others,
             passed: AtomicU64::new(0),
@@ -145,7 +145,7 @@ impl Gate for FirstLast {
 #[test]
 fn one_worker_takes_what_is_left(rt: HostRuntime) -> Result<(), Fail> {
     let plan = plan("2")?.with_miner(Miner::Eclat).with_pieces(4);
-    let gate = FirstLast::behind(3);
+    let gate = FirstLast::after(3);
     let found = found_by_two(&rt, rt.alloc(), NINE_BASKETS, &plan, &gate)?;
     assert_eq!(rt; found, Some(13));
     assert!(rt; !gate.is_late(), "the others did not pass");

@@ -35,7 +35,7 @@ fn a_worker_stops_at_what_the_other_found(rt: HostRuntime) -> Result<(), Fail> {
             .with_miner(miner)
             .with_pieces(43)
             .with_limit(1_100);
-        let gate = FirstLast::behind(13);
+        let gate = FirstLast::after(13);
         let found = found_by_two(&rt, rt.alloc(), FOUR_TENS, &plan, &gate)?;
         assert_eq!(rt; found, None, "{name}");
         assert!(rt; !gate.is_late(), "{name} passed few pieces");

@@ -61,7 +61,7 @@ is_slash other = nat_eq other SLASH
 digit_is_no_slash : (byte : ℕ) → is_digit byte ≡ true → is_slash byte ≡ false
 digit_is_no_slash byte h = let low = leb-true 48 byte (and_parts (leb 48 byte) (leb byte 57) h).0 in ne_eqb byte SLASH (λ e. omega (arith, low, e))
 
--- digits go as far as the slash behind them
+-- digits go as far as the slash after them
 slash_after : (digits rest : List ℕ) → list_all is_digit digits ≡ true → position_or_len is_slash (digits ++ SLASH ∷ rest) ≡ length digits
 slash_after [] rest h = refl
 slash_after (byte ∷ digits) rest h =

@@ -8,13 +8,14 @@ use Rattle.std.specs.List.Sorted.{IsStrictlySortedBy}
 use Rattle.std.proofs.lemmas.Bool.{eqb-true, eqb-false, ltb-true, ltb-false, eq-eqb, ne_eqb, lt-ltb, or_cases, cases_Bool, and_parts, and_from, cases_lt, true≢false, false_from_ne_true}
 use Rattle.std.proofs.Math.Bool.{or-false, or_assoc}
 use Rattle.std.proofs.lemmas.Bool.Decides.{nat_tests}
-use Rattle.basket_sets.specs.Itemset.{AllBelow, AreDistinct, IsRising, has, contains, with_item, rising}
+use Rattle.basket_sets.specs.Itemset.{AllBelow, IsRising, has, contains, with_item, rising}
 use Rattle.std.specs.List.Sorted.{IsBinarySearchResult, IsPermutation, IsSorted}
 use Rattle.std.specs.List.{Contains, IsAllAdjacentAnswer, IsDistinct, dedup, insert, list_all}
 use Rattle.std.proofs.lemmas.List.{get_or_default, get_or-take, length-take, take_more}
+use Rattle.std.proofs.lemmas.List.Folds.{list_all_at}
 use Rattle.std.proofs.lemmas.List.Kept.{Contains-dedup_nat, Contains-from_dedup}
 use Rattle.std.proofs.lemmas.List.Sorted.{searched, Contains-permutation, IsPermutation-sym}
-use Rattle.std.proofs.lemmas.Map.Keys.{non_decreasing_from_sorted, sorted_from_strictly_increasing, below_from_sorted, IsStrictlyIncreasing-dedup}
+use Rattle.std.proofs.lemmas.Map.Keys.{IsDistinct-from_apart, apart_from_distinct, non_decreasing_from_sorted, sorted_from_strictly_increasing, below_from_sorted, IsStrictlyIncreasing-dedup}
 use Rattle.basket_sets.proofs.theory.Members.{Member, All-from_Member, first_is_less, rest_is_sorted, same_members, Member-from_Contains, Contains-from_Member}
 
 -- ---- the order of numbers
@@ -278,25 +279,27 @@ has-set items k x z h = elim (Member-set items k (Member-from_has (set items k x
     Member-set (y ∷ items) (suc k) (inl e) = inr (inl e)
     Member-set (y ∷ items) (suc k) (inr m) = elim (Member-set items k m) [ inl e ↦ inl e | inr n ↦ inr (inr n) ]
 
--- in a rising list an item stands once
-pub not_before : (items : List ℕ) (i : ℕ) → IsRising items → i < length items → has (take i items) (get_or items i 0) ≡ false
-not_before items i up below = false_from_ne_true _ (λ h.
-    let c = Contains-from_Member (get_or items i 0) (take i items) (Member-from_has (take i items) (get_or items i 0) h) in
+-- of distinct numbers none is among those before it
+pub not_before : (items : List ℕ) (i : ℕ) → IsDistinct nat_eq items → i < length items → has (take i items) (get_or items i 0) ≡ false
+not_before items i distinct below = false_from_ne_true _ (λ h.
+    let item = get_or items i 0 in
+    let c = Contains-from_Member item (take i items) (Member-from_has (take i items) item h) in
     let short : c.0 < i = omega (arith, c.1, length-take i items) in
-    let same : get_or items c.0 0 ≡ get_or items i 0 = get_or_default items c.0 0 (get_or items i 0) (omega arith) ∙ sym (get_or-take i items c.0 (get_or items i 0) short) ∙ c.2 in
-    let less = below_from_sorted items c.0 i 0 up short below in
-    omega arith)
+    true≢false (sym (eq-eqb _ _ (sym (get_or-take i items c.0 item short) ∙ c.2))
+    ∙ ap (eqb (get_or items c.0 item)) (get_or_default items i 0 item below) ∙ apart_from_distinct nat_eq items c.0 i item distinct short below))
 
-pub rising-distinct : (items : List ℕ) → IsRising items → AreDistinct items
-rising-distinct items up place below = not_before items place up below
+pub distinct_from_before : (items : List ℕ) → ((i : ℕ) → i < length items → has (take i items) (get_or items i 0) ≡ false) → IsDistinct nat_eq items
+distinct_from_before items apart = IsDistinct-from_apart nat_eq items (λ i j d less below. ne_eqb _ _ (λ same.
+    let here : i < length (take j items) = omega (arith, length-take j items) in
+    true≢false (sym (has_place (take j items) i here) ∙ ap (has (take j items)) (get_or_default (take j items) i 0 d here ∙ get_or-take j items i d less ∙ same ∙ get_or_default items j d 0 below) ∙ apart j below)))
 
+-- each item passes a test that all pass
 pub below_from_all : (bound : ℕ) (items : List ℕ) → list_all (λ item. ltb item bound) items ≡ true → AllBelow bound items
-below_from_all bound [] h item m = absurd cc
-below_from_all bound (first ∷ items) h item m =
-    let both = and_parts (ltb first bound) (list_all (λ item. ltb item bound) items) h in
-    elim (or_cases (eqb first item) (has items item) m) [
-      | inl e ↦ subst (λ n. n < bound) (eqb-true first item e) (ltb-true first bound both.0)
-      | inr later ↦ below_from_all bound items both.1 item later
+below_from_all bound items all item h =
+    let c = Contains-from_Member item items (Member-from_has items item h) in
+    elim (cases_Bool (ltb item bound)) [
+      | inl less ↦ ltb-true item bound less
+      | inr past ↦ absurd (true≢false (sym all ∙ list_all_at (λ n. ltb n bound) items c.0 item c.1 (ap (λ n. ltb n bound) c.2 ∙ past)))
     ]
 
 pub has-rising : (numbers : List ℕ) (item : ℕ) → has (rising numbers) item ≡ has numbers item

@@ -6,7 +6,7 @@ use Rattle.basket_read.specs.declared.counted_line.CountedLine.{CountedLine}
 use Rattle.basket_sets.specs.Database.{MOST_WEIGHT}
 use Rattle.basket_parts.specs.CombinedCounts.{is_heavy}
 use Rattle.basket_parts.specs.Merge.{IsLight, merged, merged_from}
-use Rattle.basket_parts.proofs.StableLemmas.{heavy_first, heavy_behind, heavy_sum, heavy_line, apart_more}
+use Rattle.basket_parts.proofs.StableLemmas.{heavy_first, heavy_after, heavy_sum, heavy_line, apart_more}
 use Rattle.basket_parts.proofs.merge.merged.Goals as goal
 
 pub returns-then-kept-gt-MAX_WEIGHT-clause-heavy : goal.returns-then-kept-gt-MAX_WEIGHT-clause-heavy
@@ -25,7 +25,7 @@ returns-then-line-kept-clause-heavy c =
     let heavy : MOST_WEIGHT < kept.count + line.count = omega arith in λ _. (
       refl,
       ap (list_any is_heavy) (sym c.loop-line.invariant.whole)
-          ∙ heavy_behind c.loop-line.list.items (merged_from kept (into_iter_items c.loop-line.line-iterator))
+          ∙ heavy_after c.loop-line.list.items (merged_from kept (into_iter_items c.loop-line.line-iterator))
           (ap (λ l. list_any is_heavy (merged_from kept l)) c.in-Some-line.ensures.steps.0 ∙ heavy_sum kept line rest (sym c.eq.ensures ∙ c.if-eq.true) heavy),
     )
 
@@ -36,7 +36,7 @@ returns-then-line-gt-MAX_WEIGHT-clause-heavy c =
     let rest = into_iter_items c.next-in-loop-line.new.self in λ _. (
       refl,
       ap (list_any is_heavy) (sym c.loop-line.invariant.whole)
-          ∙ heavy_behind c.loop-line.list.items (merged_from kept (into_iter_items c.loop-line.line-iterator))
+          ∙ heavy_after c.loop-line.list.items (merged_from kept (into_iter_items c.loop-line.line-iterator))
           (ap (λ l. list_any is_heavy (merged_from kept l)) c.in-Some-line.ensures.steps.0 ∙ heavy_line kept line rest c.if-line-gt-MAX_WEIGHT.true),
     )
 

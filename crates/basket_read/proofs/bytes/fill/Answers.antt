@@ -18,9 +18,9 @@ read_after : (buffer read after more : List ℕ) (filled count len : ℕ) → fi
     × (filled + count ≤ length (take len ((take filled buffer ++ (read ++ after)) ++ more)))
 read_after buffer read after more filled count len within some fits =
     let whole = take filled buffer ++ (read ++ after) in
-    let front = length-take filled buffer in
+    let prefix = length-take filled buffer in
     let all = length-append (take filled buffer) (read ++ after) in
-    let behind = length-append read after in
+    let later = length-append read after in
     let longer = length-append whole more in
     let cut = length-take len (whole ++ more) in (
       take-take (filled + count) len (whole ++ more) fits ∙ take-append-le (filled + count) whole more (omega arith)
@@ -47,11 +47,11 @@ loop-filled-preserved g c =
       | else-filled-len w ↦ (ap (λ (v : Vec ℕ Global). take filled v.items) w.buffer-is, let long = ap (λ (v : Vec ℕ Global). length v.items) w.buffer-is in omega (arith, c.loop-filled.invariant.within))
     ] in
     let bound = c.in-Ok.ensures.bound.0 in
-    let behind = read_after c.deref_mut.result.now c.read.new.buf _ _ filled count buffer.len (let v = ap length c.deref_mut.ensures.value in omega (arith, grown.1)) bound (let l = c.deref_mut.ensures.len in let d = length-drop filled c.deref_mut.result.now in let t = length-take (length c.deref_mut.result.now - filled) (drop filled c.deref_mut.result.now) in omega (arith, c.read.auto.buf, bound, grown.1, buffer.ok)) in
+    let later = read_after c.deref_mut.result.now c.read.new.buf _ _ filled count buffer.len (let v = ap length c.deref_mut.ensures.value in omega (arith, grown.1)) bound (let l = c.deref_mut.ensures.len in let d = length-drop filled c.deref_mut.result.now in let t = length-take (length c.deref_mut.result.now - filled) (drop filled c.deref_mut.result.now) in omega (arith, c.read.auto.buf, bound, grown.1, buffer.ok)) in
     record {
       unfailed = c.in-Ok.ensures.failed;
-      within = behind.1;
+      within = later.1;
       given = subst (Consumes (g.S.Source.left c.args.reader.now) (g.S.Source.left c.read.new.self))
-          (sym (behind.0 ∙ ap (λ l. l ++ take count c.read.new.buf) (ap (take filled) c.deref_mut.ensures.value ∙ grown.0)))
+          (sym (later.0 ∙ ap (λ l. l ++ take count c.read.new.buf) (ap (take filled) c.deref_mut.ensures.value ∙ grown.0)))
           (Consumes-trans _ _ _ (take filled old.items) (take count c.read.new.buf) c.loop-filled.invariant.given c.in-Ok.ensures.bytes.0);
     }

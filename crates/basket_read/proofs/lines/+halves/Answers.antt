@@ -9,9 +9,8 @@ use Rattle.basket_read.specs.Fimi.{is_line_feed, first_fault, MOST_BYTES}
 use Rattle.basket_read.specs.Fault.{ReturnsFault}
 use Rattle.basket_read.specs.Text.{IsSomeText, IsTextSoFar}
 use Rattle.basket_read.proofs.RoomLemmas.{merely_at_most, room_after}
-use Rattle.basket_read.proofs.TextLemmas.{fault_in_front, if_ok}
+use Rattle.basket_read.proofs.TextLemmas.{fault_in_prefix, if_ok}
 use Rattle.basket_read.proofs.lines.+halves.Goals as goal
-use Rattle.basket_read.proofs.lines.+halves.Goals.{feed_shared-in-Ok+in_ok-append+else-branch, feed_shared-in_default-read}
 
 -- what a result is for a text that was read up to these bytes
 abbrev Reads : Bool → List ℕ → Result Text ReadFault → Type 0
@@ -35,42 +34,39 @@ feed_shared-returns-in_err-text g t c = λ counting bytes so_far.
     let p = err_from_is_err_and c.from_residual-in_err-text.result c.from_residual-in_err-text.ensures.1 in
     let prefix = c.split_at.result.0.now in
     let whole = (λ i. c.split_at.ensures.front i ++ c.split_at.ensures.back i) ∙ take-append-drop c.in-Some.end c.args.piece.now in
-    rw (p.1, p.2) (fault_in_front bytes prefix c.split_at.result.1.now c.args.piece.now c.in_err-text.field-0.0 whole
+    rw (p.1, p.2) (fault_in_prefix bytes prefix c.split_at.result.1.now c.args.piece.now c.in_err-text.field-0.0 whole
     (subst (Reads counting (bytes ++ prefix)) c.in_err-text.was (c.feed_halves-text.ensures.prefix counting bytes so_far)))
 
 pub feed_shared-append-requires : goal.feed_shared-append-requires
 feed_shared-append-requires g t c =
     let prefix = c.split_at.result.0.now in
-    let rest = c.split_at.result.1.now in
-    ∥∥₁_map c.requires (λ w. (
+    IfOk-weaker c.feed_halves-text.result.1 _ _
+    (λ read some. ∥∥₁_map c.requires (λ w. (
       w.0 ++ prefix,
-      rest,
+      c.split_at.result.1.now,
       (w.1.0, subst (Reads w.1.0 (w.0 ++ prefix)) c.in_ok-text.was (c.feed_halves-text.ensures.prefix w.1.0 w.0 w.1.1)),
-      subst (λ r. IfOk r (IsSomeText rest)) c.in-Ok.is c.feed_halves-text.ensures.rest,
+      some,
       let few = w.2 in let within = c.in-Some.ensures.within in let cut = c.split_at.ensures.front_len in let long = c.split_at.ensures.back_len in
           let sum = length-append w.0 prefix in omega arith,
-    ))
+    ))) c.feed_halves-text.ensures.rest
 
 pub feed_shared-returns-then-branch : goal.feed_shared-returns-then-branch
 feed_shared-returns-then-branch g t c = λ counting bytes so_far.
     let prefix = c.split_at.result.0.now in
     let rest = c.split_at.result.1.now in
     let whole = (λ i. c.split_at.ensures.front i ++ c.split_at.ensures.back i) ∙ take-append-drop c.in-Some.end c.args.piece.now in
-    let read = subst (λ r. IfOk r (IsSomeText rest)) c.in-Ok.is c.feed_halves-text.ensures.rest in
     subst (IsTextSoFar c.append.new.self counting) (append_assoc bytes prefix rest ∙ ap (λ l. bytes ++ l) whole)
-    (c.in_ok-append.ensures.text counting read.0 (bytes ++ prefix) rest
+    (c.in_ok-append.ensures.text counting (bytes ++ prefix) rest
     (subst (Reads counting (bytes ++ prefix)) c.in_ok-text.was (c.feed_halves-text.ensures.prefix counting bytes so_far))
-    (ap (λ l. (cut_at is_line_feed (bytes ++ l)).last) c.split_at.ensures.front ∙ c.in-Some.ensures.ends bytes) read.1 c.if-branch.true)
+    (ap (λ l. (cut_at is_line_feed (bytes ++ l)).last) c.split_at.ensures.front ∙ c.in-Some.ensures.ends bytes) c.feed_halves-text.ensures.rest c.if-branch.true)
 
 -- if the rest isn't appended, the text is as it was after the prefix
 pub feed_shared-feed-requires-2 : goal.feed_shared-feed-requires-2
 feed_shared-feed-requires-2 g t c =
     let prefix = c.split_at.result.0.now in
-    let same : c.match-read-2.text ≡ c.in_ok-text.text =
-    elim c.match-read-2.branch [ feed_shared-in-Ok+in_ok-append+else-branch w ↦ w.text-is ∙ w.in_ok-append.ensures.left w.if-branch.false | feed_shared-in_default-read w ↦ w.text-is ] in
-    room_after c.args.text c.match-read-2.text prefix (length c.split_at.result.1.now) (length c.args.piece.now)
+    room_after c.args.text c.append.new.self prefix (length c.split_at.result.1.now) (length c.args.piece.now)
     (let within = c.in-Some.ensures.within in let cut = c.split_at.ensures.front_len in let long = c.split_at.ensures.back_len in omega arith) c.requires
-    (λ counting bytes so_far. subst (λ text. IsTextSoFar text counting (bytes ++ prefix)) (sym same)
+    (λ counting bytes so_far. subst (λ text. IsTextSoFar text counting (bytes ++ prefix)) (sym (c.in_ok-append.ensures.left c.if-branch.false))
     (subst (Reads counting (bytes ++ prefix)) c.in_ok-text.was (c.feed_halves-text.ensures.prefix counting bytes so_far)))
 
 pub feed_shared-returns-in_err-feed-2 : goal.feed_shared-returns-in_err-feed-2
@@ -79,23 +75,19 @@ feed_shared-returns-in_err-feed-2 g t c = λ counting bytes so_far.
     let prefix = c.split_at.result.0.now in
     let rest = c.split_at.result.1.now in
     let whole = (λ i. c.split_at.ensures.front i ++ c.split_at.ensures.back i) ∙ take-append-drop c.in-Some.end c.args.piece.now in
-    let same : c.match-read-2.text ≡ c.in_ok-text.text =
-    elim c.match-read-2.branch [ feed_shared-in-Ok+in_ok-append+else-branch w ↦ w.text-is ∙ w.in_ok-append.ensures.left w.if-branch.false | feed_shared-in_default-read w ↦ w.text-is ] in
     let f = subst (Reads counting (bytes ++ prefix)) c.in_ok-text.was (c.feed_halves-text.ensures.prefix counting bytes so_far) in
     rw (p.1, p.2) (λ no_memory.
     ap first_fault (ap (λ l. bytes ++ l) (sym whole) ∙ sym (append_assoc bytes prefix rest))
-    ∙ c.in_err-feed-2.ensures counting (bytes ++ prefix) (subst (λ text. IsTextSoFar text counting (bytes ++ prefix)) (sym same) f) no_memory)
+    ∙ c.in_err-feed-2.ensures counting (bytes ++ prefix) (subst (λ text. IsTextSoFar text counting (bytes ++ prefix)) (sym (c.in_ok-append.ensures.left c.if-branch.false)) f) no_memory)
 
 pub feed_shared-returns : goal.feed_shared-returns
 feed_shared-returns g t c = λ counting bytes so_far.
     let prefix = c.split_at.result.0.now in
     let rest = c.split_at.result.1.now in
     let whole = (λ i. c.split_at.ensures.front i ++ c.split_at.ensures.back i) ∙ take-append-drop c.in-Some.end c.args.piece.now in
-    let same : c.match-read-2.text ≡ c.in_ok-text.text =
-    elim c.match-read-2.branch [ feed_shared-in-Ok+in_ok-append+else-branch w ↦ w.text-is ∙ w.in_ok-append.ensures.left w.if-branch.false | feed_shared-in_default-read w ↦ w.text-is ] in
     let f = subst (Reads counting (bytes ++ prefix)) c.in_ok-text.was (c.feed_halves-text.ensures.prefix counting bytes so_far) in
     subst (IsTextSoFar c.feed-2.new.self counting) (append_assoc bytes prefix rest ∙ ap (λ l. bytes ++ l) whole)
-    (c.in_ok-feed-2.ensures counting (bytes ++ prefix) (subst (λ text. IsTextSoFar text counting (bytes ++ prefix)) (sym same) f))
+    (c.in_ok-feed-2.ensures counting (bytes ++ prefix) (subst (λ text. IsTextSoFar text counting (bytes ++ prefix)) (sym (c.in_ok-append.ensures.left c.if-branch.false)) f))
 
 pub feed_halves-join+arg2-returns : goal.feed_halves-join+arg2-returns
 feed_halves-join+arg2-returns g t c =

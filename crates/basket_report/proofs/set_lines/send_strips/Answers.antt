@@ -16,7 +16,7 @@ loop-strip-preserved g c =
     ap (λ n. report_of Numbered (take n sets) ++ c.text.result.now) (sym from) ∙ ap (λ t. report_of Numbered (take strip.from sets) ++ t) c.text.ensures
     ∙ has.lines ∙ ap (λ n. report_of Numbered (take n sets)) (sym c.to-next.ensures) in
     record {
-      behind = omega (arith, l.invariant.behind, from, has.ordered, c.to-next.ensures);
+      after = omega (arith, l.invariant.after, from, has.ordered, c.to-next.ensures);
       within = omega (arith, has.within, c.to-next.ensures);
       way = λ start way.
           subst (IsWritten start (g.W.Sink.taken c.send_bytes.new.writer) (g.W.Sink.has_failed c.send_bytes.new.writer) (g.W.Sink.ends_in_flush c.send_bytes.new.writer)) lines

@@ -6,7 +6,7 @@ use Rattle.basket_report.proofs.set_lines.send_strips.Given as goal
 
 abbrev pub invariant-loop-strip : goal.invariant-loop-strip
 invariant-loop-strip g l = record {
-  behind : l.place ≤ l.next;
+  after : l.place ≤ l.next;
   within : l.next ≤ length l.sets;
   way : (start : Option (List ℕ))
       → IsWritten start (g.W.Sink.taken l.fn.writer) (g.W.Sink.has_failed l.fn.writer) (g.W.Sink.ends_in_flush l.fn.writer) (report_of Numbered (take l.place l.sets))

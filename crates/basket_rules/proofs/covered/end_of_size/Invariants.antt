@@ -3,7 +3,7 @@ use Rattle.basket_rules.proofs.covered.end_of_size.Given as goal
 
 abbrev pub invariant-loop-end : goal.invariant-loop-end
 invariant-loop-end l = record {
-  behind : l.start < l.end;
+  after : l.start < l.end;
   within : l.end ≤ length l.sets;
 }
 

@@ -1,11 +1,13 @@
 use Rattle.std.proofs.Common.{◌≡◌, ◌+◌, ◌++◌, [], ◌∷◌, length, take, sym, subst, ap, ◌∙◌, arith, append_assoc, append-nil}
+use Rattle.std.specs.List.{IsDistinct}
+use Rattle.std.specs.Prelude.{nat_eq}
 use Rattle.std.proofs.lemmas.List.{take_all, take_more}
 use Rattle.std.proofs.lemmas.List.Sums.{sum_by_more, sum_by_more_le}
 use Rattle.basket_sets.specs.declared.weighted.Weighted.{Weighted}
 use Rattle.basket_sets.specs.Counts.{IsTable}
-use Rattle.basket_sets.specs.Itemset.{AreDistinct, has}
+use Rattle.basket_sets.specs.Itemset.{has}
 use Rattle.basket_sets.specs.Support.{total_of}
-use Rattle.basket_sets.proofs.theory.Rising.{rising-distinct}
+use Rattle.basket_sets.proofs.theory.Rising.{rising_distinct}
 use Rattle.basket_sets.proofs.CountLemmas.{HasAdded, item_of_place, table_push, bounded_push}
 use Rattle.basket_sets.proofs.counts.add_places.Goals as goal
 
@@ -16,7 +18,7 @@ loop-place-init c = record {
 }
 
 pub add_to_table-requires-clause-distinct : goal.add_to_table-requires-clause-distinct
-add_to_table-requires-clause-distinct c = subst AreDistinct (sym c.items.ensures.items) (rising-distinct _ c.items.ensures.rising)
+add_to_table-requires-clause-distinct c = subst (IsDistinct nat_eq) (sym c.items.ensures.items) (rising_distinct _ c.items.ensures.rising)
 
 pub add_to_table-requires-clause-within : goal.add_to_table-requires-clause-within
 add_to_table-requires-clause-within c = λ item h.

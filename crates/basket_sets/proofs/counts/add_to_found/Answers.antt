@@ -1,7 +1,7 @@
 use Rattle.std.proofs.Common.{◌+◌, get_or, cond, sym, subst, ap, ◌∙◌, arith, take}
 use Rattle.basket_sets.specs.Itemset.{IsRising, has}
 use Rattle.basket_sets.proofs.CountLemmas.{HasFound, found_more, missed_more}
-use Rattle.basket_sets.proofs.theory.Rising.{has_place, not_before}
+use Rattle.basket_sets.proofs.theory.Rising.{has_place, not_before, rising_distinct}
 use Rattle.basket_sets.proofs.theory.Rising.{found_at, found_nowhere}
 use Rattle.basket_sets.proofs.counts.add_to_found.Goals as goal
 use Rattle.basket_sets.proofs.counts.add_to_found.Goals.{in-Ok, in_default}
@@ -17,7 +17,7 @@ overflow_add-supports c =
     let fits = c.requires.fits found at.0
     (ap (λ l. has l (get_or items found 0)) (sym c.items-item-items.ensures.items) ∙ ap (has basket) at.1 ∙ has_place basket j c.loop-item-test.true) in
     let before = c.loop-item.invariant found at.0
-    ∙ ap (λ b. get_or c.args.supports.now found 0 + cond b c.args.place.now.weight 0) (ap (has (take j basket)) at.1 ∙ not_before basket j over c.loop-item-test.true) in
+    ∙ ap (λ b. get_or c.args.supports.now found 0 + cond b c.args.place.now.weight 0) (ap (has (take j basket)) at.1 ∙ not_before basket j (rising_distinct basket over) c.loop-item-test.true) in
     omega arith
 
 pub loop-item-preserved : goal.loop-item-preserved

@@ -4,7 +4,7 @@ use Rattle.basket_sets.specs.Itemset.{IsRising}
 use Rattle.basket_sets.proofs.theory.Ranges.{filter_rises}
 use Rattle.mine_apriori.specs.Extensions.{has_items, is_some, sets_of}
 use Rattle.mine_apriori.specs.Join.{has_parts, joined_group}
-use Rattle.mine_apriori.proofs.CandidateLemmas.{length_behind}
+use Rattle.mine_apriori.proofs.CandidateLemmas.{length_after}
 use Rattle.mine_apriori.proofs.IntersectionLemmas.{drop_rises}
 use Rattle.mine_apriori.proofs.JoinStepLemmas.{joined_none, joined_some, none_if, some_if}
 use Rattle.mine_apriori.proofs.join.join.Goals as goal
@@ -25,7 +25,7 @@ kept_are : (c : After-is_empty) → c.extend_from_slice.new.self.items ≡ drop 
     ≡ filter (has_parts (length c.args.prefix.now) (sets_of c.args.level.now) (c.args.prefix.now ++ get_or c.args.items.now c.loop-place.place 0 ∷ [])) (drop (c.loop-place.place + 1) c.args.items.now)
 kept_are c later =
     let set = c.deref.ensures.value ∙ c.in_ok-put_extended.ensures in
-    let long : length c.deref.result.now - 1 ≡ length c.args.prefix.now = omega (arith, ap length set, length_behind c.args.prefix.now (get_or c.args.items.now c.loop-place.place 0) (length c.args.prefix.now) refl) in
+    let long : length c.deref.result.now - 1 ≡ length c.args.prefix.now = omega (arith, ap length set, length_after c.args.prefix.now (get_or c.args.items.now c.loop-place.place 0) (length c.args.prefix.now) refl) in
     c.in_ok-keep_extensions.ensures ∙ (λ i. filter (has_parts (long i) (sets_of c.args.level.now) (set i)) (later i))
 
 pub with_items-requires-clause-items : goal.with_items-requires-clause-items

@@ -5,7 +5,7 @@ use Rattle.std.proofs.lemmas.List.{length-replicate, nil_from_length}
 use Rattle.mine_round.specs.Totals.{HoldsNumbersBelow}
 use Rattle.mine_phases.specs.Placed.{placed}
 use Rattle.mine_phases.specs.WorkerResult.{numbers_of}
-use Rattle.mine_phases.proofs.Placing.{AreAll, all_at_first, room_for_front, all_behind, placed-append, none_vacant}
+use Rattle.mine_phases.proofs.Placing.{AreAll, all_at_first, room_for_front, all_after, placed-append, none_vacant}
 use Rattle.mine_phases.proofs.placed.collected.Goals as goal
 
 pub loop-list-init : goal.loop-list-init
@@ -39,7 +39,7 @@ loop-list-preserved g c =
       can = tt;
       ends = tt;
       all = subst (λ p. AreAll p (flat_map (λ list. numbers_of list.items) left)) (sym put)
-          (all_behind places list.items (flat_map (λ list. numbers_of list.items) left)
+          (all_after places list.items (flat_map (λ list. numbers_of list.items) left)
           (subst (λ l. AreAll places (flat_map (λ list. numbers_of list.items) l)) steps c.loop-list.invariant.all));
       rest = ap (λ p. placed p (flat_map (λ list. list.items) left)) put ∙ sym (placed-append places list.items (flat_map (λ list. list.items) left))
           ∙ ap (λ l. placed places (flat_map (λ list. list.items) l)) (sym steps) ∙ c.loop-list.invariant.rest;

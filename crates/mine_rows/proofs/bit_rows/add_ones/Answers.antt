@@ -29,7 +29,7 @@ loop-rest-preserved c =
     (lowest_within ones gone (let fits = c.ranges.ones.fits in omega arith) (subst (λ n. 0 < n) inv.rest some)) in
     let shifted : rest / 2 ^ zeros / 2 ≡ ones / 2 ^ (gone + zeros + 1) =
     ap (λ n. n / 2 ^ zeros / 2 ^ 1) inv.rest ∙ ap (λ n. n / 2 ^ 1) (shr-shr ones gone zeros) ∙ shr-shr ones (gone + zeros) 1 in
-    let exponent : gone + zeros + 1 ≡ next + 1 - start = omega (arith, inv.behind) in
+    let exponent : gone + zeros + 1 ≡ next + 1 - start = omega (arith, inv.after) in
     let moved : (x : ℕ) → next ≢ x → get_or c.if-place-words.words x 0 ≡ get_or now x 0 =
     λ x differ. elim c.if-place-words.branch as (λ b. get_or c.if-place-words.words x 0 ≡ get_or now x 0) [
       | then-place-words w ↦
@@ -44,28 +44,28 @@ loop-rest-preserved c =
     ] in
     let bit : (k : ℕ) → bit_at ones (gone + k) ≡ bit_at rest k = λ k. sym (bit_of_rest ones gone k) ∙ ap (λ n. bit_at n k) (sym inv.rest) in
     record {
-      behind = omega (arith, inv.behind);
-      within = omega (arith, inv.behind, within);
+      after = omega (arith, inv.after);
+      within = omega (arith, inv.after, within);
       rest = shifted ∙ ap (λ n. ones / 2 ^ n) exponent;
       at = λ low below inside. elim (cases_lt (start + low) place) [
         | inl before ↦ moved (start + low) (λ e. absurd (omega (arith, e, before))) ∙ inv.at low before inside
-        | inr behind ↦ elim (cases_eq next (start + low)) [
+        | inr after ↦ elim (cases_eq next (start + low)) [
           | inl e ↦
-              (let is : low ≡ gone + zeros = omega (arith, e, inv.behind) in
+              (let is : low ≡ gone + zeros = omega (arith, e, inv.after) in
               let has : has_bit low ones ≡ true = ap (λ n. has_bit n ones) is ∙ ap (λ n. eqb n 1) (bit zeros ∙ lowest.1) in
               ap (λ n. get_or c.if-place-words.words n 0) (sym e) ∙ put (omega (arith, e, inside, c.loop-rest.auto.words))
               ∙ ap (λ n. bit_or n c.args.bit) (inv.others next (inr (omega arith))) ∙ ap (λ n. bit_or (get_or old n 0) c.args.bit) e
               ∙ sym (ap (λ b. cond b (bit_or (get_or old (start + low) 0) c.args.bit) (get_or old (start + low) 0)) has))
           | inr differ ↦
               (let k = start + low - place in
-              let is : low ≡ gone + k = omega (arith, behind, inv.behind) in
-              let none : has_bit low ones ≡ false = ap (λ n. has_bit n ones) is ∙ ap (λ n. eqb n 1) (bit k ∙ lowest.2 k (omega (arith, behind, below, differ))) in
-              moved (start + low) differ ∙ inv.others (start + low) (inr behind)
+              let is : low ≡ gone + k = omega (arith, after, inv.after) in
+              let none : has_bit low ones ≡ false = ap (λ n. has_bit n ones) is ∙ ap (λ n. eqb n 1) (bit k ∙ lowest.2 k (omega (arith, after, below, differ))) in
+              moved (start + low) differ ∙ inv.others (start + low) (inr after)
               ∙ sym (ap (λ b. cond b (bit_or (get_or old (start + low) 0) c.args.bit) (get_or old (start + low) 0)) none))
         ]
       ];
       others = λ x apart. elim apart [
-        | inl low ↦ moved x (λ e. absurd (omega (arith, e, low, inv.behind))) ∙ inv.others x (inl low)
+        | inl low ↦ moved x (λ e. absurd (omega (arith, e, low, inv.after))) ∙ inv.others x (inl low)
         | inr high ↦ moved x (λ e. absurd (omega (arith, e, high))) ∙ inv.others x (inr (omega (arith, high)))
       ];
     }
@@ -81,12 +81,12 @@ returns c =
       long = c.loop-rest.auto.words;
       at = λ low small inside. elim (cases_lt (start + low) place) [
         | inl before ↦ inv.at low before inside
-        | inr behind ↦
+        | inr after ↦
             (let k = start + low - place in
-            let is : low ≡ place - start + k = omega (arith, behind, inv.behind) in
+            let is : low ≡ place - start + k = omega (arith, after, inv.after) in
             let none : has_bit low ones ≡ false =
             ap (λ n. has_bit n ones) is ∙ ap (λ n. eqb n 1) (sym (bit_of_rest ones (place - start) k) ∙ ap (λ n. bit_at n k) over ∙ bit_at-zero k) in
-            inv.others (start + low) (inr behind)
+            inv.others (start + low) (inr after)
             ∙ sym (ap (λ b. cond b (bit_or (get_or c.args.words.now (start + low) 0) c.args.bit) (get_or c.args.words.now (start + low) 0)) none))
       ];
       others = λ x apart. elim apart [

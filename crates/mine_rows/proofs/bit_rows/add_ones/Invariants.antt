@@ -5,7 +5,7 @@ use Rattle.mine_rows.proofs.bit_rows.add_ones.Given as goal
 
 abbrev pub invariant-loop-rest : goal.invariant-loop-rest
 invariant-loop-rest l = record {
-  behind : l.start ≤ l.place;
+  after : l.start ≤ l.place;
   within : l.place ≤ l.start + 64;
   rest : l.rest ≡ l.ones / 2 ^ (l.place - l.start);
   at : (low : ℕ) → l.start + low < l.place → l.start + low < length l.initial.words

@@ -18,50 +18,50 @@ word-shorter-requires c =
     let packed = c.args.packed.now in
     let code = code_of coding packed in
     let is = subst IsCoding c.self.view_is c.self.invariant in
-    let above = c.loop-behind.behind in
+    let above = c.loop-after.after in
     let number = c.number-number.ensures in
     let shorter = less_at coding.item_bits c.self.inside.item_bits c.number-number.result (number_of coding code) above c.without_place-shorter.result
     c.without_place-shorter.ensures (ap (λ (k : Coding). k.item_bits) c.self.view_is) number in
-    let less : above < size_of coding code = omega (arith, c.loop-behind-test.true, c.code_size-size.ensures) in
+    let less : above < size_of coding code = omega (arith, c.loop-after-test.true, c.code_size-size.ensures) in
     record {
       fits = subst (λ s. FitsWord coding (s - 1) c.without_place-shorter.result 0) (sym c.code_size-size.ensures)
           (subst (λ n. FitsWord coding (size_of coding code - 1) n 0) (sym shorter) (shorter_fits coding is packed c.requires above less));
     }
 
-pub loop-behind-preserved : goal.loop-behind-preserved
-loop-behind-preserved c =
+pub loop-after-preserved : goal.loop-after-preserved
+loop-after-preserved c =
     let coding = c.args.self.now in
     let packed = c.args.packed.now in
     let code = code_of coding packed in
     let is = subst IsCoding c.self.view_is c.self.invariant in
-    let above = c.loop-behind.behind in
+    let above = c.loop-after.after in
     let size = c.code_size-size.result in
     let number = c.number-number.ensures in
     let shorter = less_at coding.item_bits c.self.inside.item_bits c.number-number.result (number_of coding code) above c.without_place-shorter.result
     c.without_place-shorter.ensures (ap (λ (k : Coding). k.item_bits) c.self.view_is) number in
-    let less : above < size_of coding code = omega (arith, c.loop-behind-test.true, c.code_size-size.ensures) in
+    let less : above < size_of coding code = omega (arith, c.loop-after-test.true, c.code_size-size.ensures) in
     let word = subst (λ s. IsWordOf coding (s - 1) (shorter_number coding.item_bits (number_of coding code) (above * coding.item_bits)) 0 c.word-shorter.result) c.code_size-size.ensures
     (subst (λ n. IsWordOf coding (size - 1) n 0 c.word-shorter.result) shorter c.word-shorter.ensures) in
     let place = c.find_code-place.result in
     let has : place ≢ NOWHERE → HasCode coding.count_bits c.args.words.now place (code_of coding c.word-shorter.result) =
     subst (λ n. place ≢ NOWHERE → HasCode coding.count_bits c.args.words.now place n) c.code.ensures
     (subst (λ b. place ≢ NOWHERE → HasCode b c.args.words.now place c.code.result) (ap (λ (k : Coding). k.count_bits) c.self.view_is) c.find_code-place.ensures) in
-    let full : length c.loop-behind.found ≡ 63 = search rules in
+    let full : length c.loop-after.found ≡ 63 = search rules in
     let at = size - (above + 1) in
     let short : at < 63 = omega (arith, c.code_size-size.ensures, c.requires.code.size, is.sizes) in
     let here : at ≡ size_of coding code - 1 - above = omega (arith, c.code_size-size.ensures) in
     record {
-      few = omega (arith, c.loop-behind-test.true);
+      few = omega (arith, c.loop-after-test.true);
       found = λ plain all k from to. elim (cases_eq k at) [
         | inl same ↦
             (let one = found_without coding is packed c.requires above less c.word-shorter.result word plain c.args.words.now place has in
-            subst (λ n. IsPlaceWithout (map (kept coding plain) c.args.words.now) (set_of coding code) (get_or (set_of coding code) n 0) (get_or (set c.loop-behind.found at place) n NOWHERE)) (sym same)
+            subst (λ n. IsPlaceWithout (map (kept coding plain) c.args.words.now) (set_of coding code) (get_or (set_of coding code) n 0) (get_or (set c.loop-after.found at place) n NOWHERE)) (sym same)
             (subst (IsPlaceWithout (map (kept coding plain) c.args.words.now) (set_of coding code) (get_or (set_of coding code) at 0))
-            (sym (get_or-set_same c.loop-behind.found at place NOWHERE (omega (arith, full, short))))
+            (sym (get_or-set_same c.loop-after.found at place NOWHERE (omega (arith, full, short))))
             (subst (λ n. IsPlaceWithout (map (kept coding plain) c.args.words.now) (set_of coding code) (get_or (set_of coding code) n 0) place) (sym here) one)))
         | inr other ↦
-            subst (IsPlaceWithout (map (kept coding plain) c.args.words.now) (set_of coding code) (get_or (set_of coding code) k 0)) (sym (get_or-set_other c.loop-behind.found at k place NOWHERE other))
-            (c.loop-behind.invariant.found plain all k (omega (arith, from, other)) to)
+            subst (IsPlaceWithout (map (kept coding plain) c.args.words.now) (set_of coding code) (get_or (set_of coding code) k 0)) (sym (get_or-set_other c.loop-after.found at k place NOWHERE other))
+            (c.loop-after.invariant.found plain all k (omega (arith, from, other)) to)
       ];
     }
 
@@ -71,4 +71,4 @@ returns c plain all k less inside =
     let packed = c.args.packed.now in
     let is = subst IsCoding c.self.view_is c.self.invariant in
     let size = set_length coding is packed c.requires in
-    c.loop-behind.invariant.found plain all k (omega (arith, c.loop-behind-test.false, c.loop-behind.invariant.few)) (omega (arith, inside, size, c.code_size-size.ensures))
+    c.loop-after.invariant.found plain all k (omega (arith, c.loop-after-test.false, c.loop-after.invariant.few)) (omega (arith, inside, size, c.code_size-size.ensures))

@@ -1,9 +1,7 @@
 use Rattle.std.proofs.Common.{◌≡◌, ◌+◌, ◌⊎◌, ◌++◌, [], true, false, ap, inl, inr, ◌∙◌, arith}
 use Rattle.std.proofs.lemmas.List.Sums.{sum_by-append}
-use Rattle.basket_sets.specs.Database.{MOST_WEIGHT}
 use Rattle.basket_sets.specs.Support.{total_of, weight_at}
-use Rattle.basket_read.proofs.GatheredLemmas.{joined, few_together}
-use Rattle.basket_read.proofs.RoomLemmas.{merely_at_most}
+use Rattle.basket_read.proofs.GatheredLemmas.{joined}
 use Rattle.basket_read.proofs.gathered.GatheredBaskets.append.Goals as goal
 use Rattle.basket_read.proofs.gathered.GatheredBaskets.append.Goals.{else-other-via-then-other+else-not-counts, else-other-via-else-other}
 
@@ -11,26 +9,22 @@ pub append-requires : goal.append-requires
 append-requires c = omega (arith, c.weight.ensures, c.weight-2.ensures, c.saturating_add-weight.ensures, c.if-weight-gt-MAX_WEIGHT.false)
 
 pub append-requires-2-clause-few : goal.append-requires-2-clause-few
-append-requires-2-clause-few c = few_together c.args.self.now c.args.other c.requires c.if-self.false c.if-other-2.false
+append-requires-2-clause-few c = c.requires c.if-other-2.false c.if-self.false
 
 pub append-requires-2-clause-light : goal.append-requires-2-clause-light
 append-requires-2-clause-light c = omega (arith, c.weight.ensures, c.weight-2.ensures, c.saturating_add-weight.ensures, c.if-weight-gt-MAX_WEIGHT.false)
 
 pub count-requires : goal.count-requires
 count-requires c =
-    merely_at_most (c.append.new.self.total + total_of c.append-2.new.self) MOST_WEIGHT c.requires
-    (λ w.
-    let counted = c.in_ok-append.ensures w.4.past w.5.past w.4.counted w.5.counted in
-    let past = sum_by-append (weight_at []) w.4.past w.5.past in
     let kept = ap total_of c.in_ok-append-2.ensures.ok ∙ sum_by-append (weight_at []) c.args.self.now.baskets c.args.other.baskets in
-    omega (arith, counted.total, w.4.counted.total, w.5.counted.total, c.weight.ensures, c.weight-2.ensures, c.saturating_add-weight.ensures, c.if-weight-gt-MAX_WEIGHT.false))
+    omega (arith, c.in_ok-append.ensures.total, c.weight.ensures, c.weight-2.ensures, c.saturating_add-weight.ensures, c.if-weight-gt-MAX_WEIGHT.false)
 
 pub returns-clause-baskets : goal.returns-clause-baskets
 returns-clause-baskets c = λ counting apart baskets more h k _.
     let gathered = c.args.self.now in
     let may : ((gathered.counting ≡ true) × (gathered.baskets ≡ [])) ⊎ (c.args.other.counting ≡ false) =
     elim c.else-other.branch [ else-other-via-then-other+else-not-counts w ↦ inl (w.counts.ensures w.if-not-counts.false) | else-other-via-else-other w ↦ inr w.if-other.false ] in
-    let (now, same, counted, all) = c.in_ok-count.ensures.baskets _ (c.in_ok-append.ensures h.past k.past h.counted k.counted) in
+    let (now, same, counted, all) = c.in_ok-count.ensures.baskets _ (c.in_ok-append.ensures.counted h.past k.past h.counted k.counted) in
     joined gathered c.args.other c.count.new.self counting apart baskets more h k c.if-self.false c.if-other-2.false (c.in_ok-count.ensures.heavy ∙ c.if-self.false) c.in_ok-count.ensures.counting
     (omega (arith, c.weight.ensures, c.weight-2.ensures, c.saturating_add-weight.ensures, c.if-weight-gt-MAX_WEIGHT.false)) may
     (now, same, counted, all ∙ ap (λ l. (h.past ++ k.past) ++ l) c.in_ok-append-2.ensures.ok)

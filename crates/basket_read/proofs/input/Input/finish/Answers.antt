@@ -17,4 +17,4 @@ returns c = λ counting bytes r.
     let none = sym (c.in_default.ensures counting bytes r) in
     subst (ReturnsBy (Gathers counting) c.finish.result)
     (ap (λ l. if_light (baskets_of l)) (text_is c.args.self counting bytes r none) ∙ sym (ap (λ f. answer_of f (baskets_of (text_of bytes))) none))
-    (c.finish.ensures counting (text_after c.args.self.front bytes) r.text)
+    (c.finish.ensures counting (text_after c.args.self.beginning bytes) r.text)

@@ -24,19 +24,19 @@ pub loop-self-preserved : goal.loop-self-preserved
 loop-self-preserved c =
     let i = c.loop-self.taken in
     let count = c.number_at-digits.result.count in
-    let blanks = c.blanks_behind-blanks.result in
+    let blanks = c.blanks_after-blanks.result in
     let rest = take (length c.args.bytes.now - i) (drop i c.args.bytes.now) in
-    let behind = take (length c.args.bytes.now - (i + count)) (drop (i + count) c.args.bytes.now) in
+    let after = take (length c.args.bytes.now - (i + count)) (drop (i + count) c.args.bytes.now) in
     let digits = c.number_at-digits.ensures in
     let within = within_both c.args.bytes.now i count c.loop-self.invariant.within digits.within in
     record {
-      within = within_both c.args.bytes.now (i + count) blanks within c.blanks_behind-blanks.ensures.within;
+      within = within_both c.args.bytes.now (i + count) blanks within c.blanks_after-blanks.ensures.within;
       between = ap (λ (s : NumbersState). s.begun) c.in_ok-add.ensures ∙ begun_kept (ltb 0 count) c.loop-self.self.begun _ c.loop-self.self.ended.items ∙ c.loop-self.invariant.between;
       numbers = λ text s.
           subst (IsNumbersSoFar c.add.new.self)
-          (ap (λ l. l ++ take blanks behind) (after_both text c.args.bytes.now i count) ∙ after_both text c.args.bytes.now (i + count) blanks)
+          (ap (λ l. l ++ take blanks after) (after_both text c.args.bytes.now i count) ∙ after_both text c.args.bytes.now (i + count) blanks)
           (adds c.loop-self.self (text ++ take i c.args.bytes.now) (c.loop-self.invariant.numbers text s) c.loop-self.invariant.between (take count rest) count c.number_at-digits.result.value
-          (length-take-le count rest digits.within) digits.digits digits.value digits.bound c.add.new.self (take blanks behind) c.blanks_behind-blanks.ensures.blanks
-          (λ none. absurd (let some = c.if-blanks-eq0.false in let few = c.blanks_behind-blanks.ensures.within in omega (arith, length-take blanks behind, ap length none)))
+          (length-take-le count rest digits.within) digits.digits digits.value digits.bound c.add.new.self (take blanks after) c.blanks_after-blanks.ensures.blanks
+          (λ none. absurd (let some = c.if-blanks-eq0.false in let few = c.blanks_after-blanks.ensures.within in omega (arith, length-take blanks after, ap length none)))
           c.in_ok-add.ensures);
     }

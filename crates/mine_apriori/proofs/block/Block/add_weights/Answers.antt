@@ -13,7 +13,7 @@ overflow_add-counts-in-loop-number c =
     let set = c.requires.places.0 in
     let is = c.weight.ensures set c.requires.places.1 in
     let falls = support_falls baskets (set ++ get_or c.args.items.now c.loop-number.number 0 ∷ []) [] refl in
-    let same = c.loop-number.invariant.behind at (omega arith) in
+    let same = c.loop-number.invariant.after at (omega arith) in
     let light = c.requires.light c.loop-number.number c.loop-number-test.true in
     record { fits = omega (arith, is, falls, same, light) }
 
@@ -28,9 +28,9 @@ loop-number-preserved c =
     let inv = c.loop-number.invariant in
     let within : start + number < length counts = omega (arith, c.requires.within, c.loop-number-test.true, c.loop-number.auto.counts) in
     record {
-      added = λ set are. one_added baskets set items start old counts number c.weight.result within (c.weight.ensures set are) (inv.added set are) (inv.behind (start + number) (omega arith));
+      added = λ set are. one_added baskets set items start old counts number c.weight.result within (c.weight.ensures set are) (inv.added set are) (inv.after (start + number) (omega arith));
       before = λ k below. others_stay old counts (start + number) _ k (λ e. absurd (omega (arith, e, below))) (inv.before k below);
-      behind = λ k from. others_stay old counts (start + number) _ k (λ e. absurd (omega (arith, e, from))) (inv.behind k (omega (arith, from)));
+      after = λ k from. others_stay old counts (start + number) _ k (λ e. absurd (omega (arith, e, from))) (inv.after k (omega (arith, from)));
     }
 
 pub returns : goal.returns
@@ -46,5 +46,5 @@ returns c set are =
           inv.added set are k (omega (arith, below, c.loop-number-test.false))
           ∙ ap (λ s. get_or c.args.counts.now (start + k) 0 + support_of baskets s) (sym (get_or-map (λ item. set ++ item ∷ []) items k 0 [] below));
       before = inv.before;
-      behind = λ k from. inv.behind k (omega (arith, from, long, c.loop-number.auto.number-end));
+      after = λ k from. inv.after k (omega (arith, from, long, c.loop-number.auto.number-end));
     }

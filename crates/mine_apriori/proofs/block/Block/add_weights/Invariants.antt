@@ -9,5 +9,5 @@ invariant-loop-number l = record {
   added : (set : List ℕ) → ArePlacesOf (placed l.self) set l.places
       → (k : ℕ) → k < l.number → get_or l.counts (l.start + k) 0 ≡ get_or l.initial.counts (l.start + k) 0 + support_of (placed l.self) (set ++ get_or l.items k 0 ∷ []);
   before : (k : ℕ) → k < l.start → get_or l.counts k 0 ≡ get_or l.initial.counts k 0;
-  behind : (k : ℕ) → l.start + l.number ≤ k → get_or l.counts k 0 ≡ get_or l.initial.counts k 0;
+  after : (k : ℕ) → l.start + l.number ≤ k → get_or l.counts k 0 ≡ get_or l.initial.counts k 0;
 }

@@ -10,7 +10,7 @@ use Rattle.mine_round.specs.Record.{with_piece}
 use Rattle.mine_round.specs.SeatView.{SeatView}
 use Rattle.mine_phases.specs.Classes.{claimed_size, ranks_of}
 use Rattle.mine_phases.specs.RoundTally.{still}
-use Rattle.mine_phases.proofs.theory.Claims.{behind, behind-le, behind_push}
+use Rattle.mine_phases.proofs.theory.Claims.{after, after-le, after_push}
 use Rattle.mine_phases.proofs.classes.Classes.share.Goals as goal
 
 -- what a seat has claimed that looked at the counter, claimed a piece and told of it
@@ -25,8 +25,8 @@ loop-alloc-smaller g c =
     let number = c.in-Some.claimed in
     let rises : All (λ p. p < number) before = subst (λ (s : SeatView). All (λ p. p < number) s.held.claimed) c.are_over.ensures.same c.in-Some.ensures.rises in
     let claimed = claimed_next c.loop-alloc.seat c.are_over.new.seat c.claim_piece.new.seat c.mine-back.result.0 number c.are_over.ensures.same c.in-Some.ensures.piece.1 c.mine-back.ensures.same in
-    let low = behind-le before number rises in
-    let high = ap behind claimed ∙ behind_push before number rises in
+    let low = after-le before number rises in
+    let high = ap after claimed ∙ after_push before number rises in
     omega (arith, low, high, c.in-Some.ensures.piece.0, c.args.self.now.of_round)
 
 pub loop-alloc-preserved : goal.loop-alloc-preserved
@@ -39,7 +39,7 @@ loop-alloc-preserved g c =
     let number = c.in-Some.claimed in
     let rises : All (λ p. p < number) before = subst (λ (s : SeatView). All (λ p. p < number) s.held.claimed) c.are_over.ensures.same c.in-Some.ensures.rises in
     let claimed = claimed_next c.loop-alloc.seat c.are_over.new.seat c.claim_piece.new.seat c.mine-back.result.0 number c.are_over.ensures.same c.in-Some.ensures.piece.1 c.mine-back.ensures.same in
-    let high = ap behind claimed ∙ behind_push before number rises in
+    let high = ap after claimed ∙ after_push before number rises in
     let seat = ap (λ h. slice_index h.added 0) c.in-Some.ensures.piece.1 in
     let looked = ap (λ l. slice_index l 0) c.are_over.ensures.added in
     let told = rw c.in_default-mined.is at c.mine-back.ensures.told in

@@ -4,21 +4,21 @@ use Rattle.mine_classes.specs.Tables.{AreTablesOf}
 use Rattle.mine_phases.specs.Classes.{AreMined, claimed_size, ranks_of}
 use Rattle.mine_phases.specs.RoundTally.{CountsSets}
 use Rattle.mine_phases.specs.WorkerResult.{numbers_of}
-use Rattle.mine_phases.proofs.theory.Claims.{behind}
+use Rattle.mine_phases.proofs.theory.Claims.{after}
 use Rattle.mine_phases.proofs.classes.Classes.share.Given as goal
 
 abbrev pub invariant-loop-alloc : goal.invariant-loop-alloc
 invariant-loop-alloc g l = record {
   counts : CountsSets l.self.round.now l.seat;
   tables : AreTablesOf l.self.ranks l.tables;
-  within : behind l.seat.held.claimed ≤ l.self.pieces;
+  within : after l.seat.held.claimed ≤ l.self.pieces;
   numbers : numbers_of l.values.items ≡ flat_map (ranks_of (g.M.ClassMiner.coding_of l.self.miner.now) l.self.pieces) l.seat.held.claimed;
   each : AreMined (g.M.ClassMiner.coding_of l.self.miner.now) (g.M.ClassMiner.is_work l.self.miner.now) l.values.items;
   told : slice_index l.seat.held.added 0 ≡ sum_by (claimed_size (g.M.ClassMiner.coding_of l.self.miner.now) l.self.pieces) l.seat.held.claimed;
 }
 
 abbrev pub decreases-loop-alloc : goal.decreases-loop-alloc
-decreases-loop-alloc g l = l.self.pieces - behind l.seat.held.claimed
+decreases-loop-alloc g l = l.self.pieces - after l.seat.held.claimed
 
 abbrev pub ghosts-mine : goal.ghosts-mine
 ghosts-mine g a = record { start = a.seat }

@@ -3,14 +3,14 @@ use Rattle.std.specs.List.{flat_map}
 use Rattle.std.proofs.lemmas.List.{append-nil}
 use Rattle.std.proofs.lemmas.List.Concat.{flat_map-append}
 use Rattle.mine_phases.specs.Pieces.{parts_of}
-use Rattle.mine_phases.proofs.theory.Claims.{behind, behind-le, behind_push}
+use Rattle.mine_phases.proofs.theory.Claims.{after, after-le, after_push}
 use Rattle.mine_phases.proofs.pieces.Pieces.values.Goals as goal
 
 pub loop-piece-smaller : goal.loop-piece-smaller
 loop-piece-smaller g c =
     let before = c.loop-piece.seat.held.claimed in
-    let low = behind-le before c.in-Some.piece c.in-Some.ensures.rises in
-    let high = ap (λ h. behind h.claimed) c.in-Some.ensures.piece.1 ∙ behind_push before c.in-Some.piece c.in-Some.ensures.rises in
+    let low = after-le before c.in-Some.piece c.in-Some.ensures.rises in
+    let high = ap (λ h. after h.claimed) c.in-Some.ensures.piece.1 ∙ after_push before c.in-Some.piece c.in-Some.ensures.rises in
     let within = c.in-Some.ensures.piece.0 in omega arith
 
 pub loop-piece-preserved : goal.loop-piece-preserved
@@ -20,7 +20,7 @@ loop-piece-preserved g c =
     let piece = c.in-Some.piece in
     let pieces = c.args.self.now.phase.now.cutting.pieces in
     let claimed = ap (λ h. h.claimed) c.in-Some.ensures.piece.1 in
-    let high = ap behind claimed ∙ behind_push before.claimed piece c.in-Some.ensures.rises in
+    let high = ap after claimed ∙ after_push before.claimed piece c.in-Some.ensures.rises in
     let within = c.in-Some.ensures.piece.0 in
     let part = parts_of (g.P.PartWork.part_count c.args.self.now.work.now) pieces in
     record {

@@ -3,7 +3,7 @@ use Rattle.std.specs.Prelude.{slice_range}
 use Rattle.std.proofs.lemmas.List.{take_at}
 use Rattle.basket_ranks.specs.Shards.{shard_of}
 use Rattle.basket_sets.specs.Support.{support_of, total_of}
-use Rattle.mine_phases.proofs.theory.Claims.{behind, behind-le, behind_push}
+use Rattle.mine_phases.proofs.theory.Claims.{after, after-le, after_push}
 use Rattle.mine_sets.proofs.SupportLemmas.{HasAdded, added_fits, index_zero, nothing_added, part_added, part_fits}
 use Rattle.mine_sets.proofs.supports.SetCounting.add_supports.Goals as goal
 
@@ -13,7 +13,7 @@ loop-piece-init g c =
     let pieces = c.args.self.now.phase.now.cutting.pieces in
     record {
       own = refl;
-      within = let none = ap (λ h. behind h.claimed) c.requires.unused in omega arith;
+      within = let none = ap (λ h. after h.claimed) c.requires.unused in omega arith;
       none = ap (λ h. h.added) c.requires.unused;
       counted = subst (λ claimed. HasAdded c.args.self.now.baskets.now pieces sets claimed c.in_ok-counts.counts.items) (sym (ap (λ h. h.claimed) c.requires.unused))
           (subst (HasAdded c.args.self.now.baskets.now pieces sets []) (sym (c.in_ok-counts.ensures.items_if_clones_equal (λ y e. e) ∙ ap (λ n. replicate n 0) c.len.ensures)) (nothing_added c.args.self.now.baskets.now pieces sets));
@@ -34,8 +34,8 @@ add-requires-clause-light g c k below =
 pub loop-piece-smaller : goal.loop-piece-smaller
 loop-piece-smaller g c =
     let before = c.loop-piece.seat.held.claimed in
-    let low = behind-le before c.in-Some.piece c.in-Some.ensures.rises in
-    let high = ap (λ h. behind h.claimed) c.in-Some.ensures.piece.1 ∙ behind_push before c.in-Some.piece c.in-Some.ensures.rises in
+    let low = after-le before c.in-Some.piece c.in-Some.ensures.rises in
+    let high = ap (λ h. after h.claimed) c.in-Some.ensures.piece.1 ∙ after_push before c.in-Some.piece c.in-Some.ensures.rises in
     let within = c.in-Some.ensures.piece.0 in omega arith
 
 pub loop-piece-preserved : goal.loop-piece-preserved
@@ -47,7 +47,7 @@ loop-piece-preserved g c =
     let pieces = c.args.self.now.phase.now.cutting.pieces in
     let piece = c.in-Some.piece in
     let claim = c.in-Some.ensures.piece.1 in
-    let high = ap (λ h. behind h.claimed) claim ∙ behind_push before.claimed piece c.in-Some.ensures.rises in
+    let high = ap (λ h. after h.claimed) claim ∙ after_push before.claimed piece c.in-Some.ensures.rises in
     let within = c.in-Some.ensures.piece.0 in
     let part : slice_range baskets c.shard-start.result.0 c.shard-start.result.1 ≡ shard_of piece pieces baskets = λ i. slice_range baskets (c.shard-start.ensures.start i) (c.shard-start.ensures.end i) in
     let value = c.deref_mut.ensures.value in
