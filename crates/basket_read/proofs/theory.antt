@@ -4,3 +4,4 @@ pub mod Cuts
 pub mod Gathered
 pub mod Grammar
 pub mod Numbers
+pub mod Reads

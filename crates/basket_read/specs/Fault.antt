@@ -1,5 +1,5 @@
 -- The faults of inputs, and what readers return.
-use Rattle.std.specs.Prelude.{◌≡◌, ◌≢◌, ℕ, List, Option, Some, Result, Ok, Err, Vec}
+use Rattle.std.specs.Prelude.{◌≡◌, ◌≢◌, ℕ, Bool, true, false, List, Option, Some, IfSome, Result, Ok, Err, Vec}
 use Rattle.basket_read.specs.declared.fault.ReadFault.{ReadFault}
 use Rattle.basket_read.specs.declared.fault.ReadFault.TheVariants.{Memory, Read, TooLong, Byte, Number, NotText, ShortRecord, Heavy, Weight, Count, NoCount, NoTotal, Subset, RecordCount}
 
@@ -29,13 +29,32 @@ abbrev pub ReturnsBy : {X Y : Type 0} → (X → Result Y ReadFault → Type 0) 
 ReturnsBy fits (Ok read) defined = fits read defined
 ReturnsBy fits (Err fault) defined = fault ≢ Memory → defined ≡ Err fault
 
+-- what was read is what is defined; of a list, and of a list with something else
+abbrev pub IsDefined : {X : Type 0} → X → Result X ReadFault → Type 0
+IsDefined read defined = defined ≡ Ok read
+
+abbrev pub IsDefinedList : {X A : Type 0} → Vec X A → Result (List X) ReadFault → Type 0
+IsDefinedList read defined = defined ≡ Ok read.items
+
+abbrev pub AreDefined : {X Y A : Type 0} → Vec X A × Y → Result (List X × Y) ReadFault → Type 0
+AreDefined read defined = defined ≡ Ok (read.0.items, read.1)
+
 -- except if memory is out, the result is the one that is defined
 abbrev pub Returns : {X : Type 0} → Result X ReadFault → Result X ReadFault → Type 0
-Returns = ReturnsBy (λ read defined. defined ≡ Ok read)
+Returns = ReturnsBy IsDefined
 
--- the same of a list, and of a list with something else
 abbrev pub ReturnsList : {X A : Type 0} → Result (Vec X A) ReadFault → Result (List X) ReadFault → Type 0
-ReturnsList = ReturnsBy (λ read defined. defined ≡ Ok read.items)
+ReturnsList = ReturnsBy IsDefinedList
 
 abbrev pub ReturnsBoth : {X Y A : Type 0} → Result (Vec X A × Y) ReadFault → Result (List X × Y) ReadFault → Type 0
-ReturnsBoth = ReturnsBy (λ read defined. defined ≡ Ok (read.0.items, read.1))
+ReturnsBoth = ReturnsBy AreDefined
+
+-- what a reader promises that had these bytes left and then failed or not: what was read fits the result that is defined of all its bytes; or, except if memory is out, the fault is that of this result; or it failed, and the fault is such a one. Only then it is `Read`
+abbrev pub Reads : {X Y : Type 0} → (X → Result Y ReadFault → Type 0) → (List ℕ → Result Y ReadFault) → (ReadFault → Type 0) → Option (List ℕ) → Bool → Result X ReadFault → Type 0
+Reads fits defined fails left failed (Ok read) = (failed ≡ false) × IfSome left (λ bytes. fits read (defined bytes))
+Reads fits defined fails left failed (Err fault) =
+    (failed ≡ false → IfSome left (λ bytes. fault ≢ Memory → defined bytes ≡ Err fault)) × (failed ≡ true → fails fault) × (fault ≡ Read → failed ≡ true)
+
+-- the fault is that of the reader
+abbrev pub IsRead : ReadFault → Type 0
+IsRead fault = fault ≡ Read
