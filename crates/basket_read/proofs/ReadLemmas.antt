@@ -11,14 +11,15 @@ use Rattle.basket_sets.specs.Database.{MOST_WEIGHT}
 use Rattle.basket_read.specs.declared.fault.ReadFault.{ReadFault}
 use Rattle.basket_read.specs.declared.fault.ReadFault.TheVariants.{Memory, Read, TooLong, Byte, Number, Heavy}
 use Rattle.basket_read.specs.Fimi.{is_line, line_after, fault_at, first_fault, or_else, fault_in, text_of, settled_fault, baskets_of, answer_of, fimi_of, MOST_BYTES}
-use Rattle.basket_read.specs.ItemCounts.{AreLightCounts, Counts}
-use Rattle.basket_read.specs.Read.{CountsAs, FailsAfter, Reads, ReadsAs, Stops}
-use Rattle.basket_read.specs.Fault.{Returns, ReturnsBy, ReturnsFault}
-use Rattle.basket_read.specs.GatheredBaskets.{Gathers}
+use Rattle.basket_read.specs.ItemCounts.{CountsDefined}
+use Rattle.basket_read.specs.Read.{FailsAfter, ReadsFimi}
+use Rattle.basket_read.specs.Fault.{IsDefined, Returns, ReturnsBy, ReturnsFault}
+use Rattle.basket_read.specs.GatheredBaskets.{AreGathered, Gathers}
 use Rattle.basket_read.specs.declared.item_counts.ItemCounts.{ItemCounts}
 use Rattle.basket_read.proofs.InputLemmas.{settled_stays, fault-settled}
 use Rattle.basket_read.proofs.PartsLemmas.{answer_told, AreKept}
 use Rattle.basket_read.proofs.theory.Grammar as grammar
+use Rattle.basket_read.proofs.theory.Reads.{Says, says}
 
 -- ---- no input has the fault of a reader
 
@@ -70,7 +71,7 @@ of_all_bytes (Some all) (Some rest) (Some left) given taken P p q none end h =
 
 -- a reader that failed after the bytes that it gave
 pub fails_after : (old now new : Option (List ℕ)) (given : List ℕ) (fault : ReadFault) → Consumes old now given → Keeps now new → (fault ≢ Memory → fault ≡ unwrap_or (fault_in given) Read)
-    → IfSome old (λ bytes. FailsAfter bytes new (Err fault))
+    → FailsAfter old new fault
 fails_after None now new given fault p kept is = tt
 fails_after (Some all) None new given fault p kept is = absurd p
 fails_after (Some all) (Some rest) None given fault p kept is = absurd kept
@@ -86,97 +87,65 @@ unlike false e t = absurd cc
 pub told_fault : (given : List ℕ) (fault : ReadFault) → ReturnsFault fault (settled_fault given) → fault ≢ Memory → fault ≡ unwrap_or (fault_in given) Read
 told_fault given fault told no_memory = ap (λ f. unwrap_or f Read) (sym (fault-settled given fault (told no_memory)))
 
--- at a fault in the bytes that a reader gave, whether it failed after them or not
+-- a reader stops with a fault
+abbrev Stops : Option (List ℕ) → Option (List ℕ) → Bool → ReadFault → Type 0
+Stops old new failed fault = ReadsFimi (Gathers true) old new failed (Err fault)
+
+-- at a fault in the bytes that it gave, whether it failed after them or not
 pub stops_fault : (old new : Option (List ℕ)) (failed : Bool) (given : List ℕ) (fault : ReadFault) → Consumes old new given → ReturnsFault fault (settled_fault given)
     → Stops old new failed fault
-stops_fault old new failed given fault p told = record {
-  exact = λ _. refused_answer old new given fault p told;
-  fails = λ _. fails_after old new new given fault p (Keeps-refl new) (told_fault given fault told);
-  read_is_failed = λ e. absurd (not_settled given (subst (λ f. ReturnsFault f (settled_fault given)) e told (λ m. absurd cc)));
-}
+stops_fault old new failed given fault p told = (
+  λ _. refused_answer old new given fault p told,
+  λ _. fails_after old new new given fault p (Keeps-refl new) (told_fault given fault told),
+  λ e. absurd (not_settled given (subst (λ f. ReturnsFault f (settled_fault given)) e told (λ m. absurd cc))),
+)
 
--- where the reader failed after the bytes that it gave
+-- where it failed after the bytes that it gave
 pub stops_failed : (old now new : Option (List ℕ)) (failed : Bool) (given : List ℕ) (fault : ReadFault) → failed ≡ true → Consumes old now given → Keeps now new
     → fault ≡ unwrap_or (fault_in given) Read → Stops old new failed fault
-stops_failed old now new failed given fault broken p kept is = record {
-  exact = λ working. unlike failed working broken;
-  fails = λ _. fails_after old now new given fault p kept (λ _. is);
-  read_is_failed = λ _. broken;
-}
+stops_failed old now new failed given fault broken p kept is = (
+  λ working. unlike failed working broken,
+  λ _. fails_after old now new given fault p kept (λ _. is),
+  λ _. broken,
+)
 
 module _ (counting : Bool) (old new : Option (List ℕ)) (failed : Bool) where
-  pub stopped : (answer : Result ItemCounts ReadFault) (fault : ReadFault) → answer ≡ Err fault → Stops old new failed fault → Reads counting old new failed answer
-  stopped answer fault e stops = subst (Reads counting old new failed) (sym e) stops
+  pub stopped : (answer : Result ItemCounts ReadFault) (fault : ReadFault) → answer ≡ Err fault → Stops old new failed fault → ReadsFimi (Gathers counting) old new failed answer
+  stopped answer fault e stops = subst (ReadsFimi (Gathers counting) old new failed) (sym e) stops
 
   -- at the end of the bytes
   pub ended : (now : Option (List ℕ)) (given taken : List ℕ) (answer : Result ItemCounts ReadFault) → failed ≡ false → Consumes old now given → Consumes now new taken → taken ≡ [] → IsAtEnd new
-      → ReturnsBy (Gathers counting) answer (fimi_of given) → Reads counting old new failed answer
-  ended now given taken (Ok counts) working p q none end found = record {
-    working = working;
-    bytes = given;
-    all = of_all_bytes old now new given taken (λ all. all ≡ given) p q none end refl;
-    found = found;
-  }
-  ended now given taken (Err fault) working p q none end told = record {
-    exact = λ _. of_all_bytes old now new given taken (λ all. Returns (Err fault) (fimi_of all)) p q none end told;
-    fails = unlike failed working;
-    read_is_failed = λ e. absurd (not_answered given (subst (λ f. Returns (Err f) (fimi_of given)) e told (λ m. absurd cc)));
-  }
+      → ReturnsBy (Gathers counting) answer (fimi_of given) → ReadsFimi (Gathers counting) old new failed answer
+  ended now given taken (Ok counts) working p q none end found =
+      (working, of_all_bytes old now new given taken (λ all. Gathers counting counts (fimi_of all)) p q none end found)
+  ended now given taken (Err fault) working p q none end told = (
+    λ _. of_all_bytes old now new given taken (λ all. Returns (Err fault) (fimi_of all)) p q none end told,
+    λ broken. unlike failed working broken,
+    λ e. absurd (not_answered given (subst (λ f. Returns (Err f) (fimi_of given)) e told (λ m. absurd cc))),
+  )
 
-  -- ---- what reading says of its answer
+-- the counts of some baskets are gathered
+pub some_gathered : (counting : Bool) (answer : Result ItemCounts ReadFault) (defined : Result (List Weighted) ReadFault) → ReturnsBy (Gathers counting) answer defined
+    → IfOk answer (λ counts. (baskets : List Weighted) × AreGathered counting counts baskets)
+some_gathered counting (Ok counts) defined (baskets, is, gathered) = (baskets, gathered)
+some_gathered counting (Err fault) defined told = tt
 
-  exact : (answer : Result ItemCounts ReadFault) → Reads counting old new failed answer → failed ≡ false → IfSome old (λ bytes. Counts answer (fimi_of bytes))
-  exact (Ok counts) ends working = let (baskets, is, gathered) = ends.found in IfSome_then old ends.all (λ all same. (baskets, ap fimi_of same ∙ is, gathered.0))
-  exact (Err fault) stops working = stops.exact working
+-- ---- what is made of them
 
-  light : (answer : Result ItemCounts ReadFault) → Reads counting old new failed answer → IfOk answer AreLightCounts
-  light (Ok counts) ends = let (baskets, is, gathered) = ends.found in (baskets, gathered.0, gathered.1)
-  light (Err fault) stops = tt
+same : (read : Result ItemCounts ReadFault) → Says (λ counts. counts) read read
+same (Ok counts) = refl
+same (Err fault) = refl
 
-  failed_after : (answer : Result ItemCounts ReadFault) → Reads counting old new failed answer → failed ≡ true → IfErr answer (λ fault. IfSome old (λ bytes. FailsAfter bytes new (Err fault)))
-  failed_after (Ok counts) ends broken = tt
-  failed_after (Err fault) stops broken = stops.fails broken
+pub counted : (old new : Option (List ℕ)) (failed : Bool) (read : Result ItemCounts ReadFault) → ReadsFimi (Gathers true) old new failed read → ReadsFimi CountsDefined old new failed read
+counted old new failed read =
+    says (Gathers true) CountsDefined (λ counts. counts) (λ defined. defined) (λ counts defined found. (found.0, found.1, found.2.0)) (λ fault. refl) fimi_of (FailsAfter old new) old failed read read (same read)
 
-  failed_is_err : (answer : Result ItemCounts ReadFault) → Reads counting old new failed answer → failed ≡ true → IsErr answer
-  failed_is_err (Ok counts) ends broken = unlike failed ends.working broken
-  failed_is_err (Err fault) stops broken = refl
+kept_said : (read : Result ItemCounts ReadFault) (answer : Result (List Weighted) ReadFault) → AreKept read answer → Says (λ counts. counts.rest) read answer
+kept_said (Ok counts) (Ok baskets) kept = ap Ok kept
+kept_said (Ok counts) (Err fault) kept = absurd kept
+kept_said (Err fault) answer kept = kept
 
-  read_is_failed : (answer : Result ItemCounts ReadFault) → Reads counting old new failed answer → answer ≡ Err Read → failed ≡ true
-  read_is_failed (Ok counts) ends e = absurd cc
-  read_is_failed (Err fault) stops e = stops.read_is_failed cc
-
-  pub counts_as : (answer : Result ItemCounts ReadFault) → Reads counting old new failed answer → CountsAs fimi_of old new failed answer
-  counts_as answer reads = record {
-    exact = exact answer reads;
-    light = light answer reads;
-    failed = failed_after answer reads;
-    failed_is_err = failed_is_err answer reads;
-    read_is_failed = read_is_failed answer reads;
-  }
-
--- the same if the baskets are kept and answered alone
-module _ (old new : Option (List ℕ)) (failed : Bool) where
-  exact_kept : (read : Result ItemCounts ReadFault) (answer : Result (List Weighted) ReadFault) → AreKept read answer → Reads false old new failed read
-      → failed ≡ false → IfSome old (λ bytes. Returns answer (fimi_of bytes))
-  exact_kept (Ok counts) (Ok baskets) kept ends working =
-      let (all, is, gathered) = ends.found in IfSome_then old ends.all (λ bytes same. ap fimi_of same ∙ is ∙ ap Ok (sym (kept ∙ gathered.2 refl)))
-  exact_kept (Ok counts) (Err fault) kept ends working = absurd kept
-  exact_kept (Err fault) answer kept stops working = subst (λ a. IfSome old (λ bytes. Returns a (fimi_of bytes))) (sym kept) (stops.exact working)
-
-  failed_kept : (read : Result ItemCounts ReadFault) (answer : Result (List Weighted) ReadFault) → AreKept read answer → Reads false old new failed read
-      → failed ≡ true → IsErr answer × IfSome old (λ bytes. FailsAfter bytes new answer)
-  failed_kept (Ok counts) answer kept ends broken = unlike failed ends.working broken
-  failed_kept (Err fault) answer kept stops broken = (subst IsErr (sym kept) refl, subst (λ a. IfSome old (λ bytes. FailsAfter bytes new a)) (sym kept) (stops.fails broken))
-
-  read_kept : (read : Result ItemCounts ReadFault) (answer : Result (List Weighted) ReadFault) → AreKept read answer → Reads false old new failed read → answer ≡ Err Read → failed ≡ true
-  read_kept (Ok counts) (Ok baskets) kept ends e = absurd cc
-  read_kept (Ok counts) (Err fault) kept ends e = absurd kept
-  read_kept (Err fault) answer kept stops e = stops.read_is_failed (let same : Err fault ≡ Err Read = sym kept ∙ e in cc)
-
-  pub reads_as : (read : Result ItemCounts ReadFault) (answer : Result (List Weighted) ReadFault) → AreKept read answer → Reads false old new failed read → ReadsAs fimi_of old new failed answer
-  reads_as read answer kept reads = record {
-    exact = exact_kept read answer kept reads;
-    failed = λ broken. (failed_kept read answer kept reads broken).1;
-    failed_is_err = λ broken. (failed_kept read answer kept reads broken).0;
-    read_is_failed = read_kept read answer kept reads;
-  }
+pub kept_alone : (old new : Option (List ℕ)) (failed : Bool) (read : Result ItemCounts ReadFault) (answer : Result (List Weighted) ReadFault) → AreKept read answer
+    → ReadsFimi (Gathers false) old new failed read → ReadsFimi IsDefined old new failed answer
+kept_alone old new failed read answer kept =
+    says (Gathers false) IsDefined (λ counts. counts.rest) (λ defined. defined) (λ counts defined found. found.1 ∙ ap Ok (sym (found.2.2 refl))) (λ fault. refl) fimi_of (FailsAfter old new) old failed read answer (kept_said read answer kept)

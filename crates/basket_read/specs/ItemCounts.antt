@@ -6,7 +6,6 @@ use Rattle.basket_sets.specs.ItemTable.{HasCounted}
 use Rattle.basket_sets.specs.Support.{total_of}
 use Rattle.basket_read.specs.declared.fault.ReadFault.{ReadFault}
 use Rattle.basket_read.specs.declared.item_counts.ItemCounts.{ItemCounts}
-use Rattle.basket_read.specs.Fault.{ReturnsBy}
 
 -- the table has counted the first of the baskets, and the others are kept
 abbrev pub AreCountsOf : ItemCounts → List Weighted → Type 0
@@ -16,6 +15,6 @@ AreCountsOf counts baskets = (first : List Weighted) × HasCounted counts.table 
 abbrev pub AreLightCounts : ItemCounts → Type 0
 AreLightCounts counts = (baskets : List Weighted) × AreCountsOf counts baskets × (total_of baskets ≤ MOST_WEIGHT)
 
--- except if memory is out, the baskets that were counted are those of the result that is defined, or the fault is its
-abbrev pub Counts : Result ItemCounts ReadFault → Result (List Weighted) ReadFault → Type 0
-Counts = ReturnsBy (λ counts defined. (baskets : List Weighted) × (defined ≡ Ok baskets) × AreCountsOf counts baskets)
+-- the baskets that were counted are those that are defined
+abbrev pub CountsDefined : ItemCounts → Result (List Weighted) ReadFault → Type 0
+CountsDefined counts defined = (baskets : List Weighted) × (defined ≡ Ok baskets) × AreCountsOf counts baskets

@@ -1,6 +1,8 @@
 //! Reading a FIMI input batch by batch.
-ghost use Rattle.std.specs.Prelude.{◌≡◌, ◌<◌, ◌^◌, false};
-ghost use Rattle.basket_read.specs.Read.{Reads};
+ghost use Rattle.std.specs.Prelude.{◌≡◌, ◌<◌, ◌^◌, IfOk, List, false};
+ghost use Rattle.basket_sets.specs.declared.weighted.Weighted.{Weighted};
+ghost use Rattle.basket_read.specs.GatheredBaskets.{AreGathered, Gathers};
+ghost use Rattle.basket_read.specs.Read.{ReadsFimi};
 
 use crate::bytes::fill;
 use crate::fault::ReadFault;
@@ -22,7 +24,8 @@ pub(crate) fn read_batches<F: Feeder, S: Source>(
     requires fresh { S.has_failed reader.old ≡ false }
     requires some { 0 < most }
     requires few { most < 2 ^ 32 }
-    ensures { Reads counting (S.left reader.old) (S.left reader.new) (S.has_failed reader.new) result }
+    ensures read { ReadsFimi (Gathers counting) (S.left reader.old) (S.left reader.new) (S.has_failed reader.new) result }
+    ensures some { IfOk result (λ counts. (baskets : List Weighted) × AreGathered counting counts baskets) }
 {
     let mut buffer = Vec::new(alloc);
     let mut input = Input::new(alloc, counting);

@@ -1,7 +1,8 @@
 //! Reading a FIMI input.
-ghost use Rattle.std.specs.Prelude.{◌≡◌, ◌≤◌, false};
-ghost use Rattle.basket_read.specs.Fimi.{fimi_of};
-ghost use Rattle.basket_read.specs.Read.{CountsAs, ReadsAs};
+ghost use Rattle.std.specs.Prelude.{◌≡◌, ◌≤◌, IfOk, false};
+ghost use Rattle.basket_read.specs.Fault.{IsDefined};
+ghost use Rattle.basket_read.specs.ItemCounts.{AreLightCounts, CountsDefined};
+ghost use Rattle.basket_read.specs.Read.{ReadsFimi};
 
 use crate::batches::read_batches;
 use crate::fault::ReadFault;
@@ -23,12 +24,12 @@ pub(crate) const BLOCK: usize = 65_536;
 const BATCH: usize = 8_388_608;
 
 /// The same if baskets are kept. Those of a batch take memory twice until they are appended.
-const KEPT_BATCH: usize = BATCH / 2;
+const KEPT_BATCH: usize = BATCH / 4;
 
 /// Reads a FIMI input to its end, in blocks of 65,536 bytes.
 pub fn read_fimi<S: Source>(alloc: Global, reader: &mut S) -> Result<Database, ReadFault>
     requires { S.has_failed reader.old ≡ false }
-    ensures { ReadsAs fimi_of (S.left reader.old) (S.left reader.new) (S.has_failed reader.new) result }
+    ensures { ReadsFimi IsDefined (S.left reader.old) (S.left reader.new) (S.has_failed reader.new) result }
 {
     read_fimi_by(alloc, reader, BLOCK)
 }
@@ -42,7 +43,7 @@ pub fn read_fimi_by<S: Source>(
     requires fresh { S.has_failed reader.old ≡ false }
     requires some { 1 ≤ block }
     requires few { block ≤ MAX_BLOCK }
-    ensures { ReadsAs fimi_of (S.left reader.old) (S.left reader.new) (S.has_failed reader.new) result }
+    ensures { ReadsFimi IsDefined (S.left reader.old) (S.left reader.new) (S.has_failed reader.new) result }
 {
     read_batches(&Alone, alloc, reader, block, false).map(ItemCounts::into_rest)
 }
@@ -51,7 +52,9 @@ pub fn read_fimi_by<S: Source>(
 /// only if their items are too great for a table.
 pub fn count_fimi<S: Source>(alloc: Global, reader: &mut S) -> Result<ItemCounts, ReadFault>
     requires { S.has_failed reader.old ≡ false }
-    ensures { CountsAs fimi_of (S.left reader.old) (S.left reader.new) (S.has_failed reader.new) result }
+    ensures counted { ReadsFimi CountsDefined (S.left reader.old) (S.left reader.new) (S.has_failed reader.new) result }
+    // Even if the reader doesn't report its bytes.
+    ensures light { IfOk result AreLightCounts }
 {
     read_batches(&Alone, alloc, reader, BLOCK, true)
 }
@@ -64,7 +67,7 @@ pub fn read_fimi_shared<R: Threads + Sync, S: Source>(
     workers: u32,
 ) -> Result<Database, ReadFault>
     requires { S.has_failed reader.old ≡ false }
-    ensures { ReadsAs fimi_of (S.left reader.old) (S.left reader.new) (S.has_failed reader.new) result }
+    ensures { ReadsFimi IsDefined (S.left reader.old) (S.left reader.new) (S.has_failed reader.new) result }
 {
     if workers < 2 {
         return read_fimi(alloc, reader);
@@ -81,7 +84,9 @@ pub fn count_fimi_shared<R: Threads + Sync, S: Source>(
     workers: u32,
 ) -> Result<ItemCounts, ReadFault>
     requires { S.has_failed reader.old ≡ false }
-    ensures { CountsAs fimi_of (S.left reader.old) (S.left reader.new) (S.has_failed reader.new) result }
+    ensures counted { ReadsFimi CountsDefined (S.left reader.old) (S.left reader.new) (S.has_failed reader.new) result }
+    // Even if the reader doesn't report its bytes.
+    ensures light { IfOk result AreLightCounts }
 {
     if workers < 2 {
         return count_fimi(alloc, reader);

@@ -4,7 +4,7 @@ use Rattle.std.proofs.lemmas.Result.{err_from_is_err_and}
 use Rattle.std.specs.Io.KnownBytes.{Consumes}
 use Rattle.basket_read.specs.declared.fault.ReadFault.TheVariants.{Read}
 use Rattle.std.proofs.KnownBytes.{Consumes-nil, Consumes-trans, Keeps-refl}
-use Rattle.basket_read.proofs.ReadLemmas.{ended, stopped, stops_failed, stops_fault}
+use Rattle.basket_read.proofs.ReadLemmas.{ended, some_gathered, stopped, stops_failed, stops_fault}
 use Rattle.basket_read.proofs.batches.read_batches.Goals as goal
 
 -- a batch comes after what was given before
@@ -12,8 +12,8 @@ taken_in : (old between new : Option (List ℕ)) (given batch items : List ℕ) 
     → Consumes old new (given ++ take count batch)
 taken_in old between new given batch items count same p q = Consumes-trans old between new given (take count batch) p (subst (λ l. Consumes between new (take count l)) (sym same) q)
 
-pub returns-in_err-take : goal.returns-in_err-take
-returns-in_err-take g c =
+pub returns-in_err-take-clause-read : goal.returns-in_err-take-clause-read
+returns-in_err-take-clause-read g c =
     let read = c.reading.invariant.read in
     let p = err_from_is_err_and c.from_residual-in_err-take.result c.from_residual-in_err-take.ensures.1 in
     let batch = take c.in_ok-count.count c.deref.result.now in
@@ -21,8 +21,8 @@ returns-in_err-take g c =
     (stops_fault _ _ _ (read.0 ++ batch) c.in_err-take.field-0.0 (taken_in _ _ _ read.0 _ _ c.in_ok-count.count c.deref.ensures.value read.1 c.in_ok-count.ensures.given)
     (c.in_err-take.ensures c.args.counting read.0 read.2))
 
-pub returns-then-failed : goal.returns-then-failed
-returns-then-failed g c =
+pub returns-then-failed-clause-read : goal.returns-then-failed-clause-read
+returns-then-failed-clause-read g c =
     let read = c.reading.invariant.read in
     let batch = take c.in_ok-count.count c.deref.result.now in
     let on = c.in_ok-take.ensures c.args.counting read.0 read.2 in
@@ -32,14 +32,19 @@ returns-then-failed g c =
 pub finish-requires : goal.finish-requires
 finish-requires g c = let read = c.reading.invariant.read in let on = c.in_ok-take.ensures c.args.counting read.0 read.2 in ∣ (_, _, on) ∣₁
 
-pub returns-then-count-most : goal.returns-then-count-most
-returns-then-count-most g c =
+pub returns-then-count-most-clause-read : goal.returns-then-count-most-clause-read
+returns-then-count-most-clause-read g c =
     let read = c.reading.invariant.read in
     let batch = take c.in_ok-count.count c.deref.result.now in
     let on = c.in_ok-take.ensures c.args.counting read.0 read.2 in
     let working = sym c.failed.ensures ∙ c.if-failed.false in
     ended c.args.counting _ _ _ _ (read.0 ++ batch) [] c.finish.result working (taken_in _ _ _ read.0 _ _ c.in_ok-count.count c.deref.ensures.value read.1 c.in_ok-count.ensures.given) (Consumes-nil _) refl
     (c.in_ok-count.ensures.ended working c.if-count-most.true) (c.finish.ensures c.args.counting (read.0 ++ batch) on)
+
+pub returns-then-count-most-clause-some : goal.returns-then-count-most-clause-some
+returns-then-count-most-clause-some g c =
+    let read = c.reading.invariant.read in
+    some_gathered c.args.counting c.finish.result _ (c.finish.ensures c.args.counting _ (c.in_ok-take.ensures c.args.counting read.0 read.2))
 
 pub reading-smaller : goal.reading-smaller
 reading-smaller g c =
