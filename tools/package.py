@@ -83,7 +83,7 @@ def lost_links() -> list[str]:
 
 
 def indented(text: str) -> str:
-    """A text as a field of Debian's has it: lines behind a space, and a point on an empty one."""
+    """A text as a field of Debian's has it: each line after a space, and a point on an empty one."""
     lines = text.strip().splitlines()
     return "\n".join(f" {line}" if line.strip() else " ." for line in lines)
 

@@ -27,7 +27,7 @@ def say(text: str) -> None:
 
 
 def run(words: str, given: Path, taken: Path) -> None:
-    """Runs the program over a file, and puts what it writes behind what another file has."""
+    """Runs the program over a file, and appends what it writes to another file."""
     with open(taken, "ab") as out:
         ended = subprocess.run(
             [PROGRAM, *words.split(), str(given)], stdout=out, check=False

@@ -4,7 +4,7 @@
 usage: tools/prove.py PROGRAM..    at the top of the repository
 
 The crates are copied, without their must-fail edits, into a folder of their own, and `rt ci` proves
-them there: several at once, those with the longest chain of others behind them first. It keeps each
+them there: several at once, those with the longest chain of others above them first. It keeps each
 proof on this machine, so a second run proves only what failed, what changed, and the crates above.
 Each program is built, run on its own files stdin and args, and put into its folder out/. Prints a line
 for each crate once it is proved, and all that the checker says of one that is not.

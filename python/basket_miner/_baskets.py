@@ -69,8 +69,8 @@ def baskets_of(
 def _fimi(numbers: Array, ends: Array, size: int, weights: Array | None) -> bytes:
     """The lines of baskets, whose last numbers are those at `ends`, all below `size`.
 
-    Each number with what stands behind it, and each weight, is taken from a table of texts
-    that the zero bytes behind them make equally long.
+    Each number with what stands after it, and each weight, is taken from a table of texts
+    that the zero bytes after them make equally long.
     """
     texts = [b"%d " % number for number in range(size)]
     texts += [b"%d\n" % number for number in range(size)]

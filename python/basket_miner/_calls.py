@@ -112,7 +112,7 @@ def _itemset(itemset: Any) -> list[Hashable]:
 def _as_numbers(baskets: Baskets, sets: list[list[Hashable]]) -> tuple[Baskets, bytes]:
     """The text of the sets by numbers, and the baskets with all their labels.
 
-    A label that is in no basket gets a number behind the others, and the count 0.
+    A label that is in no basket gets a number after the others, and the count 0.
     """
     if baskets.labels is None:
         for itemset in sets:

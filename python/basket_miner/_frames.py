@@ -10,7 +10,7 @@ from ._baskets import Array, Baskets, Labels, baskets_of, checked_weights, group
 from ._errors import DataError
 from ._numbering import addresses, is_missing, numbered
 
-# What may help, behind a fault. The calls of mlxtend have no such keywords.
+# What may help, after a fault. The calls of mlxtend have no such keywords.
 DROP_HINT = '; missing="drop" leaves them out'
 LONG_HINT = "; a frame with a row for each item of a basket needs basket= and item="
 

@@ -49,7 +49,7 @@ def frequent(
     words = [command, f"--min={_least(min_support, len(df))}", f"--miner={miner}"]
     report = run(words, baskets.source, progress=verbose > 0)
     if max_len is not None:
-        # A line has a blank behind each item.
+        # A line has a blank after each item.
         lines = report.splitlines(keepends=True)
         report = b"".join(line for line in lines if line.count(b" ") <= max_len)
     frame = sets_frame(report, baskets, len(df))[["support", "itemsets"]]

@@ -32,7 +32,7 @@ def manual() -> str:
 
 
 def shown(document: str) -> list[tuple[str, str]]:
-    """Each command that a document shows behind a dollar sign, with the lines that it shows below."""
+    """Each command that a document shows after a dollar sign, with the lines that it shows below."""
     found: list[tuple[str, str]] = []
     command, lines, indent = "", "", ""
     for line in [*document.splitlines(), ""]:

@@ -98,12 +98,12 @@ def frequent_in(part: bytes, minimum: str) -> bytes:
 
 
 def frequent_in_some(parts: list[bytes], minimum: str) -> bytes:
-    """The sets that are frequent in some part, those of one part behind those of another."""
+    """The sets that are frequent in some part, those of one part after those of another."""
     return b"".join(frequent_in(part, minimum) for part in parts)
 
 
 def counts_of(parts: list[bytes], asked: bytes) -> bytes:
-    """The counts of sets in each part, one part behind another."""
+    """The counts of sets in each part, one part after another."""
     return b"".join(counted(asked, part).out for part in parts)
 
 
@@ -173,7 +173,7 @@ class Parts(unittest.TestCase):
 class Count(unittest.TestCase):
     """What `count` writes."""
 
-    def test_each_set_is_counted_once_at_its_first_place_behind_the_empty_set(
+    def test_each_set_is_counted_once_at_its_first_place_after_the_empty_set(
         self,
     ) -> None:
         for (asked, wanted), workers, pieces, given in itertools.product(

@@ -74,7 +74,7 @@ FIMI = (
     ),
 )
 
-# The same with a bar behind each record, and no line feed or bar within one.
+# The same with a bar after each record, and no line feed or bar within one.
 CSV = (
     ("items --form baskets --min 2", SEMI_SKIM, '2,"semi, skim"|2,bread|'),
     (

@@ -1,64 +1,50 @@
--- What is read in each form.
-use Rattle.std.proofs.Common.{◌≡◌, ◌∙◌, ℕ, List, Option, Some, None, Result, Ok, Err, Global, ap, refl}
-use Rattle.std.specs.Prelude.{IfErr, IfSome, IsErr}
-use Rattle.basket_sets.specs.declared.weighted.Weighted.{Weighted}
-use Rattle.basket_counts.specs.Counts.{counts_of}
-use Rattle.basket_read.specs.Fault.{Returns, ReturnsList}
-use Rattle.basket_parts.specs.CombinedCounts.{combined_of}
+-- What is made of what was read.
+use Rattle.std.proofs.Common.{◌≡◌, ◌≢◌, ◌∙◌, ℕ, Bool, true, false, cond, List, Option, Result, Ok, Err, ap, refl, sym}
+use Rattle.std.specs.Prelude.{IfSome}
+use Rattle.std.specs.List.{list_any}
+use Rattle.std.proofs.lemmas.Bool.{false≢true}
+use Rattle.std.proofs.lemmas.Option.{IfSome_then}
+use Rattle.basket_parts.specs.CombinedCounts.{combined, combined_of, is_heavy}
+use Rattle.basket_read.specs.Fault.{IsDefined, IsRead, Reads, Returns}
 use Rattle.basket_read.specs.declared.counted_line.CountedLine.{CountedLine}
 use Rattle.basket_read.specs.declared.fault.ReadFault.{ReadFault}
-use Rattle.basket_read.specs.declared.fault.ReadFault.TheVariants.{Read}
-use Rattle.basket_read.specs.Read.{FailsAfter}
+use Rattle.basket_read.specs.declared.fault.ReadFault.TheVariants.{Heavy, Memory, Read}
+use Rattle.basket_read.proofs.theory.Reads.{Says, says}
 use Rattle.basket.specs.declared.contents.Contents.{Contents}
 use Rattle.basket.specs.Contents.{where_read}
 
--- ---- what follows of an answer
-
-abbrev fault_in : {X : Type 0} → ReadFault → Result X ReadFault → ReadFault
-fault_in other (Ok x) = other
-fault_in other (Err fault) = fault
-
 module _ {A : Type 0} (say : A → Contents) where
-  abbrev said_with : Result A ReadFault → Result Contents ReadFault
-  said_with read = where_read (λ a. Ok (say a)) read
+  as_said : (read : Result A ReadFault) (result : Result Contents ReadFault) → result ≡ where_read (λ a. Ok (say a)) read → Says say read result
+  as_said (Ok a) result is = is
+  as_said (Err fault) result is = is
 
-  pub says : (left : Option (List ℕ)) (said : List ℕ → Result A ReadFault) (read : Result A ReadFault)
-      → IfSome left (λ bytes. Returns read (said bytes)) → IfSome left (λ bytes. Returns (said_with read) (said_with (said bytes)))
-  says None said read h = tt
-  says (Some bytes) said (Ok a) h = ap said_with h
-  says (Some bytes) said (Err fault) h = λ other. ap said_with (h other)
-
-  -- of a reader that failed
-  pub fails : (read : Result A ReadFault) → read ≡ Err Read → IfErr (said_with read) (λ fault. fault ≡ Read)
-  fails (Ok a) h = cc
-  fails (Err fault) h = ap (fault_in fault) h
-
-  pub still_read : (read : Result A ReadFault) → said_with read ≡ Err Read → read ≡ Err Read
-  still_read (Ok a) h = cc
-  still_read (Err fault) h = cc
-
-  pub is_err : (read : Result A ReadFault) → read ≡ Err Read → IsErr (said_with read)
-  is_err (Ok a) h = cc
-  is_err (Err fault) h = refl
-
-  pub still_err : (read : Result A ReadFault) → IsErr read → IsErr (said_with read)
-  still_err (Ok a) h = h
-  still_err (Err fault) h = h
-
-pub fimi_fails : (say : List Weighted → Contents) (left after : Option (List ℕ)) (read : Result (List Weighted) ReadFault)
-    → IfSome left (λ bytes. FailsAfter bytes after read) → IfErr (said_with say read) (λ fault. IfSome left (λ bytes. FailsAfter bytes after (Err fault)))
-fimi_fails say left after (Ok baskets) h = tt
-fimi_fails say left after (Err fault) h = h
+  -- contents that are made of what was read
+  pub contents_read : (defined : List ℕ → Result A ReadFault) (fails : ReadFault → Type 0) (left : Option (List ℕ)) (failed : Bool) (read : Result A ReadFault) (result : Result Contents ReadFault)
+      → result ≡ where_read (λ a. Ok (say a)) read → Reads IsDefined defined fails left failed read
+      → Reads IsDefined (λ bytes. where_read (λ a. Ok (say a)) (defined bytes)) fails left failed result
+  contents_read defined fails left failed read result is =
+      says IsDefined IsDefined say (where_read (λ a. Ok (say a))) (λ a answer. ap (where_read (λ a. Ok (say a)))) (λ fault. refl) defined fails left failed read result (as_said read result is)
 
 -- ---- counted sets
 
-pub counts_refused : (left : Option (List ℕ)) (fault : ReadFault) → IfSome left (λ bytes. ReturnsList {X = CountedLine} {A = Global} (Err fault) (counts_of bytes))
-    → IfSome left (λ bytes. Returns (Err fault) (where_read combined_of (counts_of bytes)))
-counts_refused None fault read = tt
-counts_refused (Some bytes) fault read = λ other. ap (where_read combined_of) (read other)
+-- lines that are put together don't have the fault of a reader
+combined_is_not_read : (lines : List CountedLine) → combined_of lines ≢ Err Read
+combined_is_not_read lines = at (list_any is_heavy (combined lines))
+  where
+    at : (b : Bool) → ◌≢◌ {A = Result (List CountedLine) ReadFault} (cond b (Err Heavy) (Ok (combined lines))) (Err Read)
+    at true e = cc
+    at false e = cc
 
-pub counts_together : (left : Option (List ℕ)) (lines : List CountedLine) (answer : Result (List CountedLine) ReadFault) → IfSome left (λ bytes. counts_of bytes ≡ Ok lines)
-    → Returns answer (combined_of lines) → IfSome left (λ bytes. Returns answer (where_read combined_of (counts_of bytes)))
-counts_together None lines answer read then = tt
-counts_together (Some bytes) lines (Ok combined) read then = ap (where_read combined_of) read ∙ then
-counts_together (Some bytes) lines (Err fault) read then = λ other. ap (where_read combined_of) read ∙ then other
+-- what comes of lines that were read
+pub combined_read : (defined : List ℕ → Result (List CountedLine) ReadFault) (left : Option (List ℕ)) (failed : Bool) (lines : List CountedLine) (result : Result (List CountedLine) ReadFault)
+    → failed ≡ false → IfSome left (λ bytes. defined bytes ≡ Ok lines) → Returns result (combined_of lines)
+    → Reads IsDefined (λ bytes. where_read combined_of (defined bytes)) IsRead left failed result
+combined_read defined left failed lines (Ok sets) working read is = (working, IfSome_then left read (λ bytes e. ap (where_read combined_of) e ∙ is))
+combined_read defined left failed lines (Err fault) working read is = (
+  λ _. IfSome_then left read (λ bytes e no_memory. ap (where_read combined_of) e ∙ is no_memory),
+  λ broken. absurd (false≢true (sym working ∙ broken)),
+  λ e. absurd (combined_is_not_read lines (is (λ m. absurd (let no : Read ≡ Memory = sym e ∙ m in cc)) ∙ ap refused e)),
+)
+  where
+    refused : ReadFault → Result (List CountedLine) ReadFault
+    refused f = Err f

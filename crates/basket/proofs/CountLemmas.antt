@@ -26,27 +26,12 @@ rest_from (set ∷ sets) (suc place) below =
     let one_more : suc (place + 1) ≡ suc place + 1 = omega arith in
     rest_from sets place (omega (arith, below)) ∙ ap (λ n. get_or sets place [] ∷ drop n (set ∷ sets)) one_more
 
-abbrev pub was_read : {X : Type 0} → X → Result X ReadFault
-was_read x = Ok x
-
-abbrev pub was_refused : {X : Type 0} → ReadFault → Result X ReadFault
-was_refused fault = Err fault
-
--- a reader from which something was read has not failed
-pub not_broken : {X : Type 0} (failed : Bool) (x : X) → (failed ≡ true → was_read x ≡ was_refused Read) → failed ≡ false
-not_broken true x broken = absurd (let no = broken refl in cc)
-not_broken false x broken = refl
-
-abbrev fault_of : {X : Type 0} → ReadFault → Result X ReadFault → ReadFault
-fault_of other (Ok x) = other
-fault_of other (Err fault) = fault
-
-pub fault_is_read : {X : Type 0} (fault : ReadFault) → was_refused {X = X} fault ≡ was_refused Read → fault ≡ Read
-fault_is_read fault e = ap (fault_of fault) e
-
 -- ---- both readers
 
-is_read : {X : Type 0} {x : X} {fault : ReadFault} → was_read x ≡ was_refused fault → ⊥
+abbrev was_read : {X : Type 0} → X → Result X ReadFault
+was_read x = Ok x
+
+is_read : {X : Type 0} {x : X} {fault : ReadFault} → was_read x ≡ Err fault → ⊥
 is_read is = cc
 
 -- what counting comes to is no fault of the sets or of the input

@@ -1,12 +1,13 @@
 -- From what reading, mining and writing ensure to what a run ensures.
 use Rattle.std.proofs.Common.{◌≡◌, ◌≤◌, ℕ, List, [], Option, Some, None, Result, Ok, Err, Bool, true, false, length, take, refl, sym, ap, subst, ◌∙◌}
 use Rattle.std.proofs.lemmas.Bool.{false≢true}
+use Rattle.std.proofs.lemmas.Option.{IfSome_then}
 use Rattle.std.specs.Prelude.{IfErr, IfOk, IfSome, IsErr}
 use Rattle.std.specs.Io.KnownBytes.{Appends}
 use Rattle.basket_core.specs.declared.fault.MineFault.{MineFault}
 use Rattle.basket_read.specs.declared.fault.ReadFault.{ReadFault}
 use Rattle.basket_read.specs.declared.fault.ReadFault.TheVariants.{Read}
-use Rattle.basket_read.specs.Fault.{Returns}
+use Rattle.basket_read.specs.Fault.{Reads, Returns}
 use Rattle.basket.specs.Contents.{contents_of}
 use Rattle.basket.specs.declared.contents.Contents.{Contents}
 use Rattle.basket.specs.declared.prepared.PreparedReport.{PreparedReport}
@@ -45,16 +46,14 @@ mining fault = Err (Mine fault)
 pub same_fault : (fault other : MineFault) → mining fault ≡ mining other → fault ≡ other
 same_fault fault other same = ap (mine_fault fault) same
 
--- a reader from which a database was read has not failed
-pub not_failed : {X : Type 0} (failed : Bool) (x : X) → (failed ≡ true → IsErr {E = ReadFault} (Ok x)) → failed ≡ false
-not_failed true x err = absurd (false≢true (err refl))
-not_failed false x err = refl
-
 -- ---- the outcome for an input
 
-pub refuses_input : (left : Option (List ℕ)) (question : Question) (fault : ReadFault) → IfSome left (λ bytes. Returns (Err fault) (contents_of question.layout [] bytes)) → RefusesInput left question fault
-refuses_input None question fault read = tt
-refuses_input (Some bytes) question fault read = λ other. ap (λ a. outcome_of a question) (read other)
+-- the fault of a reader is that of the input
+pub reader_refuses : {X Y : Type 0} (fits : X → Result Y ReadFault → Type 0) (defined : List ℕ → Result Y ReadFault) (fails : ReadFault → Type 0) (left after : Option (List ℕ)) (question : Question) (failed : Bool) (fault : ReadFault)
+    → ((bytes : List ℕ) → defined bytes ≡ Err fault → outcome bytes question ≡ Err (Input fault)) → (fails fault → FailsInput left question after fault)
+    → Reads fits defined fails left failed (Err fault) → MakesReport question left after failed (Err (Input fault))
+reader_refuses fits defined fails left after question failed fault same lost (exact, broken, only) =
+    (λ working. IfSome_then left (exact working) (λ bytes told no_memory. same bytes (told no_memory)), λ b. lost (broken b), only)
 
 -- what mining comes to is no fault of the input
 pub mined_is_readable : (mined : Result (List ℕ) MineFault) → IsReadable (of_mining mined)

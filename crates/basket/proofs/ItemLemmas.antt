@@ -3,26 +3,23 @@ use Rattle.std.proofs.Common.{◌≡◌, ℕ, ◌+◌, List, [], ◌++◌, Bool,
 use Rattle.std.specs.Prelude.{IfSome}
 use Rattle.basket_core.specs.declared.fault.MineFault.TheVariants.{Memory, TooMany}
 use Rattle.basket_csv.specs.Csv.{Named, baskets_of_csv}
-use Rattle.basket_csv.specs.Read.{CountsNamed}
+use Rattle.basket_csv.specs.Read.{AreCountsNamed}
 use Rattle.basket_plan.specs.declared.plan.Ask.TheVariants.{Items}
 use Rattle.basket_plan.specs.declared.layout.Form.TheVariants.{Baskets, Fimi}
 use Rattle.basket_plan.specs.declared.layout.Layout.{Layout}
 use Rattle.basket_plan.specs.Plan.{Question}
 use Rattle.basket_read.specs.declared.fault.ReadFault.{ReadFault}
-use Rattle.basket_read.specs.declared.fault.ReadFault.TheVariants.{Read}
 use Rattle.basket_read.specs.declared.item_counts.ItemCounts.{ItemCounts}
 use Rattle.basket_read.specs.Fimi.{fimi_of}
-use Rattle.basket_read.specs.ItemCounts.{AreCountsOf, Counts}
-use Rattle.basket_read.specs.Read.{FailsAfter}
+use Rattle.basket_read.specs.ItemCounts.{AreCountsOf, CountsDefined}
 use Rattle.basket_report.specs.Report.{report_of}
 use Rattle.basket_sets.proofs.theory.Support.{support-append}
 use Rattle.basket_sets.specs.declared.weighted.Weighted.{Weighted}
 use Rattle.basket_sets.specs.Frequent.{frequent_items_of}
 use Rattle.basket_sets.specs.Support.{total_of}
-use Rattle.basket.specs.declared.fault.RunFault.TheVariants.{Input}
-use Rattle.basket.specs.Engine.{IsReadable, MakesReport, RefusesInput, RefusesSets}
+use Rattle.basket.specs.Engine.{IsReadable, RefusesSets}
 use Rattle.basket.specs.declared.contents.Contents.TheVariants as contents
-use Rattle.basket.specs.Contents.{FailsIn, by_names, by_numbers, contents_in, wording_with}
+use Rattle.basket.specs.Contents.{by_names, by_numbers, contents_in, wording_with}
 use Rattle.basket.specs.Outcome.{are_too_many, report_of_baskets, of_mining, outcome, outcome_of, text_of}
 use Rattle.basket.proofs.EngineLemmas.{mined_is_readable}
 
@@ -33,70 +30,27 @@ totals_add front back baskets whole = let s = support-append front back [] in le
 
 -- ---- what comes of a reader
 
--- its fault is that of the input
-pub counts_refuse : (left after : Option (List ℕ)) (question : Question) (fault : ReadFault) (failed : Bool) → question.layout.form ≡ Fimi
-    → (failed ≡ false → IfSome left (λ bytes. Counts (Err fault) (fimi_of bytes)))
-    → (failed ≡ true → IfSome left (λ bytes. FailsAfter bytes after (Err fault)))
-    → (fault ≡ Read → failed ≡ true) → MakesReport question left after failed (Err (Input fault))
-counts_refuse left after question fault failed form exact fails read = (
-  λ working. refused left (exact working),
-  λ broken. subst (λ f. FailsIn f left after fault) (sym form) (fails broken),
-  read,
-)
-  where
-    refused : (left : Option (List ℕ)) → IfSome left (λ bytes. Counts (Err fault) (fimi_of bytes)) → RefusesInput left question fault
-    refused None h = tt
-    refused (Some bytes) h = λ other. ap (λ f. outcome_of (contents_in f question.layout [] bytes) question) form ∙ ap (λ r. outcome_of (by_numbers contents.Baskets r) question) (h other)
+-- what the bytes say as CSV records that are baskets, where no names are known
+abbrev pub csv_of : Question → List ℕ → Result Named ReadFault
+csv_of question bytes = baskets_of_csv question.layout.separator question.layout.header question.layout.weighted [] bytes
+
+pub fimi_outcome : (question : Question) → question.layout.form ≡ Fimi → (bytes : List ℕ) → outcome bytes question ≡ outcome_of (by_numbers contents.Baskets (fimi_of bytes)) question
+fimi_outcome question form bytes = ap (λ f. outcome_of (contents_in f question.layout [] bytes) question) form
+
+pub csv_outcome : (question : Question) → question.layout.form ≡ Baskets → (bytes : List ℕ) → outcome bytes question ≡ outcome_of (by_names contents.Baskets (csv_of question bytes)) question
+csv_outcome question form bytes = ap (λ f. outcome_of (contents_in f question.layout [] bytes) question) form
 
 -- the items of the baskets of an input were counted, with these names: its outcome is the report of these baskets
 abbrev pub IsCounted : Question → ItemCounts → Option (List (List ℕ)) → List ℕ → Type 0
 IsCounted question counts names bytes = (baskets : List Weighted) × (outcome bytes question ≡ of_mining (report_of_baskets baskets names question)) × AreCountsOf counts baskets
 
-pub fimi_counted : (left : Option (List ℕ)) (question : Question) (counts : ItemCounts) → question.layout.form ≡ Fimi
-    → IfSome left (λ bytes. Counts (Ok counts) (fimi_of bytes)) → IfSome left (IsCounted question counts None)
-fimi_counted None question counts form read = tt
-fimi_counted (Some bytes) question counts form (baskets, is, counted) = (
-  baskets,
-  ap (λ f. outcome_of (contents_in f question.layout [] bytes) question) form ∙ ap (λ r. outcome_of (by_numbers contents.Baskets r) question) is,
-  counted,
-)
+-- those of a FIMI input, and of CSV records that are baskets
+pub fimi_counted : (question : Question) (counts : ItemCounts) → question.layout.form ≡ Fimi → (bytes : List ℕ) → CountsDefined counts (fimi_of bytes) → IsCounted question counts None bytes
+fimi_counted question counts form bytes (baskets, is, counted) = (baskets, fimi_outcome question form bytes ∙ ap (λ r. outcome_of (by_numbers contents.Baskets r) question) is, counted)
 
--- what the bytes say as CSV records that are baskets, where no names are known
-abbrev pub csv_of : Question → List ℕ → Result Named ReadFault
-csv_of question bytes = baskets_of_csv question.layout.separator question.layout.header question.layout.weighted [] bytes
-
-pub csv_read : (left : Option (List ℕ)) (question : Question) (layout : Layout) (known : List (List ℕ)) (result : Result (ItemCounts × List (List ℕ)) ReadFault)
-    → layout ≡ question.layout → known ≡ [] → IfSome left (λ bytes. CountsNamed result (baskets_of_csv layout.separator layout.header layout.weighted known bytes))
-    → IfSome left (λ bytes. CountsNamed result (csv_of question bytes))
-csv_read left question layout known result same none h =
-    subst (λ (l : Layout). IfSome left (λ bytes. CountsNamed result (baskets_of_csv l.separator l.header l.weighted [] bytes))) same
-    (subst (λ names. IfSome left (λ bytes. CountsNamed result (baskets_of_csv layout.separator layout.header layout.weighted names bytes))) none h)
-
-pub csv_counted : (left : Option (List ℕ)) (question : Question) (counts : ItemCounts) (names : List (List ℕ)) → question.layout.form ≡ Baskets
-    → IfSome left (λ bytes. CountsNamed (Ok (counts, names)) (csv_of question bytes)) → IfSome left (IsCounted question counts (Some names))
-csv_counted None question counts names form read = tt
-csv_counted (Some bytes) question counts names form (baskets, is, counted) = (
-  baskets,
-  ap (λ f. outcome_of (contents_in f question.layout [] bytes) question) form ∙ ap (λ r. outcome_of (by_names contents.Baskets r) question) is,
-  counted,
-)
-
-abbrev pub items_refusal : ReadFault → Result (ItemCounts × List (List ℕ)) ReadFault
-items_refusal fault = Err fault
-
--- the fault of CSV records is that of the input
-pub csv_refuses : (left after : Option (List ℕ)) (question : Question) (fault : ReadFault) (failed : Bool) → question.layout.form ≡ Baskets
-    → (failed ≡ false → IfSome left (λ bytes. CountsNamed (Err fault) (csv_of question bytes)))
-    → (failed ≡ true → items_refusal fault ≡ Err Read) → (fault ≡ Read → failed ≡ true) → MakesReport question left after failed (Err (Input fault))
-csv_refuses left after question fault failed form exact fails read = (
-  λ working. refused left (exact working),
-  λ broken. subst (λ f. FailsIn f left after fault) (sym form) (let refusal = fails broken in let same : fault ≡ Read = cc in same),
-  read,
-)
-  where
-    refused : (left : Option (List ℕ)) → IfSome left (λ bytes. CountsNamed (Err fault) (csv_of question bytes)) → RefusesInput left question fault
-    refused None h = tt
-    refused (Some bytes) h = λ other. ap (λ f. outcome_of (contents_in f question.layout [] bytes) question) form ∙ ap (λ r. outcome_of (by_names contents.Baskets r) question) (h other)
+pub csv_counted : (question : Question) (counts : ItemCounts) (names : List (List ℕ)) → question.layout.form ≡ Baskets → (bytes : List ℕ) → AreCountsNamed (counts, names) (csv_of question bytes)
+    → IsCounted question counts (Some names) bytes
+csv_counted question counts names form bytes (baskets, is, counted) = (baskets, csv_outcome question form bytes ∙ ap (λ r. outcome_of (by_names contents.Baskets r) question) is, counted)
 
 -- memory may be out only if the input has no fault
 pub memory_refuses : (left : Option (List ℕ)) (question : Question) (counts : ItemCounts) (names : Option (List (List ℕ)))

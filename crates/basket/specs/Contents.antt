@@ -10,7 +10,7 @@ use Rattle.basket_plan.specs.declared.layout.Layout.{Layout}
 use Rattle.basket_plan.specs.Plan.{has_names}
 use Rattle.basket_read.specs.declared.counted_line.CountedLine.{CountedLine}
 use Rattle.basket_read.specs.declared.fault.ReadFault.{ReadFault}
-use Rattle.basket_read.specs.declared.fault.ReadFault.TheVariants.{Read}
+use Rattle.basket_read.specs.Fault.{IsRead}
 use Rattle.basket_read.specs.Fimi.{fimi_of}
 use Rattle.basket_read.specs.Read.{FailsAfter}
 use Rattle.basket_report.specs.Style.{Wording, Numbered, Named as ByNames}
@@ -49,8 +49,8 @@ contents_of layout known bytes = contents_in layout.form layout known bytes
 
 -- the fault if the reader failed: in FIMI that of the bytes that it gave, if they are known and have one, else `Read`; in the other forms `Read`
 abbrev pub FailsIn : Form → Option (List ℕ) → Option (List ℕ) → ReadFault → Type 0
-FailsIn Fimi left after fault = IfSome left (λ bytes. FailsAfter bytes after (Err fault))
-FailsIn _ left after fault = fault ≡ Read
+FailsIn Fimi left after = FailsAfter left after
+FailsIn _ left after = IsRead
 
 -- how a report writes items: as the input does
 abbrev pub wording_with : ℕ → Option (List (List ℕ)) → Wording

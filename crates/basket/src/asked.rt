@@ -1,6 +1,6 @@
 //! The sets that are asked for.
-ghost use Rattle.std.specs.Prelude.{◌≡◌, true, false, Err, IfOk, IfSome, map};
-ghost use Rattle.basket_read.specs.Fault.{ReturnsBoth};
+ghost use Rattle.std.specs.Prelude.{◌≡◌, false, IfOk, map};
+ghost use Rattle.basket_read.specs.Fault.{AreDefined, IsRead, Reads};
 ghost use Rattle.basket.specs.Contents.{asked_in, named_sets_of};
 
 use basket_core::{Itemset, Source};
@@ -22,9 +22,7 @@ pub fn read_asked<R: RandomSource + Threads + Sync, S: Source>(
     reader: &mut S,
 ) -> Result<(Vec<Itemset>, Names), ReadFault>
     requires { S.has_failed reader.old ≡ false }
-    ensures exact { S.has_failed reader.new ≡ false → IfSome (S.left reader.old) (λ bytes. ReturnsBoth result (asked_in layout bytes)) }
-    ensures failed { S.has_failed reader.new ≡ true → result ≡ Err ReadFault.Read }
-    ensures read_is_failed { result ≡ Err ReadFault.Read → S.has_failed reader.new ≡ true }
+    ensures { Reads AreDefined (asked_in layout) IsRead (S.left reader.old) (S.has_failed reader.new) result }
 {
     if layout.form.has_names() {
         return read_named_sets(rt, alloc, layout.separator, reader);
@@ -43,9 +41,7 @@ fn read_named_sets<R: RandomSource, S: Source>(
     reader: &mut S,
 ) -> Result<(Vec<Itemset>, Names), ReadFault>
     requires { S.has_failed reader.old ≡ false }
-    ensures exact { S.has_failed reader.new ≡ false → IfSome (S.left reader.old) (λ bytes. ReturnsBoth result (named_sets_of separator bytes)) }
-    ensures failed { S.has_failed reader.new ≡ true → result ≡ Err ReadFault.Read }
-    ensures read_is_failed { result ≡ Err ReadFault.Read → S.has_failed reader.new ≡ true }
+    ensures { Reads AreDefined (named_sets_of separator) IsRead (S.left reader.old) (S.has_failed reader.new) result }
 {
     let dialect = Dialect {
         separator,

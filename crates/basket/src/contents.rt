@@ -1,10 +1,10 @@
 //! What an input says, whatever is asked of it.
-ghost use Rattle.std.specs.Prelude.{◌≡◌, true, false, Err, IfErr, IfSome, IsErr};
+ghost use Rattle.std.specs.Prelude.{◌≡◌, false};
 ghost use Rattle.basket_counts.specs.Counts.{counts_of};
 ghost use Rattle.basket_csv.specs.Counts.{named_counts_of};
 ghost use Rattle.basket_parts.specs.CombinedCounts.{combined_of};
 ghost use Rattle.basket.specs.declared.contents.Contents.TheVariants as contents;
-ghost use Rattle.basket_read.specs.Fault.{Returns};
+ghost use Rattle.basket_read.specs.Fault.{IsDefined, IsRead, Reads};
 ghost use Rattle.basket.specs.Contents.{FailsIn, by_names, by_numbers, contents_of, named_combined_of, where_read, wording_with};
 ghost use Rattle.basket_report.specs.Style.{wording_of};
 
@@ -39,10 +39,7 @@ impl Contents {
         reader: &mut S,
     ) -> Result<Self, ReadFault>
         requires { S.has_failed reader.old ≡ false }
-        ensures exact { S.has_failed reader.new ≡ false → IfSome (S.left reader.old) (λ bytes. Returns result (contents_of layout known bytes)) }
-        ensures failed { S.has_failed reader.new ≡ true → IfErr result (FailsIn layout.form (S.left reader.old) (S.left reader.new)) }
-        ensures failed_is_err { S.has_failed reader.new ≡ true → IsErr result }
-        ensures read_is_failed { result ≡ Err ReadFault.Read → S.has_failed reader.new ≡ true }
+        ensures { Reads IsDefined (contents_of layout known) (FailsIn layout.form (S.left reader.old) (S.left reader.new)) (S.left reader.old) (S.has_failed reader.new) result }
     {
         let dialect = Dialect {
             separator: layout.separator,
@@ -83,9 +80,7 @@ fn read_combined<R: Threads + Sync, S: Source>(
     workers: u32,
 ) -> Result<CombinedCounts, ReadFault>
     requires { S.has_failed reader.old ≡ false }
-    ensures exact { S.has_failed reader.new ≡ false → IfSome (S.left reader.old) (λ bytes. Returns result (where_read combined_of (counts_of bytes))) }
-    ensures failed { S.has_failed reader.new ≡ true → result ≡ Err ReadFault.Read }
-    ensures read_is_failed { result ≡ Err ReadFault.Read → S.has_failed reader.new ≡ true }
+    ensures { Reads IsDefined (λ bytes. where_read combined_of (counts_of bytes)) IsRead (S.left reader.old) (S.has_failed reader.new) result }
 {
     match read_counts(rt, alloc, reader, workers) {
         Ok(lines) => CombinedCounts::of(alloc, lines),
@@ -102,9 +97,7 @@ fn read_named_combined<R: RandomSource, S: Source>(
     known: Names,
 ) -> Result<(CombinedCounts, Names), ReadFault>
     requires { S.has_failed reader.old ≡ false }
-    ensures exact { S.has_failed reader.new ≡ false → IfSome (S.left reader.old) (λ bytes. Returns result (where_read named_combined_of (named_counts_of dialect.separator dialect.header known bytes))) }
-    ensures failed { S.has_failed reader.new ≡ true → result ≡ Err ReadFault.Read }
-    ensures read_is_failed { result ≡ Err ReadFault.Read → S.has_failed reader.new ≡ true }
+    ensures { Reads IsDefined (λ bytes. where_read named_combined_of (named_counts_of dialect.separator dialect.header known bytes)) IsRead (S.left reader.old) (S.has_failed reader.new) result }
 {
     let (lines, names) = match read_named_counts(rt, alloc, reader, dialect, known) {
         Ok(read) => read,

@@ -96,7 +96,7 @@ def _found(
     mining: Sequence[str],
     naming: Sequence[str] | None,
 ) -> bytes:
-    """The sets that are frequent in a part, behind its names; none, where there is no share."""
+    """The sets that are frequent in a part, after its names; none, where there is no share."""
     if not share:
         return b""
     names = b"" if naming is None else _named(part, name, [*naming])

@@ -1,9 +1,7 @@
 -- What a reader promises, and what is made of what it read.
-use Rattle.std.proofs.Common.{◌≡◌, ◌≢◌, ℕ, Bool, true, List, Option, Some, None, Result, Ok, Err, ap, ◌∙◌, sym, subst}
-use Rattle.std.specs.Prelude.{IfOk, IfSome}
+use Rattle.std.proofs.Common.{◌≡◌, ℕ, Bool, List, Option, Result, Ok, Err, ap, ◌∙◌, sym, subst}
 use Rattle.std.proofs.lemmas.Option.{IfSome_then}
 use Rattle.basket_read.specs.declared.fault.ReadFault.{ReadFault}
-use Rattle.basket_read.specs.declared.fault.ReadFault.TheVariants.{Memory, Read}
 use Rattle.basket_read.specs.Fault.{Reads}
 
 -- the same fault, or what is made of what was read
@@ -17,14 +15,7 @@ module _ {X Y A B : Type 0} (fits : X → Result Y ReadFault → Type 0) (holds 
   pub says : (defined : List ℕ → Result Y ReadFault) (fails : ReadFault → Type 0) (left : Option (List ℕ)) (failed : Bool) (read : Result X ReadFault) (result : Result A ReadFault)
       → Says say read result → Reads fits defined fails left failed read → Reads holds (λ bytes. next (defined bytes)) fails left failed result
   says defined fails left failed (Ok read) result is (working, fit) =
-      subst (Reads holds (λ bytes. next (defined bytes)) fails left failed) (sym is) (working, fitting left fit)
-    where
-      fitting : (left : Option (List ℕ)) → IfSome left (λ bytes. fits read (defined bytes)) → IfSome left (λ bytes. holds (say read) (next (defined bytes)))
-      fitting None fit = tt
-      fitting (Some bytes) fit = found read (defined bytes) fit
+      subst (Reads holds (λ bytes. next (defined bytes)) fails left failed) (sym is) (working, IfSome_then left fit (λ bytes. found read (defined bytes)))
   says defined fails left failed (Err fault) result is (exact, broken, only) =
-      subst (Reads holds (λ bytes. next (defined bytes)) fails left failed) (sym is) (λ working. told left (exact working), broken, only)
-    where
-      told : (left : Option (List ℕ)) → IfSome left (λ bytes. fault ≢ Memory → defined bytes ≡ Err fault) → IfSome left (λ bytes. fault ≢ Memory → next (defined bytes) ≡ Err fault)
-      told None is = tt
-      told (Some bytes) is = λ no_memory. ap next (is no_memory) ∙ refused fault
+      subst (Reads holds (λ bytes. next (defined bytes)) fails left failed) (sym is)
+      (λ working. IfSome_then left (exact working) (λ bytes told no_memory. ap next (told no_memory) ∙ refused fault), broken, only)

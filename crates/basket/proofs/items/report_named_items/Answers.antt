@@ -1,19 +1,27 @@
-use Rattle.std.proofs.Common.{◌∙◌, Err, Ok, Some, ap}
+use Rattle.std.proofs.Common.{◌∙◌, Some, ap, subst, sym}
+use Rattle.std.proofs.lemmas.Option.{IfSome_then}
+use Rattle.basket_csv.specs.Read.{AreCountsNamed}
+use Rattle.basket_plan.specs.declared.layout.Form.{Form}
 use Rattle.basket_plan.specs.declared.layout.Layout.{Layout}
+use Rattle.basket_read.specs.Fault.{IsRead}
 use Rattle.basket_report.specs.Report.{report_of}
 use Rattle.basket_sets.specs.Frequent.{frequent_items_of}
-use Rattle.basket.specs.Contents.{wording_with}
-use Rattle.basket.proofs.EngineLemmas.{not_failed}
-use Rattle.basket.proofs.ItemLemmas.{counts_report, csv_counted, csv_read, csv_refuses, memory_refuses}
+use Rattle.basket.specs.declared.contents.Contents.TheVariants as contents
+use Rattle.basket.specs.Contents.{FailsIn, by_names, wording_with}
+use Rattle.basket.specs.Outcome.{outcome_of}
+use Rattle.basket.proofs.EngineLemmas.{reader_refuses}
+use Rattle.basket.proofs.ItemLemmas.{counts_report, csv_counted, csv_of, csv_outcome, memory_refuses}
 use Rattle.basket.proofs.items.report_named_items.Goals as goal
 
 pub returns-in-Err : goal.returns-in-Err
 returns-in-Err g c =
     let left = g.S.Source.left c.args.reader.now in
+    let after = g.S.Source.left c.count_baskets.new.reader in
     let question = c.args.plan.now.question in
-    csv_refuses left _ question c.in-Err.fault _ c.requires.records
-    (λ working. csv_read left question c.layout-layout.result c.none-known.result (Err c.in-Err.fault) c.layout-layout.ensures c.none-known.ensures (c.in-Err.ensures.exact working))
-    c.in-Err.ensures.failed (λ is. c.in-Err.ensures.read_is_failed (ap Err is))
+    reader_refuses AreCountsNamed (csv_of question) IsRead left after question _ c.in-Err.fault
+    (λ bytes told. csv_outcome question c.requires.records bytes ∙ ap (λ r. outcome_of (by_names contents.Baskets r) question) told)
+    (λ fails. subst (λ (form : Form). FailsIn form left after c.in-Err.fault) (sym c.requires.records) fails)
+    (rw (c.layout-layout.ensures, c.none-known.ensures) at c.in-Err.ensures.counted)
 
 pub returns-in-Ok-report_counts : goal.returns-in-Ok-report_counts
 returns-in-Ok-report_counts g c =
@@ -21,11 +29,10 @@ returns-in-Ok-report_counts g c =
     let question = c.args.plan.now.question in
     let counts = c.in-Ok.counted.0 in
     let names = c.in-Ok.counted.1 in
-    let working = not_failed _ c.in-Ok.counted (λ failed. absurd (let no = c.in-Ok.ensures.failed failed in cc)) in (
+    let (working, read) = rw (c.layout-layout.ensures, c.none-known.ensures) at c.in-Ok.ensures.counted in
+    (
       working,
-      counts_report left question counts (Some names) _ c.requires.items
-          (csv_counted left question counts names c.requires.records
-          (csv_read left question c.layout-layout.result c.none-known.result (Ok (counts, names)) c.layout-layout.ensures c.none-known.ensures (c.in-Ok.ensures.exact working)))
+      counts_report left question counts (Some names) _ c.requires.items (IfSome_then left read (csv_counted question counts names c.requires.records))
           (λ baskets counted. c.in-Ok-report_counts.ensures baskets counted
           ∙ ap (λ (l : Layout). report_of (wording_with l.separator (Some names)) (frequent_items_of baskets question.minimum)) c.layout-layout.ensures),
     )
@@ -36,9 +43,5 @@ returns g c =
     let question = c.args.plan.now.question in
     let counts = c.in-Ok.counted.0 in
     let names = c.in-Ok.counted.1 in
-    let working = not_failed _ c.in-Ok.counted (λ failed. absurd (let no = c.in-Ok.ensures.failed failed in cc)) in (
-      working,
-      memory_refuses left question counts (Some names)
-          (csv_counted left question counts names c.requires.records
-          (csv_read left question c.layout-layout.result c.none-known.result (Ok (counts, names)) c.layout-layout.ensures c.none-known.ensures (c.in-Ok.ensures.exact working))),
-    )
+    let (working, read) = rw (c.layout-layout.ensures, c.none-known.ensures) at c.in-Ok.ensures.counted in
+    (working, memory_refuses left question counts (Some names) (IfSome_then left read (csv_counted question counts names c.requires.records)))
