@@ -34,19 +34,19 @@ IsReadable outcome = (fault : ReadFault) → outcome ≢ Err (Input fault)
 abbrev pub RefusesSets : Option (List ℕ) → Question → MineFault → Type 0
 RefusesSets left question fault = IfSome left (λ bytes. IsReadable (outcome bytes question) × (fault ≢ mine.Memory → outcome bytes question ≡ Err (Mine fault)))
 
--- if the reader failed, the fault is what the form of the input says of that
-abbrev pub FailsInput : Option (List ℕ) → Question → Option (List ℕ) → ReadFault → Type 0
-FailsInput left question after fault = FailsIn question.layout.form left after fault
+-- the fault is the one of the outcome, except if memory is out; if the reader failed, it is what the form of the input says of that
+abbrev pub IsReportFault : Question → Option (List ℕ) → Option (List ℕ) → Bool → RunFault → Type 0
+IsReportFault question left after failed (Input fault) =
+    (failed ≡ false → RefusesInput left question fault) × (failed ≡ true → FailsIn question.layout.form left after fault) × (fault ≡ Read → failed ≡ true)
+IsReportFault question left after failed (Mine fault) = (failed ≡ false) × RefusesSets left question fault
+IsReportFault question left after failed Write = failed ≡ false
+IsReportFault question left after failed (Sets fault) = ⊥
+IsReportFault question left after failed (Uncounted nth) = ⊥
 
 -- what comes of a reader: the report of what it had left, or why there is none
 abbrev pub MakesReport : Question → Option (List ℕ) → Option (List ℕ) → Bool → Result PreparedReport RunFault → Type 0
 MakesReport question left after failed (Ok made) = (failed ≡ false) × IfSome left (λ bytes. outcome bytes question ≡ Ok (prepared_text made))
-MakesReport question left after failed (Err (Input fault)) =
-    (failed ≡ false → RefusesInput left question fault) × (failed ≡ true → FailsInput left question after fault) × (fault ≡ Read → failed ≡ true)
-MakesReport question left after failed (Err (Mine fault)) = (failed ≡ false) × RefusesSets left question fault
-MakesReport question left after failed (Err (Sets fault)) = ⊥
-MakesReport question left after failed (Err (Uncounted nth)) = ⊥
-MakesReport question left after failed (Err Write) = ⊥
+MakesReport question left after failed (Err fault) = IsReportFault question left after failed fault × (fault ≢ Write)
 
 -- the fault of what an input says is that of its outcome, except if memory is out
 abbrev pub IsContentsFault : Result (List ℕ) RunFault → RunFault → Type 0

@@ -2,7 +2,7 @@ ghost use Rattle.std.specs.Prelude.{◌≡◌, ◌≢◌, ◌↔◌, true, false
 ghost use Rattle.std.specs.Io.KnownBytes.{Keeps};
 ghost use Rattle.basket_core.specs.declared.fault.MineFault.{MineFault as MiningFault};
 ghost use Rattle.basket_read.specs.declared.fault.ReadFault.{ReadFault as InputFault};
-ghost use Rattle.basket.specs.Engine.{IsContentsFault, MakesReport, WritesReport, WritesPrefix, RefusesInput, RefusesSets, FailsInput};
+ghost use Rattle.basket.specs.Engine.{IsContentsFault, IsReportFault, MakesReport, WritesReport, WritesPrefix};
 ghost use Rattle.basket.specs.Prepared.{prepared_text};
 ghost use Rattle.basket.specs.Outcome.{report_of_baskets, outcome_for};
 
@@ -47,13 +47,8 @@ pub fn run<R: RandomSource + Threads + Sync, S: Source, W: Sink>(
     ensures nothing { IfErr result (λ fault. fault ≢ RunFault.Write → Keeps (W.taken writer.old) (W.taken writer.new)) }
 
     // When each fault comes.
-    ensures input { (fault : InputFault) → result ≡ Err (RunFault.Input fault) → S.has_failed reader.new ≡ false
-        → RefusesInput (S.left reader.old) plan.now.question fault }
-    ensures failed_input { (fault : InputFault) → result ≡ Err (RunFault.Input fault) → S.has_failed reader.new ≡ true
-        → FailsInput (S.left reader.old) plan.now.question (S.left reader.new) fault }
+    ensures fault { IfErr result (IsReportFault plan.now.question (S.left reader.old) (S.left reader.new) (S.has_failed reader.new)) }
     ensures reader_failed { S.has_failed reader.new ≡ true → (fault : InputFault) × (result ≡ Err (RunFault.Input fault)) }
-    ensures read { result ≡ Err (RunFault.Input ReadFault.Read) → S.has_failed reader.new ≡ true }
-    ensures mine { (fault : MiningFault) → result ≡ Err (RunFault.Mine fault) → RefusesSets (S.left reader.old) plan.now.question fault }
     ensures write { (result ≡ Err RunFault.Write) ↔ (W.has_failed writer.new ≡ true) }
 {
     let made = match reported(rt, alloc, plan, reader) {

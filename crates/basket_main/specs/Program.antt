@@ -2,17 +2,15 @@
 use Rattle.std.specs.Prelude.{◌≡◌, ◌≢◌, ℕ, Bool, true, false, List, [], ◌∷◌, ◌++◌, Option, Some, None, Ok, Err, string_bytes, ⊤}
 use Rattle.std.specs.Io.KnownBytes.{Appends, Keeps}
 use Rattle.basket.specs.Count.{IsCountFault, WritesCounts, WritesCountsPrefix}
-use Rattle.basket.specs.Engine.{FailsInput, RefusesInput, RefusesSets, WritesPrefix, WritesReport}
+use Rattle.basket.specs.Engine.{IsReportFault, WritesPrefix, WritesReport}
 use Rattle.basket.specs.declared.fault.RunFault.{RunFault}
-use Rattle.basket.specs.declared.fault.RunFault.TheVariants.{Input, Mine, Write}
+use Rattle.basket.specs.declared.fault.RunFault.TheVariants.{Write}
 use Rattle.basket_plan.specs.Command.{asks_help, invocation_of_words, is_help}
-use Rattle.basket_plan.specs.Plan.{Question}
 use Rattle.basket_plan.specs.declared.command.PlanFault.{PlanFault}
 use Rattle.basket_plan.specs.declared.command.PlanFault.TheVariants.{Memory, Help}
 use Rattle.basket_plan.specs.declared.invocation.Invocation.{Invocation}
 use Rattle.basket_plan.specs.declared.invocation.Task.{Task}
 use Rattle.basket_plan.specs.declared.invocation.Task.TheVariants.{Report, Count}
-use Rattle.basket_read.specs.declared.fault.ReadFault.TheVariants.{Read}
 use Rattle.basket_report.specs.Bytes.{TakesPrefix}
 use Rattle.basket_main.specs.Log.{Grows}
 use Rattle.basket_main.specs.declared.ending.Ending.{Ending}
@@ -69,13 +67,6 @@ Writes bytes (Unanswered text) flushed before after = TakesPrefix before after (
 Writes bytes _ flushed before after = Keeps before after
 
 -- ---- the fault of a run
-
--- the fault is the one of the outcome, except if memory is out; if the reader failed, it is what the form of the input says of that
-abbrev pub IsReportFault : Question → Option (List ℕ) → Option (List ℕ) → Bool → RunFault → Type 0
-IsReportFault question left after failed (Input fault) =
-    (failed ≡ false → RefusesInput left question fault) × (failed ≡ true → FailsInput left question after fault) × (fault ≡ Read → failed ≡ true)
-IsReportFault question left after failed (Mine fault) = (failed ≡ false) × RefusesSets left question fault
-IsReportFault question left after failed _ = failed ≡ false
 
 -- the fault of a task is the one of its outcome; `left` and `has_failed` say of a reader what it has left and whether it failed
 abbrev pub IsTaskFault : {S : Type 0} → (S → Option (List ℕ)) → (S → Bool) → (Origin → Option (List ℕ)) → Task → Origin → RunFault → Type 0

@@ -34,4 +34,4 @@ returns g c =
     let question = c.args.plan.now.question in
     let counts = c.in-Ok.counts in
     let (working, read) = c.in-Ok.ensures.counted in
-    (working, memory_refuses left question counts None (IfSome_then left read (fimi_counted question counts c.requires.lines)))
+    ((working, memory_refuses left question counts None (IfSome_then left read (fimi_counted question counts c.requires.lines))), λ is. cc)

@@ -44,4 +44,4 @@ returns g c =
     let counts = c.in-Ok.counted.0 in
     let names = c.in-Ok.counted.1 in
     let (working, read) = rw (c.layout-layout.ensures, c.none-known.ensures) at c.in-Ok.ensures.counted in
-    (working, memory_refuses left question counts (Some names) (IfSome_then left read (csv_counted question counts names c.requires.records)))
+    ((working, memory_refuses left question counts (Some names) (IfSome_then left read (csv_counted question counts names c.requires.records))), λ is. cc)

@@ -1,6 +1,6 @@
 use Rattle.std.proofs.Common.{[], ◌∷◌, ap}
 use Rattle.basket_main.specs.Program.{origins_for}
-use Rattle.basket_main.proofs.ProgramLemmas.{first_origin, grows_on, has_fault, others_of}
+use Rattle.basket_main.proofs.ProgramLemmas.{first_origin, grows_on, others_of}
 use Rattle.basket_main.proofs.program.carry_out.Goals as goal
 
 pub returns-in-Err-clause-asked : goal.returns-in-Err-clause-asked
@@ -16,15 +16,3 @@ returns-in-Err-open-clause-asked g c = λ words is. (
   ap (λ task. origins_for task c.args.invocation.input) c.in-Count.is,
   grows_on (g.I.Inputs.opened c.args.inputs.now) (g.I.Inputs.opened c.open.new.self) (g.I.Inputs.opened c.open-in-Count.new.self) (c.args.invocation.input ∷ []) (c.in-Count.sets ∷ []) c.open.ensures.opened c.open-in-Count.ensures.opened,
 )
-
-pub returns-in-Report-clause-fault : goal.returns-in-Report-clause-fault
-returns-in-Report-clause-fault g c =
-    has_fault g.I.Input.Source.left g.I.Input.Source.has_failed (g.I.Inputs.bytes c.args.inputs.now) c.in-Report.plan c.args.invocation.input c.run-ran.new.reader
-    (g.I.Input.Source.left c.in-Ok.input) c.run-ran.result c.in-Ok.ensures.left
-    record {
-      input = c.run-ran.ensures.input;
-      failed_input = c.run-ran.ensures.failed_input;
-      reader_failed = c.run-ran.ensures.reader_failed;
-      read = c.run-ran.ensures.read;
-      mine = c.run-ran.ensures.mine;
-    }
