@@ -136,20 +136,24 @@ abbrev pub counts_among : List ListedSet → Result (List CountedLine) ReadFault
 counts_among [] = Ok []
 counts_among (entry ∷ entries) = counted_before entry.set entry.count entry.line (counts_among entries)
 
--- the sets of the entries, or the fault that was found before
-abbrev pub sets_said : Option ReadFault → List ListedSet → Result (List (List ℕ)) ReadFault
-sets_said (Some fault) entries = Err fault
-sets_said None entries = Ok (sets_among entries)
+-- the entries, or the fault that was found before
+abbrev pub entries_said : Option ReadFault → List ListedSet → Result (List ListedSet) ReadFault
+entries_said (Some fault) entries = Err fault
+entries_said None entries = Ok entries
+
+-- what the bytes say, or their first fault
+abbrev pub entries_in : List ℕ → Result (List ListedSet) ReadFault
+entries_in bytes = entries_said (fault_in bytes) (entries_of (text_of bytes))
+
+-- what follows of what was read, or its fault
+abbrev pub where_read : {A B : Type 0} → (A → Result B ReadFault) → Result A ReadFault → Result B ReadFault
+where_read next (Ok read) = next read
+where_read next (Err fault) = Err fault
 
 -- the sets of the bytes, or their first fault
 abbrev pub sets_of_bytes : List ℕ → Result (List (List ℕ)) ReadFault
-sets_of_bytes bytes = sets_said (fault_in bytes) (entries_of (text_of bytes))
-
--- the entries with their counts, or the fault that was found before
-abbrev pub counts_said : Option ReadFault → List ListedSet → Result (List CountedLine) ReadFault
-counts_said (Some fault) entries = Err fault
-counts_said None entries = counts_among entries
+sets_of_bytes bytes = where_read (λ entries. Ok (sets_among entries)) (entries_in bytes)
 
 -- the sets of the bytes with their counts, or their first fault, or the first set without a count
 abbrev pub counts_of : List ℕ → Result (List CountedLine) ReadFault
-counts_of bytes = counts_said (fault_in bytes) (entries_of (text_of bytes))
+counts_of bytes = where_read counts_among (entries_in bytes)

@@ -2,6 +2,5 @@ pub mod Counts
 pub mod Line
 pub mod ListedSets
 pub mod Text
-pub mod Read
 pub mod Laws
 pub mod Worked

@@ -1,7 +1,8 @@
 -- What lines that were read say.
-use Rattle.std.specs.Prelude.{◌≡◌, ℕ, List, [], ◌∷◌, map, Option, Some, None, unwrap_or}
+use Rattle.std.specs.Prelude.{◌≡◌, ℕ, List, [], ◌∷◌, map, Option, Some, None, unwrap_or, Result, IsOkAnd}
 use Rattle.std.specs.Option.{option_or}
 use Rattle.basket_read.specs.declared.counted_line.CountedLine.{CountedLine}
+use Rattle.basket_read.specs.declared.fault.ReadFault.{ReadFault}
 use Rattle.basket_counts.specs.declared.listed_sets.ListedSets.{ListedSets}
 use Rattle.basket_counts.specs.Counts.{ListedSet}
 
@@ -23,3 +24,7 @@ first_uncounted (entry ∷ entries) = option_or (uncounted_at entry.count entry.
 pub record HasEntries (listed : ListedSets) (entries : List ListedSet) : Type 0 where
   pub lines : listed.lines.items ≡ lines_of entries
   pub uncounted : listed.uncounted ≡ first_uncounted entries
+
+-- what was read is the entries that are defined
+abbrev pub AreEntries : ListedSets → Result (List ListedSet) ReadFault → Type 0
+AreEntries listed defined = IsOkAnd defined (HasEntries listed)

@@ -1,9 +1,8 @@
 //! Reading a list of counted sets.
-ghost use Rattle.std.specs.Prelude.{◌≡◌, ◌≢◌, true, false, IfSome, Err};
-ghost use Rattle.basket_read.specs.declared.fault.ReadFault.TheVariants.{Read};
-ghost use Rattle.basket_counts.specs.Counts.{sets_of_bytes, counts_of};
-ghost use Rattle.basket_read.specs.Fault.{ReturnsList};
-ghost use Rattle.basket_counts.specs.Read.{Says};
+ghost use Rattle.std.specs.Prelude.{◌≡◌, false};
+ghost use Rattle.basket_counts.specs.Counts.{sets_of_bytes, counts_of, entries_in};
+ghost use Rattle.basket_counts.specs.ListedSets.{AreEntries};
+ghost use Rattle.basket_read.specs.Fault.{Reads, ReturnsBy, IsRead, IsDefinedList};
 
 use crate::halves::listed_shared;
 use crate::listed_sets::ListedSets;
@@ -15,6 +14,7 @@ use std::thread::Threads;
 
 /// Reads a list of sets to its end, one set a line, by this many workers, and returns the sets in
 /// its order. Their counts may be there or not, and are ignored.
+#[tactic(auto, using(crate::proofs::ReadLemmas::refused))]
 pub fn read_sets<R: Threads + Sync, S: Source>(
     rt: &R,
     alloc: Global,
@@ -22,11 +22,7 @@ pub fn read_sets<R: Threads + Sync, S: Source>(
     workers: u32,
 ) -> Result<Vec<Itemset>, ReadFault>
     requires { S.has_failed reader.old ≡ false }
-    // If the reader doesn't fail, the result is that of all its bytes.
-    ensures exact { S.has_failed reader.new ≡ false → IfSome (S.left reader.old) (λ bytes. ReturnsList result (sets_of_bytes bytes)) }
-    // If it fails, the result is `Read`, and only then.
-    ensures failed { S.has_failed reader.new ≡ true → result ≡ Err Read }
-    ensures read_is_failed { result ≡ Err Read → S.has_failed reader.new ≡ true }
+    ensures { Reads IsDefinedList sets_of_bytes IsRead (S.left reader.old) (S.has_failed reader.new) result }
 {
     let listed = read_listed(rt, alloc, reader, workers)?;
     listed.sets(alloc)
@@ -34,6 +30,7 @@ pub fn read_sets<R: Threads + Sync, S: Source>(
 
 /// Reads a list of counted sets to its end, one set a line, by this many workers, and returns the
 /// sets with their counts, in its order.
+#[tactic(auto, using(crate::proofs::ReadLemmas::refused))]
 pub fn read_counts<R: Threads + Sync, S: Source>(
     rt: &R,
     alloc: Global,
@@ -41,17 +38,14 @@ pub fn read_counts<R: Threads + Sync, S: Source>(
     workers: u32,
 ) -> Result<Vec<CountedLine>, ReadFault>
     requires { S.has_failed reader.old ≡ false }
-    // If the reader doesn't fail, the result is that of all its bytes.
-    ensures exact { S.has_failed reader.new ≡ false → IfSome (S.left reader.old) (λ bytes. ReturnsList result (counts_of bytes)) }
-    // If it fails, the result is `Read`, and only then.
-    ensures failed { S.has_failed reader.new ≡ true → result ≡ Err Read }
-    ensures read_is_failed { result ≡ Err Read → S.has_failed reader.new ≡ true }
+    ensures { Reads IsDefinedList counts_of IsRead (S.left reader.old) (S.has_failed reader.new) result }
 {
     let listed = read_listed(rt, alloc, reader, workers)?;
     listed.counts()
 }
 
 /// Reads a list to its end.
+#[tactic(auto, using(crate::proofs::ReadLemmas::untaken, crate::proofs::ReadLemmas::taken))]
 fn read_listed<R: Threads + Sync, S: Source>(
     rt: &R,
     alloc: Global,
@@ -59,9 +53,7 @@ fn read_listed<R: Threads + Sync, S: Source>(
     workers: u32,
 ) -> Result<ListedSets, ReadFault>
     requires { S.has_failed reader.old ≡ false }
-    ensures exact { S.has_failed reader.new ≡ false → IfSome (S.left reader.old) (λ bytes. Says result bytes) }
-    ensures failed { S.has_failed reader.new ≡ true → result ≡ Err Read }
-    ensures read_is_failed { result ≡ Err Read → S.has_failed reader.new ≡ true }
+    ensures { Reads AreEntries entries_in IsRead (S.left reader.old) (S.has_failed reader.new) result }
 {
     let bytes = take_in(alloc, reader)?;
     listed_of(rt, alloc, &bytes, workers)
@@ -74,8 +66,7 @@ fn listed_of<R: Threads + Sync>(
     bytes: &[u8],
     workers: u32,
 ) -> Result<ListedSets, ReadFault>
-    ensures says { Says result bytes.now }
-    ensures not_read { result ≢ Err Read }
+    ensures { ReturnsBy AreEntries result (entries_in bytes.now) }
 {
     let most = bytes.len().min(MAX_BYTES);
     let listed = listed_shared(rt, alloc, 0, text_of(&bytes[..most]), workers)?;
