@@ -10,28 +10,23 @@ use Rattle.basket_plan.specs.declared.layout.Layout.{Layout}
 use Rattle.basket_plan.specs.Plan.{has_names}
 use Rattle.basket_read.specs.declared.counted_line.CountedLine.{CountedLine}
 use Rattle.basket_read.specs.declared.fault.ReadFault.{ReadFault}
-use Rattle.basket_read.specs.Fault.{IsRead}
+use Rattle.basket_read.specs.Fault.{IsRead, result_and_then}
 use Rattle.basket_read.specs.Fimi.{fimi_of}
 use Rattle.basket_read.specs.Read.{FailsAfter}
 use Rattle.basket_report.specs.Style.{Wording, Numbered, Named as ByNames}
 use Rattle.basket.specs.declared.contents.Contents.{Contents}
 use Rattle.basket.specs.declared.contents.Contents.TheVariants as contents
 
--- what follows of what was read, or its fault
-abbrev pub where_read : {A B : Type 0} → (A → Result B ReadFault) → Result A ReadFault → Result B ReadFault
-where_read next (Ok read) = next read
-where_read next (Err fault) = Err fault
-
 -- contents whose items are numbers, and whose items have names
 abbrev pub by_numbers : {A : Type 0} → (A → Option (List (List ℕ)) → Contents) → Result A ReadFault → Result Contents ReadFault
-by_numbers say read = where_read (λ a. Ok (say a None)) read
+by_numbers say read = result_and_then (λ a. Ok (say a None)) read
 
 abbrev pub by_names : {A : Type 0} → (A → Option (List (List ℕ)) → Contents) → Result (A × List (List ℕ)) ReadFault → Result Contents ReadFault
-by_names say read = where_read (λ both. Ok (say both.0 (Some both.1))) read
+by_names say read = result_and_then (λ both. Ok (say both.0 (Some both.1))) read
 
 -- counted sets of names put together
 abbrev pub with_names : {A : Type 0} → List (List ℕ) → Result A ReadFault → Result (A × List (List ℕ)) ReadFault
-with_names names read = where_read (λ a. Ok (a, names)) read
+with_names names read = result_and_then (λ a. Ok (a, names)) read
 
 abbrev pub named_combined_of : List CountedLine × List (List ℕ) → Result (List CountedLine × List (List ℕ)) ReadFault
 named_combined_of both = with_names both.1 (combined_of both.0)
@@ -41,8 +36,8 @@ abbrev pub contents_in : Form → Layout → List (List ℕ) → List ℕ → Re
 contents_in Fimi layout known bytes = by_numbers contents.Baskets (fimi_of bytes)
 contents_in Baskets layout known bytes = by_names contents.Baskets (baskets_of_csv layout.separator layout.header layout.weighted known bytes)
 contents_in Single layout known bytes = by_names contents.Baskets (pairs_of_csv layout.separator layout.header known bytes)
-contents_in Counts layout known bytes = by_numbers contents.Counts (where_read combined_of (counts_of bytes))
-contents_in CsvCounts layout known bytes = by_names contents.Counts (where_read named_combined_of (named_counts_of layout.separator layout.header known bytes))
+contents_in Counts layout known bytes = by_numbers contents.Counts (result_and_then combined_of (counts_of bytes))
+contents_in CsvCounts layout known bytes = by_names contents.Counts (result_and_then named_combined_of (named_counts_of layout.separator layout.header known bytes))
 
 abbrev pub contents_of : Layout → List (List ℕ) → List ℕ → Result Contents ReadFault
 contents_of layout known bytes = contents_in layout.form layout known bytes
@@ -64,7 +59,7 @@ abbrev pub sets_without_counts : List CountedLine × List (List ℕ) → Result 
 sets_without_counts both = Ok (map (λ (line : CountedLine). line.set) both.0, both.1)
 
 abbrev pub named_sets_of : ℕ → List ℕ → Result (List (List ℕ) × List (List ℕ)) ReadFault
-named_sets_of separator bytes = where_read sets_without_counts (named_counts_of separator false [] bytes)
+named_sets_of separator bytes = result_and_then sets_without_counts (named_counts_of separator false [] bytes)
 
 -- the sets that some bytes list, and the names of their items, of which numbers have none; or the fault of the bytes
 abbrev pub asked_in : Layout → List ℕ → Result (List (List ℕ) × List (List ℕ)) ReadFault

@@ -4,8 +4,8 @@ ghost use Rattle.basket_counts.specs.Counts.{counts_of};
 ghost use Rattle.basket_csv.specs.Counts.{named_counts_of};
 ghost use Rattle.basket_parts.specs.CombinedCounts.{combined_of};
 ghost use Rattle.basket.specs.declared.contents.Contents.TheVariants as contents;
-ghost use Rattle.basket_read.specs.Fault.{IsDefined, IsRead, Reads};
-ghost use Rattle.basket.specs.Contents.{FailsIn, by_names, by_numbers, contents_of, named_combined_of, where_read, wording_with};
+ghost use Rattle.basket_read.specs.Fault.{IsDefined, IsRead, Reads, result_and_then};
+ghost use Rattle.basket.specs.Contents.{FailsIn, by_names, by_numbers, contents_of, named_combined_of, wording_with};
 ghost use Rattle.basket_report.specs.Style.{wording_of};
 
 use basket_core::{Database, Source};
@@ -80,7 +80,7 @@ fn read_combined<R: Threads + Sync, S: Source>(
     workers: u32,
 ) -> Result<CombinedCounts, ReadFault>
     requires { S.has_failed reader.old ≡ false }
-    ensures { Reads IsDefined (λ bytes. where_read combined_of (counts_of bytes)) IsRead (S.left reader.old) (S.has_failed reader.new) result }
+    ensures { Reads IsDefined (λ bytes. result_and_then combined_of (counts_of bytes)) IsRead (S.left reader.old) (S.has_failed reader.new) result }
 {
     match read_counts(rt, alloc, reader, workers) {
         Ok(lines) => CombinedCounts::of(alloc, lines),
@@ -97,7 +97,7 @@ fn read_named_combined<R: RandomSource, S: Source>(
     known: Names,
 ) -> Result<(CombinedCounts, Names), ReadFault>
     requires { S.has_failed reader.old ≡ false }
-    ensures { Reads IsDefined (λ bytes. where_read named_combined_of (named_counts_of dialect.separator dialect.header known bytes)) IsRead (S.left reader.old) (S.has_failed reader.new) result }
+    ensures { Reads IsDefined (λ bytes. result_and_then named_combined_of (named_counts_of dialect.separator dialect.header known bytes)) IsRead (S.left reader.old) (S.has_failed reader.new) result }
 {
     let (lines, names) = match read_named_counts(rt, alloc, reader, dialect, known) {
         Ok(read) => read,

@@ -11,12 +11,12 @@ use Rattle.basket_read.specs.declared.fault.ReadFault.TheVariants.{Memory, Read,
 use Rattle.basket_read.specs.Bytes.{AreTakenOf}
 use Rattle.basket_read.specs.Cut.{cut_at}
 use Rattle.basket_read.specs.Fimi.{is_line_feed, line_after, or_else, text_of, MOST_BYTES}
-use Rattle.basket_read.specs.Fault.{ReturnsFault, ReturnsBy, ReturnsList, Reads, IsRead, IsDefined, IsDefinedList}
+use Rattle.basket_read.specs.Fault.{ReturnsFault, ReturnsBy, ReturnsList, Reads, IsRead, IsDefined, IsDefinedList, result_and_then}
 use Rattle.basket_counts.specs.declared.listed_sets.ListedSets.{ListedSets}
 use Rattle.basket_counts.specs.ListedSets.{HasEntries, AreEntries}
 use Rattle.basket_read.proofs.theory.Bytes.{of_all}
 use Rattle.basket_read.proofs.theory.Grammar as grammar
-use Rattle.basket_counts.specs.Counts.{ListedSet, is_open, is_close, is_line, fault_at, count_fault, digit_fault, first_fault, entries_of, entries_said, entries_in, where_read}
+use Rattle.basket_counts.specs.Counts.{ListedSet, is_open, is_close, is_line, fault_at, count_fault, digit_fault, first_fault, entries_of, entries_said, entries_in}
 
 -- no text has the fault of a reader
 not_found : (text : List ℕ) → first_fault text ≢ Some Read
@@ -98,14 +98,14 @@ module _ (left : Option (List ℕ)) (failed : Bool) where
 
   module _ {X : Type 0} (next : List ListedSet → Result (List X) ReadFault) where
     -- a list was not read
-    pub refused : (fault : ReadFault) → Reads AreEntries entries_in IsRead left failed (Err fault) → Reads (IsDefined {X = List X}) (λ bytes. where_read next (entries_in bytes)) IsRead left failed (Err fault)
-    refused fault (exact, fails, only) = (λ e. IfSome_then left (exact e) (λ bytes told no_memory. ap (where_read next) (told no_memory)), fails, only)
+    pub refused : (fault : ReadFault) → Reads AreEntries entries_in IsRead left failed (Err fault) → Reads (IsDefined {X = List X}) (λ bytes. result_and_then next (entries_in bytes)) IsRead left failed (Err fault)
+    refused fault (exact, fails, only) = (λ e. IfSome_then left (exact e) (λ bytes told no_memory. ap (result_and_then next) (told no_memory)), fails, only)
 
     -- what follows of a list that was read
     pub follows : {A : Type 0} (listed : ListedSets) (result : Result (Vec X A) ReadFault) → ((entries : List ListedSet) → HasEntries listed entries → ReturnsList result (next entries)) → result ≢ Err Read
-        → Reads AreEntries entries_in IsRead left failed (Ok listed) → Reads IsDefinedList (λ bytes. where_read next (entries_in bytes)) IsRead left failed result
-    follows listed result told other (e, all) = working IsDefinedList (λ bytes. where_read next (entries_in bytes)) result e other (IfSome_then left all (λ bytes. found (entries_in bytes)))
+        → Reads AreEntries entries_in IsRead left failed (Ok listed) → Reads IsDefinedList (λ bytes. result_and_then next (entries_in bytes)) IsRead left failed result
+    follows listed result told other (e, all) = working IsDefinedList (λ bytes. result_and_then next (entries_in bytes)) result e other (IfSome_then left all (λ bytes. found (entries_in bytes)))
       where
-        found : (defined : Result (List ListedSet) ReadFault) → AreEntries listed defined → ReturnsList result (where_read next defined)
+        found : (defined : Result (List ListedSet) ReadFault) → AreEntries listed defined → ReturnsList result (result_and_then next defined)
         found (Ok entries) has = told entries has
         found (Err fault) has = elim has [ ]

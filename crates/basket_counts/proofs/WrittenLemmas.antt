@@ -15,7 +15,8 @@ use Rattle.basket_sets.proofs.theory.Rising.{rising-rising}
 use Rattle.basket_read.specs.declared.fault.ReadFault.TheVariants.{TooLong}
 use Rattle.basket_read.specs.Cut.{Cut, cut_at}
 use Rattle.basket_read.specs.Fimi.{is_blank, is_line_feed, is_nil, is_number, are_numbers, numbers_of, text_of, or_else, MOST_NUMBER, MOST_BYTES}
-use Rattle.basket_counts.specs.Counts.{is_open, is_close, is_count, is_tail_of, is_tail, is_line_of, is_line, is_good, first_fault, fault_in, entry, count_before, entry_of_parts, entry_of, entries_from, entries_of, counted_before, counts_among, entries_said, where_read}
+use Rattle.basket_read.specs.Fault.{result_and_then}
+use Rattle.basket_counts.specs.Counts.{is_open, is_close, is_count, is_tail_of, is_tail, is_line_of, is_line, is_good, first_fault, fault_in, entry, count_before, entry_of_parts, entry_of, entries_from, entries_of, counted_before, counts_among, entries_said}
 use Rattle.basket_counts.specs.Laws.{items_text, set_line, IsWritten, lines_from, ListsAreReadBack}
 use Rattle.basket_read.proofs.theory.Cuts.{cut, cut_ended, cut_on_by}
 use Rattle.basket_read.proofs.theory.Numbers.{within, digit_is_no_blank}
@@ -233,5 +234,5 @@ lists_are_read_back sets written few =
     let none : fault_in (text sets) ≡ None =
     ap (λ b. or_else (first_fault (text_of (take MOST_BYTES (text sets)))) (cond b (Some TooLong) None)) (le-ltb MOST_BYTES (length (text sets)) few)
     ∙ ap (λ l. or_else (first_fault l) None) (ap text_of all ∙ same) ∙ ap (λ f. or_else f None) ((good_is_faultless (text sets)).0 (text_good sets written)) in
-    (λ i. where_read counts_among (entries_said (none i) (entries_of (same i))))
+    (λ i. result_and_then counts_among (entries_said (none i) (entries_of (same i))))
     ∙ ap (λ (k : Cut). counts_among (entries_from 1 (k.ended ++ k.last ∷ []))) (text_cut sets written) ∙ lines_say 1 sets written

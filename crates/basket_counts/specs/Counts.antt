@@ -10,6 +10,7 @@ use Rattle.basket_read.specs.declared.counted_line.CountedLine.{CountedLine}
 use Rattle.basket_read.specs.Cut.{cut_at, parts_of}
 use Rattle.basket_read.specs.Fimi.{is_blank, is_line_feed, is_nil, are_numbers, numbers_of, line_after, text_of, or_else, MOST_BYTES}
 use Rattle.basket_read.specs.Grammar.{first_fault_by}
+use Rattle.basket_read.specs.Fault.{result_and_then}
 
 -- a set of a list, with its count if it has a whole one, and the number of its line
 pub record ListedSet : Type 0 where
@@ -145,15 +146,10 @@ entries_said None entries = Ok entries
 abbrev pub entries_in : List ℕ → Result (List ListedSet) ReadFault
 entries_in bytes = entries_said (fault_in bytes) (entries_of (text_of bytes))
 
--- what follows of what was read, or its fault
-abbrev pub where_read : {A B : Type 0} → (A → Result B ReadFault) → Result A ReadFault → Result B ReadFault
-where_read next (Ok read) = next read
-where_read next (Err fault) = Err fault
-
 -- the sets of the bytes, or their first fault
 abbrev pub sets_of_bytes : List ℕ → Result (List (List ℕ)) ReadFault
-sets_of_bytes bytes = where_read (λ entries. Ok (sets_among entries)) (entries_in bytes)
+sets_of_bytes bytes = result_and_then (λ entries. Ok (sets_among entries)) (entries_in bytes)
 
 -- the sets of the bytes with their counts, or their first fault, or the first set without a count
 abbrev pub counts_of : List ℕ → Result (List CountedLine) ReadFault
-counts_of bytes = where_read counts_among (entries_in bytes)
+counts_of bytes = result_and_then counts_among (entries_in bytes)

@@ -5,7 +5,7 @@ use Rattle.std.specs.List.{Contains, list_any}
 use Rattle.std.proofs.lemmas.Bool.Decides.{nat_tests}
 use Rattle.std.proofs.lemmas.List.Elements.{recursion_from_All}
 use Rattle.basket.specs.Counted.{gap_in, listing_in, needs_subsets, needs_total, unless_fault}
-use Rattle.basket.specs.Contents.{by_names, by_numbers, named_combined_of, where_read, with_names, wording_with}
+use Rattle.basket.specs.Contents.{by_names, by_numbers, named_combined_of, with_names, wording_with}
 use Rattle.basket.specs.declared.contents.Contents.TheVariants as contents
 use Rattle.basket.specs.Outcome.{report_of_listing, report_of_baskets, of_listing, of_mining, outcome, outcome_for, outcome_of}
 use Rattle.basket_core.specs.declared.fault.MineFault.TheVariants.{TooMany}
@@ -22,6 +22,7 @@ use Rattle.basket_plan.specs.Plan.{Question}
 use Rattle.basket_read.specs.declared.counted_line.CountedLine.{CountedLine}
 use Rattle.basket_read.specs.declared.fault.ReadFault.TheVariants.{Heavy, NoTotal}
 use Rattle.basket_read.specs.Fimi.{MOST_BYTES}
+use Rattle.basket_read.specs.Fault.{result_and_then}
 use Rattle.basket_report.specs.Report.{report_of, rules_report_of}
 use Rattle.basket_report.specs.Style.{Numbered}
 use Rattle.basket_rules.proofs.theory.Condensed.{list_decides_closed, list_decides_maximal}
@@ -169,7 +170,7 @@ module _
 
     answers : (bytes : List ℕ) → counts_of bytes ≡ Ok lines → outcome bytes asked ≡ outcome_for (contents.Baskets whole None) asked
     answers bytes read =
-        ap (λ r. outcome_of (by_numbers contents.Counts (where_read combined_of r)) asked) read
+        ap (λ r. outcome_of (by_numbers contents.Counts (result_and_then combined_of r)) asked) read
         ∙ ap (λ r. outcome_of (by_numbers contents.Counts r) asked) not_heavy
         ∙ ap (λ r. of_listing r None asked) same_listing
         ∙ ap of_mining (same_text whole asked None question.ask refl)
@@ -181,7 +182,7 @@ module _
     pub answers_by_names : (names : List (List ℕ)) (bytes : List ℕ) → named_counts_of question.layout.separator question.layout.header [] bytes ≡ Ok (lines, names)
         → outcome bytes asked_by_names ≡ outcome_for (contents.Baskets whole (Some names)) asked_by_names
     answers_by_names names bytes read =
-        ap (λ r. outcome_of (by_names contents.Counts (where_read named_combined_of r)) asked_by_names) read
+        ap (λ r. outcome_of (by_names contents.Counts (result_and_then named_combined_of r)) asked_by_names) read
         ∙ ap (λ r. outcome_of (by_names contents.Counts (with_names names r)) asked_by_names) not_heavy
         ∙ ap (λ r. of_listing r (Some names) asked_by_names) same_listing
         ∙ ap of_mining (same_text whole asked_by_names (Some names) question.ask refl)

@@ -3,7 +3,7 @@ use Rattle.std.proofs.Common.{◌≡◌, ◌≢◌, ◌∙◌, ◌≤◌, ◌++�
 use Rattle.std.specs.List.{flat_map}
 use Rattle.basket.specs.declared.fault.RunFault.{RunFault}
 use Rattle.basket.specs.declared.contents.Contents.TheVariants as contents
-use Rattle.basket.specs.Contents.{by_numbers, where_read, with_names}
+use Rattle.basket.specs.Contents.{by_numbers, with_names}
 use Rattle.basket.specs.Count.{count_outcome, of_asked, of_contents}
 use Rattle.basket.specs.Outcome.{outcome, outcome_for, outcome_of}
 use Rattle.basket_counts.specs.Counts.{sets_of_bytes}

@@ -20,6 +20,11 @@ number_of_fault NoTotal = 12
 number_of_fault (Subset line) = 13
 number_of_fault (RecordCount nth) = 14
 
+-- what follows of a result, or its fault
+abbrev pub result_and_then : {X Y : Type 0} → (X → Result Y ReadFault) → Result X ReadFault → Result Y ReadFault
+result_and_then next (Ok x) = next x
+result_and_then next (Err fault) = Err fault
+
 -- except if memory is out, the fault is the one that was found
 abbrev pub ReturnsFault : ReadFault → Option ReadFault → Type 0
 ReturnsFault fault found = fault ≢ Memory → found ≡ Some fault
