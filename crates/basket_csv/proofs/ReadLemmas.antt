@@ -1,64 +1,51 @@
--- What is found, and what is said.
-use Rattle.std.proofs.Common.{◌≡◌, ◌<◌, ℕ, Bool, false, cond, ltb, List, ◌++◌, length, Option, None, Result, Ok, Err, refl, sym, ap, ◌∙◌, subst, arith}
-use Rattle.std.specs.Prelude.{IfOk, IfSome}
+-- What a reader promises, by what bytes say.
+use Rattle.std.proofs.Common.{◌≡◌, ◌≢◌, ◌<◌, ℕ, Bool, false, cond, ltb, List, ◌++◌, length, Option, Result, Ok, Err, refl, sym, ap, ◌∙◌, subst, arith}
+use Rattle.std.specs.Prelude.{IfErr, IfOk, IfSome}
 use Rattle.std.proofs.lemmas.Bool.{lt-ltb}
 use Rattle.std.proofs.lemmas.List.{length-append}
 use Rattle.basket_read.specs.declared.fault.ReadFault.{ReadFault}
-use Rattle.basket_read.specs.declared.fault.ReadFault.TheVariants.{TooLong}
+use Rattle.basket_read.specs.declared.fault.ReadFault.TheVariants.{Read, TooLong}
 use Rattle.basket_read.specs.declared.item_counts.ItemCounts.{ItemCounts}
 use Rattle.basket_read.specs.Bytes.{AreTakenOf}
 use Rattle.basket_read.specs.Fimi.{MOST_BYTES}
 use Rattle.basket_read.specs.ItemCounts.{AreLightCounts}
-use Rattle.basket_read.specs.Fault.{ReturnsBy, ReturnsFault}
+use Rattle.basket_read.specs.Fault.{IsRead, Reads, ReturnsBy}
 use Rattle.basket_read.proofs.theory.Bytes.{of_all}
 use Rattle.basket_csv.specs.Baskets.{AreNamedCounts}
-use Rattle.basket_csv.specs.Csv.{Named, if_faultless}
-use Rattle.basket_csv.specs.Read.{CountsNamed}
+use Rattle.basket_csv.specs.Csv.{Named, first_number}
+use Rattle.basket_csv.specs.Read.{AreCountsNamed}
+use Rattle.basket_csv.specs.RecordCollector.{Start}
 
-module _ {X Y : Type 0} (finds : X → Result Y ReadFault → Type 0) (result : Result X ReadFault) where
-  -- no record has a fault
-  pub faultless : (found : Option ReadFault) (said : Result Y ReadFault) → found ≡ None → ReturnsBy finds result said → ReturnsBy finds result (if_faultless found said)
-  faultless found said e h = subst (λ o. ReturnsBy finds result (if_faultless o said)) (sym e) h
+-- what is settled before the first record
+abbrev pub starting : Bool → Bool → List (List ℕ) → Bool → Start
+starting header weighted known counting = record { first = first_number header; weighted = weighted; known = known; counting = counting }
 
-  -- one has
-  pub faulty : (returned fault : ReadFault) (found : Option ReadFault) (said : Result Y ReadFault) → result ≡ Err returned → returned ≡ fault → ReturnsFault fault found → ReturnsBy finds result (if_faultless found said)
-  faulty returned fault found said e f tells =
-      subst (λ r. ReturnsBy finds r (if_faultless found said)) (sym (e ∙ ap Err f)) (λ some. ap (λ o. if_faultless o said) (tells some))
+module _ {X Y : Type 0} (finds : X → Result Y ReadFault → Type 0) (say : List ℕ → Result Y ReadFault) where
+  -- what bytes say that may be too many
+  abbrev said : List ℕ → Result Y ReadFault
+  said bytes = cond (ltb MOST_BYTES (length bytes)) (Err TooLong) (say bytes)
 
-  module _ (say : List ℕ → Result Y ReadFault) where
-    -- what bytes say that may be too many
-    abbrev said : List ℕ → Result Y ReadFault
-    said bytes = cond (ltb MOST_BYTES (length bytes)) (Err TooLong) (say bytes)
+  too_long : (bytes : List ℕ) → MOST_BYTES < length bytes → said bytes ≡ Err TooLong
+  too_long bytes more = ap (λ b. cond b (Err TooLong) (say bytes)) (lt-ltb MOST_BYTES (length bytes) more)
 
-    too_long : (bytes : List ℕ) → MOST_BYTES < length bytes → said bytes ≡ Err TooLong
-    too_long bytes more = ap (λ b. cond b (Err TooLong) (say bytes)) (lt-ltb MOST_BYTES (length bytes) more)
+  exact : (left : Option (List ℕ)) (bytes items : List ℕ) (result : Result X ReadFault) → bytes ≡ items → IfSome left (AreTakenOf items) → ReturnsBy finds result (said bytes) → IfSome left (λ all. ReturnsBy finds result (said all))
+  exact left bytes items result same taken h =
+      of_all (λ all. ReturnsBy finds result (said all))
+      (λ bytes rest more. subst (ReturnsBy finds result) (too_long bytes more ∙ sym (too_long (bytes ++ rest) (let sum = length-append bytes rest in omega arith))))
+      left items taken (subst (λ bs. ReturnsBy finds result (said bs)) same h)
 
-    -- bytes of a reader were taken in, all or too many
-    pub exact : (left : Option (List ℕ)) (bytes items : List ℕ) → bytes ≡ items → IfSome left (AreTakenOf items) → ReturnsBy finds result (said bytes) → IfSome left (λ all. ReturnsBy finds result (said all))
-    exact left bytes items same taken h =
-        of_all (λ all. ReturnsBy finds result (said all))
-        (λ bytes rest more. subst (ReturnsBy finds result) (too_long bytes more ∙ sym (too_long (bytes ++ rest) (let sum = length-append bytes rest in omega arith))))
-        left items taken (subst (λ bs. ReturnsBy finds result (said bs)) same h)
-
--- the fault of a first result is returned, and more is said of what is said there
-pub passed_on : {X Y Z W : Type 0} (finds : X → Result Y ReadFault → Type 0) (first : Z → Result W ReadFault → Type 0) (more : Result W ReadFault → Result Y ReadFault)
-    (result : Result X ReadFault) (inner : Result Z ReadFault) (returned fault : ReadFault) (said : Result W ReadFault)
-    → more (Err fault) ≡ Err fault → result ≡ Err returned → returned ≡ fault → inner ≡ Err fault → ReturnsBy first inner said → ReturnsBy finds result (more said)
-passed_on finds first more result inner returned fault said same e f is h =
-    subst (λ r. ReturnsBy finds r (more said)) (sym (e ∙ ap Err f)) (λ other. ap more (subst (λ r. ReturnsBy first r said) is h other) ∙ same)
+  -- bytes of a reader were taken in, all or too many, and the result is what they say
+  pub reads : (left : Option (List ℕ)) (failed : Bool) (bytes items : List ℕ) (result : Result X ReadFault) → bytes ≡ items → (failed ≡ false) × IfSome left (AreTakenOf items)
+      → IfErr result (λ fault. fault ≢ Read) → ReturnsBy finds result (said bytes) → Reads finds said IsRead left failed result
+  reads left failed bytes items (Ok found) same (working, taken) not_read h = (working, exact left bytes items (Ok found) same taken h)
+  reads left failed bytes items (Err fault) same (working, taken) not_read h = (λ _. exact left bytes items (Err fault) same taken h, λ broken. absurd cc, λ e. absurd (not_read e))
 
 -- ---- counts of baskets
 
-pub items_found : (counting : Bool) (result : Result (ItemCounts × List (List ℕ)) ReadFault) (said : Result Named ReadFault) → ReturnsBy (AreNamedCounts counting) result said → CountsNamed result said
-items_found counting (Ok found) said (baskets, is, counted) = (baskets, is, counted.0)
-items_found counting (Err fault) said h = h
+pub counted : (counting : Bool) (result : Result (ItemCounts × List (List ℕ)) ReadFault) (defined : Result Named ReadFault) → ReturnsBy (AreNamedCounts counting) result defined
+    → ReturnsBy AreCountsNamed result defined × IfOk result (λ found. AreLightCounts found.0)
+counted counting (Ok found) defined (baskets, is, has) = ((baskets, is, has.0), (baskets, has.0, has.1))
+counted counting (Err fault) defined h = (h, tt)
 
-pub light_items : (counting : Bool) (result : Result (ItemCounts × List (List ℕ)) ReadFault) (said : Result Named ReadFault) → ReturnsBy (AreNamedCounts counting) result said → IfOk result (λ found. AreLightCounts found.0)
-light_items counting (Ok found) said (baskets, is, counted) = (baskets, counted.0, counted.1)
-light_items counting (Err fault) said h = tt
-
-pub all_kept : (result : Result (ItemCounts × List (List ℕ)) ReadFault) (counts : ItemCounts) (names : List (List ℕ)) (said : Result Named ReadFault)
-    → result ≡ Ok (counts, names) → ReturnsBy (AreNamedCounts false) result said → said ≡ Ok (counts.rest, names)
-all_kept result counts names said e h =
-    let (baskets, is, gathered) = subst (λ r. ReturnsBy (AreNamedCounts false) r said) e h in
-    is ∙ ap (λ all. Ok (all, names)) (sym (gathered.2 refl))
+pub all_kept : (found : ItemCounts × List (List ℕ)) (defined : Result Named ReadFault) → AreNamedCounts false found defined → defined ≡ Ok (found.0.rest, found.1)
+all_kept found defined (baskets, is, gathered) = is ∙ ap (λ all. Ok (all, found.1)) (sym (gathered.2 refl))

@@ -1,10 +1,9 @@
 //! Reading a CSV input.
-ghost use Rattle.std.specs.Prelude.{◌≡◌, true, false, IfOk, IfSome, Err};
-ghost use Rattle.basket_read.specs.declared.fault.ReadFault.TheVariants.{Read};
+ghost use Rattle.std.specs.Prelude.{◌≡◌, false, IfOk};
 ghost use Rattle.basket_csv.specs.Counts.{named_counts_of};
 ghost use Rattle.basket_csv.specs.Csv.{baskets_of_csv, pairs_of_csv};
-ghost use Rattle.basket_read.specs.Fault.{Returns, ReturnsBoth};
-ghost use Rattle.basket_csv.specs.Read.{CountsNamed};
+ghost use Rattle.basket_read.specs.Fault.{Reads, IsDefined, AreDefined, IsRead};
+ghost use Rattle.basket_csv.specs.Read.{AreCountsNamed};
 ghost use Rattle.basket_read.specs.ItemCounts.{AreLightCounts};
 
 use crate::baskets::Baskets;
@@ -33,11 +32,7 @@ pub fn read_baskets<R: RandomSource, S: Source>(
     known: Names,
 ) -> Result<(Database, Names), ReadFault>
     requires { S.has_failed reader.old ≡ false }
-    // If the reader doesn't fail, the result is that of all its bytes.
-    ensures exact { S.has_failed reader.new ≡ false → IfSome (S.left reader.old) (λ bytes. Returns result (baskets_of_csv dialect.separator dialect.header weight known bytes)) }
-    // If it fails, the result is `Read`, and only then.
-    ensures failed { S.has_failed reader.new ≡ true → result ≡ Err Read }
-    ensures read_is_failed { result ≡ Err Read → S.has_failed reader.new ≡ true }
+    ensures { Reads IsDefined (baskets_of_csv dialect.separator dialect.header weight known) IsRead (S.left reader.old) (S.has_failed reader.new) result }
 {
     let bytes = take_in(alloc, reader)?;
     let baskets = Baskets::new(alloc, Seed::new(rt), weight, known, false)?;
@@ -55,12 +50,8 @@ pub fn count_baskets<R: RandomSource, S: Source>(
     known: Names,
 ) -> Result<(ItemCounts, Names), ReadFault>
     requires { S.has_failed reader.old ≡ false }
-    // If the reader doesn't fail, the result is that of all its bytes.
-    ensures exact { S.has_failed reader.new ≡ false → IfSome (S.left reader.old) (λ bytes. CountsNamed result (baskets_of_csv dialect.separator dialect.header weight known bytes)) }
+    ensures counted { Reads AreCountsNamed (baskets_of_csv dialect.separator dialect.header weight known) IsRead (S.left reader.old) (S.has_failed reader.new) result }
     ensures light { IfOk result (λ counted. AreLightCounts counted.0) }
-    // If it fails, the result is `Read`, and only then.
-    ensures failed { S.has_failed reader.new ≡ true → result ≡ Err Read }
-    ensures read_is_failed { result ≡ Err Read → S.has_failed reader.new ≡ true }
 {
     let bytes = take_in(alloc, reader)?;
     let baskets = Baskets::new(alloc, Seed::new(rt), weight, known, true)?;
@@ -78,11 +69,7 @@ pub fn read_single<R: RandomSource, S: Source>(
     known: Names,
 ) -> Result<(Database, Names), ReadFault>
     requires { S.has_failed reader.old ≡ false }
-    // If the reader doesn't fail, the result is that of all its bytes.
-    ensures exact { S.has_failed reader.new ≡ false → IfSome (S.left reader.old) (λ bytes. Returns result (pairs_of_csv dialect.separator dialect.header known bytes)) }
-    // If it fails, the result is `Read`, and only then.
-    ensures failed { S.has_failed reader.new ≡ true → result ≡ Err Read }
-    ensures read_is_failed { result ≡ Err Read → S.has_failed reader.new ≡ true }
+    ensures { Reads IsDefined (pairs_of_csv dialect.separator dialect.header known) IsRead (S.left reader.old) (S.has_failed reader.new) result }
 {
     let bytes = take_in(alloc, reader)?;
     let pairs = Pairs::new(alloc, Seed::new(rt), known)?;
@@ -101,11 +88,7 @@ pub fn read_named_counts<R: RandomSource, S: Source>(
     known: Names,
 ) -> Result<(Vec<CountedLine>, Names), ReadFault>
     requires { S.has_failed reader.old ≡ false }
-    // If the reader doesn't fail, the result is that of all its bytes.
-    ensures exact { S.has_failed reader.new ≡ false → IfSome (S.left reader.old) (λ bytes. ReturnsBoth result (named_counts_of dialect.separator dialect.header known bytes)) }
-    // If it fails, the result is `Read`, and only then.
-    ensures failed { S.has_failed reader.new ≡ true → result ≡ Err Read }
-    ensures read_is_failed { result ≡ Err Read → S.has_failed reader.new ≡ true }
+    ensures { Reads AreDefined (named_counts_of dialect.separator dialect.header known) IsRead (S.left reader.old) (S.has_failed reader.new) result }
 {
     let bytes = take_in(alloc, reader)?;
     let counts = Counts::new(alloc, Seed::new(rt), known)?;

@@ -2,14 +2,13 @@ use Rattle.std.proofs.Common.{length}
 use Rattle.std.proofs.lemmas.Bool.{le-ltb}
 use Rattle.std.proofs.lemmas.Result.{err_from_is_err_and}
 use Rattle.basket_read.specs.Fimi.{MOST_BYTES}
-use Rattle.basket_csv.proofs.ReadLemmas.{faultless, faulty}
 use Rattle.basket_csv.proofs.RecordLemmas.{few_of_text}
 use Rattle.basket_csv.proofs.collector.say.Goals as goal
 
 pub returns-in_err-add_all-clause-said : goal.returns-in_err-add_all-clause-said
 returns-in_err-add_all-clause-said g c = λ start first fresh.
     let p = err_from_is_err_and c.from_residual.result c.from_residual.ensures.1 in
-    rw (le-ltb MOST_BYTES (length c.args.bytes.now) c.if-bytes-gt-MAX_BYTES.false) (faulty (g.C.RecordCollector.finds start) c.from_residual.result p.0 c.in_err-add_all.field-0.0 _ _ p.1 p.2 (c.in_err-add_all.ensures.fault start first fresh))
+    rw (le-ltb MOST_BYTES (length c.args.bytes.now) c.if-bytes-gt-MAX_BYTES.false, p.1, p.2) (λ other. rw (c.in_err-add_all.ensures.fault start first fresh other))
 
 pub finish-requires : goal.finish-requires
 finish-requires g c =
@@ -18,5 +17,5 @@ finish-requires g c =
 
 pub returns-clause-said : goal.returns-clause-said
 returns-clause-said g c = λ start first fresh.
-    rw (le-ltb MOST_BYTES (length c.args.bytes.now) c.if-bytes-gt-MAX_BYTES.false)
-    (faultless (g.C.RecordCollector.finds start) c.finish.result _ _ (c.in_ok-add_all.ensures.fault start first fresh) (c.finish.ensures.said start _ (c.in_ok-add_all.ensures.read start first fresh)))
+    rw (le-ltb MOST_BYTES (length c.args.bytes.now) c.if-bytes-gt-MAX_BYTES.false, c.in_ok-add_all.ensures.fault start first fresh)
+    (c.finish.ensures.said start _ (c.in_ok-add_all.ensures.read start first fresh))

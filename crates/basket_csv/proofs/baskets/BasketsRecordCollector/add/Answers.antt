@@ -24,8 +24,8 @@ returns-in-Some-clause-read c = λ start rows _ h.
     (sym c.in-Some.is ∙ c.in_ok-weight.ensures.weight.0) refl (c.in_ok-number_names.ensures.names c.if-not-branch.false)
     (c.deref.ensures.value ∙ c.in_ok-number_names.ensures.numbers c.if-not-branch.false) c.add.ensures.baskets h
 
-pub add-requires-clause-place : goal.add-requires-clause-place
-add-requires-clause-place c = λ light.
+pub add-requires-clause-room : goal.add-requires-clause-room
+add-requires-clause-room c = λ light.
     let (start, rows, nth, read) = c.requires.read in
     let each = one_each (basket_of start.weighted (in_order (start.known ++ all_names start.weighted rows))) (λ row. one_basket _ _) rows in
     omega (arith, kept_few _ _ _ read.gathered light, each, nth, c.requires.few)

@@ -1,12 +1,10 @@
-use Rattle.std.proofs.Common.{◌≡◌, Ok, false, length, refl, sym, ap, ◌∙◌, subst, arith}
+use Rattle.std.proofs.Common.{Ok, false, length, refl, sym, ap, ◌∙◌, subst, arith}
 use Rattle.std.specs.List.{flat_map}
 use Rattle.std.proofs.lemmas.Result.{err_from_is_err_and}
-use Rattle.basket_read.specs.Fimi.{basket_of_numbers, if_light}
+use Rattle.basket_read.specs.Fimi.{basket_of_numbers}
 use Rattle.basket_csv.specs.Csv.{baskets_of_pairs, names_of_pairs, gather, pairs_of, with_names}
-use Rattle.basket_read.specs.GatheredBaskets.{Gathers, HasGathered}
-use Rattle.basket_read.specs.Fault.{ReturnsBy}
+use Rattle.basket_read.specs.GatheredBaskets.{HasGathered}
 use Rattle.basket_csv.proofs.PairLemmas.{all_baskets, few_groups}
-use Rattle.basket_csv.proofs.ReadLemmas.{passed_on}
 use Rattle.basket_csv.proofs.pairs.PairsRecordCollector.finish.Goals as goal
 
 pub gathered_from-requires : goal.gathered_from-requires
@@ -20,8 +18,7 @@ returns-in_err-baskets-clause-said c = λ start rows h.
     let same = ap (flat_map (λ group. basket_of_numbers group.items 1)) c.deref.ensures.value ∙ all_baskets (λ group. group.items) c.args.self.groups.items names (gather pairs) h.groups in
     let has = subst (HasGathered c.in_ok-gathered_from.field-0 false) same c.in_ok-gathered_from.ensures.baskets in
     let p = err_from_is_err_and c.from_residual-in_err-baskets.result c.from_residual-in_err-baskets.ensures.1 in
-    passed_on (λ found said. said ≡ Ok found) (Gathers false) (λ l. with_names l names) c.from_residual-in_err-baskets.result c.finish.result p.0 c.in_err-baskets.field-0.0 (if_light baskets) refl p.1 p.2 c.in_err-baskets.was
-    (c.finish.ensures.baskets false baskets has)
+    rw (p.1, p.2) (λ other. ap (λ l. with_names l names) (c.in_err-baskets.ensures.baskets false baskets has other))
 
 pub returns-clause-said : goal.returns-clause-said
 returns-clause-said c = λ start rows h.
@@ -30,5 +27,5 @@ returns-clause-said c = λ start rows h.
     let names = names_of_pairs start.known pairs in
     let same = ap (flat_map (λ group. basket_of_numbers group.items 1)) c.deref.ensures.value ∙ all_baskets (λ group. group.items) c.args.self.groups.items names (gather pairs) h.groups in
     let has = subst (HasGathered c.in_ok-gathered_from.field-0 false) same c.in_ok-gathered_from.ensures.baskets in
-    let (all, is, gathered) = subst (λ r. ReturnsBy (Gathers false) r (if_light baskets)) c.in_ok-baskets.was (c.finish.ensures.baskets false baskets has) in
+    let (all, is, gathered) = c.in_ok-baskets.ensures.baskets false baskets has in
     ap (λ l. with_names l names) is ∙ ap (λ bs. Ok (bs, names)) (sym (gathered.2 refl)) ∙ ap (λ ns. Ok (c.in_ok-baskets.baskets.rest, ns)) (sym (c.in_ok-into_names.ensures ∙ h.names))
