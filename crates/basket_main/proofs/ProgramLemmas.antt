@@ -1,17 +1,9 @@
--- From what opening and running ensure to what a program does.
-use Rattle.std.proofs.Common.{◌≡◌, ℕ, List, [], ◌∷◌, ◌++◌, Option, Some, None, Result, Ok, Err, Bool, true, false, refl, ap, subst, ◌∙◌, append_assoc}
-use Rattle.basket.specs.Engine.{FailsInput, RefusesInput, RefusesSets}
-use Rattle.basket.specs.declared.fault.RunFault.{RunFault}
-use Rattle.basket.specs.declared.fault.RunFault.TheVariants.{Input, Sets, Uncounted, Mine, Write}
-use Rattle.basket_core.specs.declared.fault.MineFault.{MineFault}
-use Rattle.basket_plan.specs.Plan.{Planned, Question}
+-- From what opening ensures to what a program does.
+use Rattle.std.proofs.Common.{◌≡◌, List, [], ◌∷◌, ◌++◌, Option, Some, None, refl, ap, subst, ◌∙◌, append_assoc}
 use Rattle.basket_plan.specs.declared.invocation.Task.{Task}
 use Rattle.basket_plan.specs.declared.invocation.Task.TheVariants.{Report, Count}
-use Rattle.basket_read.specs.declared.fault.ReadFault.{ReadFault}
-use Rattle.basket_read.specs.declared.fault.ReadFault.TheVariants.{Read}
 use Rattle.basket_main.specs.Log.{Grows}
-use Rattle.basket_main.specs.Program.{HasFault, IsReportFault, Origin, origins_for}
-use Rattle.basket_main.specs.declared.ending.Ending.TheVariants.{Ran}
+use Rattle.basket_main.specs.Program.{Origin, origins_for}
 
 -- ---- what is opened
 
