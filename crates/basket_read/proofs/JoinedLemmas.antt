@@ -102,4 +102,4 @@ pub kept_together : (text other : Text) → HasRoomFor text other → other.gath
 kept_together text other room light_other light =
     merely_at_most (length text.gathered.baskets + length other.gathered.baskets) MOST_BASKETS room
     (λ w. let kept = kept_few text.gathered w.2.0 _ w.2.1.gathered light in let kept_other = kept_few other.gathered w.3.0 _ w.3.1.gathered light_other in
-        let few = baskets_after (cut [] []) w.0 in let few_other = baskets_after (cut [] []) w.1 in let small = w.4 in omega arith)
+    let few = baskets_after (cut [] []) w.0 in let few_other = baskets_after (cut [] []) w.1 in let small = w.4 in omega arith)

@@ -135,11 +135,13 @@ impl Text {
             → IfOk result (λ appended. IsTrue appended → IsTextSoFar self.new counting (lines ++ more)) }
         ensures left { IfOk result (λ appended. appended ≡ false → self.new ≡ self.old) }
     {
-        let Ok(Text {
-            lines,
-            gathered,
-            line,
-        }) = other
+        let Ok(
+            Text {
+                lines,
+                gathered,
+                line,
+            },
+        ) = other
         else {
             return Ok(false);
         };

@@ -29,8 +29,7 @@ returns-in-Ok-report_counts g c =
     let question = c.args.plan.now.question in
     let counts = c.in-Ok.counted.0 in
     let names = c.in-Ok.counted.1 in
-    let (working, read) = rw (c.layout-layout.ensures, c.none-known.ensures) at c.in-Ok.ensures.counted in
-    (
+    let (working, read) = rw (c.layout-layout.ensures, c.none-known.ensures) at c.in-Ok.ensures.counted in (
       working,
       counts_report left question counts (Some names) _ c.requires.items (IfSome_then left read (csv_counted question counts names c.requires.records))
           (λ baskets counted. c.in-Ok-report_counts.ensures baskets counted

@@ -1,5 +1,5 @@
-use Rattle.std.proofs.Common.{◌≡◌, ℕ, Bool, List, Result, ◌++◌, [], length, append_assoc, length-append, take-append-drop, ap, ◌∙◌, sym, subst, arith}
-use Rattle.std.specs.Prelude.{MatchResult, IfOk}
+use Rattle.std.proofs.Common.{ℕ, Bool, List, Result, ◌++◌, [], length, append_assoc, length-append, take-append-drop, ap, ◌∙◌, sym, subst, arith}
+use Rattle.std.specs.Prelude.{MatchResult}
 use Rattle.std.proofs.lemmas.Result.{IfOk-weaker, err_from_is_err_and}
 use Rattle.std.proofs.Math.Logic.{∥∥₁_map}
 use Rattle.basket_read.specs.declared.fault.ReadFault.{ReadFault}
@@ -7,7 +7,7 @@ use Rattle.basket_read.specs.declared.text.Text.{Text}
 use Rattle.basket_read.specs.Cut.{cut_at}
 use Rattle.basket_read.specs.Fimi.{is_line_feed, first_fault, MOST_BYTES}
 use Rattle.basket_read.specs.Fault.{ReturnsFault}
-use Rattle.basket_read.specs.Text.{IsSomeText, IsTextSoFar}
+use Rattle.basket_read.specs.Text.{IsTextSoFar}
 use Rattle.basket_read.proofs.RoomLemmas.{merely_at_most, room_after}
 use Rattle.basket_read.proofs.TextLemmas.{fault_in_prefix, if_ok}
 use Rattle.basket_read.proofs.lines.+halves.Goals as goal
