@@ -1,6 +1,7 @@
 -- The counts of given sets.
 use Rattle.std.proofs.Common.{◌≡◌, ◌≢◌, ◌∙◌, ◌<◌, ◌+◌, ℕ, zero, suc, Bool, true, false, List, [], ◌∷◌, Option, Some, None, Result, Ok, Err, Global, ap, arith, drop, get_or, length, map, refl, subst, sym}
 use Rattle.std.specs.Prelude.{IfSome, MatchResult}
+use Rattle.std.proofs.lemmas.Option.{IfSome_then}
 use Rattle.basket_plan.specs.declared.layout.Layout.{Layout}
 use Rattle.basket_read.specs.declared.fault.ReadFault.{ReadFault}
 use Rattle.basket_read.specs.declared.fault.ReadFault.TheVariants.{Memory, Read}
@@ -57,30 +58,15 @@ module _ (layout : Layout) (asked : Option (List ℕ)) (sets names : List (List 
 
   pub contents_refuse : (left : Option (List ℕ)) (fault : ReadFault) → IfSome left (λ bytes. Returns (Err fault) (contents_of layout names bytes))
       → OfBoth asked left (λ s bytes. fault ≢ Memory → count_outcome layout s bytes ≡ Err (Input fault))
-  contents_refuse left fault refused = go asked read left refused
-    where
-      go : (asked : Option (List ℕ)) → IfSome asked (λ bytes. asked_in layout bytes ≡ Ok (sets, names)) → (left : Option (List ℕ)) → IfSome left (λ bytes. Returns (Err fault) (contents_of layout names bytes))
-          → OfBoth asked left (λ s bytes. fault ≢ Memory → count_outcome layout s bytes ≡ Err (Input fault))
-      go None read left refused = tt
-      go (Some s) read None refused = tt
-      go (Some s) read (Some bytes) refused = λ other. ap (of_asked layout bytes) read ∙ ap (of_contents layout (asked_of sets)) (refused other)
+  contents_refuse left fault refused = IfSome_then asked read (λ s e. IfSome_then left refused (λ bytes told other.
+      ap (of_asked layout bytes) e ∙ ap (of_contents layout (asked_of sets)) (told other)))
 
   pub sets_are_readable : AreReadableSets layout asked
-  sets_are_readable = go asked read
-    where
-      go : (asked : Option (List ℕ)) → IfSome asked (λ bytes. asked_in layout bytes ≡ Ok (sets, names)) → AreReadableSets layout asked
-      go None read = tt
-      go (Some bytes) read = λ fault refused. is_read (sym read ∙ refused)
+  sets_are_readable = IfSome_then asked read (λ bytes e fault refused. is_read (sym e ∙ refused))
 
   -- what was counted is the outcome
   outcome_is : (left : Option (List ℕ)) (contents : Contents) → IfSome left (λ bytes. Returns (Ok contents) (contents_of layout names bytes)) → OfOutcome left (counts_in layout (asked_of sets) contents)
-  outcome_is left contents said = go asked read left said
-    where
-      go : (asked : Option (List ℕ)) → IfSome asked (λ bytes. asked_in layout bytes ≡ Ok (sets, names)) → (left : Option (List ℕ)) → IfSome left (λ bytes. Returns (Ok contents) (contents_of layout names bytes))
-          → OfBoth asked left (λ s bytes. count_outcome layout s bytes ≡ counts_in layout (asked_of sets) contents)
-      go None read left said = tt
-      go (Some s) read None said = tt
-      go (Some s) read (Some bytes) said = ap (of_asked layout bytes) read ∙ ap (of_contents layout (asked_of sets)) said
+  outcome_is left contents said = IfSome_then asked read (λ s e. IfSome_then left said (λ bytes is. ap (of_asked layout bytes) e ∙ ap (of_contents layout (asked_of sets)) is))
 
   module _ (asked_failed failed : Bool) (left after : Option (List ℕ)) (contents : Contents) (asked_works : asked_failed ≡ false) (works : failed ≡ false)
       (said : IfSome left (λ bytes. Returns (Ok contents) (contents_of layout names bytes))) where
@@ -88,13 +74,7 @@ module _ (layout : Layout) (asked : Option (List ℕ)) (sets names : List (List 
     told answer is = subst (OfOutcome left) is (outcome_is left contents said)
 
     readable : OfBoth asked left (λ s bytes. AreReadable (count_outcome layout s bytes))
-    readable = go asked left (outcome_is left contents said)
-      where
-        go : (asked left : Option (List ℕ)) → OfBoth asked left (λ s bytes. count_outcome layout s bytes ≡ counts_in layout (asked_of sets) contents)
-            → OfBoth asked left (λ s bytes. AreReadable (count_outcome layout s bytes))
-        go None left is = tt
-        go (Some s) None is = tt
-        go (Some s) (Some bytes) is = subst AreReadable (sym is) (counts_are_readable layout (asked_of sets) contents)
+    readable = IfSome_then asked (outcome_is left contents said) (λ s known. IfSome_then left known (λ bytes is. subst AreReadable (sym is) (counts_are_readable layout (asked_of sets) contents)))
 
     pub counts_make : (result : Result PreparedReport RunFault) → MatchResult result (λ made. counts_in layout (asked_of sets) contents ≡ Ok (prepared_text made)) (IsCountsFault (counts_in layout (asked_of sets) contents))
         → MakesCounts layout asked asked_failed left after failed result

@@ -1,9 +1,8 @@
--- From what reading, mining and writing ensure to what a run ensures.
-use Rattle.std.proofs.Common.{◌≡◌, ◌≤◌, ℕ, List, [], Option, Some, None, Result, Ok, Err, Bool, true, false, length, take, refl, sym, ap, subst, ◌∙◌}
+-- From what reading and mining ensure to what a run ensures.
+use Rattle.std.proofs.Common.{◌≡◌, ℕ, List, [], Option, Some, Result, Ok, Err, Bool, true, false, refl, sym, ap, subst, ◌∙◌}
 use Rattle.std.proofs.lemmas.Bool.{false≢true}
 use Rattle.std.proofs.lemmas.Option.{IfSome_then}
 use Rattle.std.specs.Prelude.{IfErr, IfOk, IfSome}
-use Rattle.std.specs.Io.KnownBytes.{Appends}
 use Rattle.basket_core.specs.declared.fault.MineFault.{MineFault}
 use Rattle.basket_read.specs.declared.fault.ReadFault.{ReadFault}
 use Rattle.basket_read.specs.Fault.{Reads, Returns}
@@ -15,7 +14,7 @@ use Rattle.basket.specs.declared.fault.RunFault.{RunFault}
 use Rattle.basket.specs.declared.fault.RunFault.TheVariants.{Input, Sets, Uncounted, Mine, Write}
 use Rattle.basket.specs.Outcome.{outcome, outcome_of, outcome_for, of_mining}
 use Rattle.basket_plan.specs.Plan.{Question}
-use Rattle.basket.specs.Engine.{IsContentsFault, IsOutcomeFault, IsReadable, IsReportFault, MakesReport, WritesPrefix, WritesReport}
+use Rattle.basket.specs.Engine.{IsContentsFault, IsOutcomeFault, IsReadable, MakesReport}
 
 -- ---- the outcome for an input
 
@@ -36,38 +35,14 @@ pub contents_make : (left after : Option (List ℕ)) (question : Question) (cont
     → IfSome left (λ bytes. Returns (Ok contents) (contents_of question.layout [] bytes))
     → IfOk result (λ made. outcome_for contents question ≡ Ok (prepared_text made)) → IfErr result (IsContentsFault (outcome_for contents question))
     → MakesReport question left after false result
-contents_make None after question contents (Ok made) read is fault = (refl, tt)
-contents_make (Some bytes) after question contents (Ok made) read is fault = (refl, ap (λ a. outcome_of a question) read ∙ is)
-contents_make None after question contents (Err (Input found)) read is fault = ((λ working. tt, λ broken. absurd (false≢true broken), λ same. absurd (fault.1 same)), λ same. cc)
-contents_make (Some bytes) after question contents (Err (Input found)) read is fault =
-    ((λ working other. ap (λ a. outcome_of a question) read ∙ fault.0 other, λ broken. absurd (false≢true broken), λ same. absurd (fault.1 same)), λ same. cc)
-contents_make None after question contents (Err (Mine found)) read is fault = ((refl, tt), λ same. cc)
-contents_make (Some bytes) after question contents (Err (Mine found)) read is fault =
-    let same = ap (λ a. outcome_of a question) read in
-    ((refl, (subst IsReadable (sym same) fault.0, λ other. same ∙ fault.1 other)), λ same. cc)
+contents_make left after question contents (Ok made) read is fault = (refl, IfSome_then left read (λ bytes e. ap (λ a. outcome_of a question) e ∙ is))
+contents_make left after question contents (Err (Input found)) read is fault =
+    ((λ working. IfSome_then left read (λ bytes e other. ap (λ a. outcome_of a question) e ∙ fault.0 other), λ broken. absurd (false≢true broken), λ same. absurd (fault.1 same)), λ same. cc)
+contents_make left after question contents (Err (Mine found)) read is fault =
+    ((refl, IfSome_then left read (λ bytes e. let same = ap (λ a. outcome_of a question) e in (subst IsReadable (sym same) fault.0, λ other. same ∙ fault.1 other))), λ same. cc)
 contents_make left after question contents (Err (Sets found)) read is fault = absurd fault
 contents_make left after question contents (Err (Uncounted nth)) read is fault = absurd fault
 contents_make left after question contents (Err Write) read is fault = absurd fault
-
--- ---- what is written of a report that was made, and what is told where none was
-
-pub writes_report : (left : Option (List ℕ)) (question : Question) (before after : Option (List ℕ)) (text : List ℕ)
-    → IfSome left (λ bytes. outcome bytes question ≡ Ok text) → Appends before after text → WritesReport left question before after
-writes_report None question before after text is taken = tt
-writes_report (Some bytes) question before after text is taken = (text, is, taken)
-
-pub writes_prefix : (left : Option (List ℕ)) (question : Question) (before after : Option (List ℕ)) (text : List ℕ)
-    → IfSome left (λ bytes. outcome bytes question ≡ Ok text) → ((n : ℕ) × (n ≤ length text) × Appends before after (take n text)) → WritesPrefix left question before after
-writes_prefix None question before after text is taken = tt
-writes_prefix (Some bytes) question before after text is (n, small, taken) = (text, n, is, small, taken)
-
--- if the reader failed, the fault is one of the input
-pub fault_of_reader : (question : Question) (left after : Option (List ℕ)) (failed : Bool) (fault : RunFault) → IsReportFault question left after failed fault → failed ≡ true → (other : ReadFault) × (fault ≡ Input other)
-fault_of_reader question left after failed (Input other) is broken = (other, refl)
-fault_of_reader question left after failed (Mine other) is broken = absurd (false≢true (sym is.0 ∙ broken))
-fault_of_reader question left after failed Write is broken = absurd (false≢true (sym is ∙ broken))
-fault_of_reader question left after failed (Sets other) is broken = absurd is
-fault_of_reader question left after failed (Uncounted nth) is broken = absurd is
 
 told_whole : (question : Question) (bytes : List ℕ) (after : Option (List ℕ)) (fault : RunFault) → MakesReport question (Some bytes) after false (Err fault) → IsOutcomeFault (outcome bytes question) fault
 told_whole question bytes after (Input fault) made = made.0.0 refl

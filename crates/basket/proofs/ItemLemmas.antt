@@ -1,6 +1,7 @@
 -- The items of an input that are counted while it is read.
 use Rattle.std.proofs.Common.{◌≡◌, ℕ, ◌+◌, List, [], ◌++◌, Bool, true, false, cond, Option, Some, None, Result, Ok, Err, sym, ap, ◌∙◌, refl, subst, arith}
 use Rattle.std.specs.Prelude.{IfSome}
+use Rattle.std.proofs.lemmas.Option.{IfSome_then}
 use Rattle.basket_core.specs.declared.fault.MineFault.TheVariants.{Memory, TooMany}
 use Rattle.basket_csv.specs.Csv.{Named, baskets_of_csv}
 use Rattle.basket_csv.specs.Read.{AreCountsNamed}
@@ -55,17 +56,15 @@ csv_counted question counts names form bytes (baskets, is, counted) = (baskets, 
 -- memory may be out only if the input has no fault
 pub memory_refuses : (left : Option (List ℕ)) (question : Question) (counts : ItemCounts) (names : Option (List (List ℕ)))
     → IfSome left (IsCounted question counts names) → RefusesSets left question Memory
-memory_refuses None question counts names read = tt
-memory_refuses (Some bytes) question counts names (baskets, is, counted) =
-    (subst IsReadable (sym is) (mined_is_readable (report_of_baskets baskets names question)), λ other. absurd (other refl))
+memory_refuses left question counts names read = IfSome_then left read (λ bytes counted.
+    (subst IsReadable (sym counted.1) (mined_is_readable (report_of_baskets counted.0 names question)), λ other. absurd (other refl)))
 
 -- the report of the counts is that of the input
 pub counts_report : (left : Option (List ℕ)) (question : Question) (counts : ItemCounts) (names : Option (List (List ℕ))) (report : List ℕ) → question.ask ≡ Items
     → IfSome left (IsCounted question counts names)
     → ((baskets : List Weighted) → AreCountsOf counts baskets → report ≡ report_of (wording_with question.layout.separator names) (frequent_items_of baskets question.minimum))
     → IfSome left (λ bytes. outcome bytes question ≡ Ok report)
-counts_report None question counts names report items read made = tt
-counts_report (Some bytes) question counts names report items (baskets, is, counted) made =
-    is
+counts_report left question counts names report items read made = IfSome_then left read (λ bytes counted. let baskets = counted.0 in
+    counted.1
     ∙ ap (λ a. of_mining (cond (are_too_many a baskets question.minimum question.limit) (Err (TooMany question.limit)) (Ok (text_of (wording_with question.layout.separator names) a baskets question.minimum)))) items
-    ∙ ap Ok (sym (made baskets counted))
+    ∙ ap Ok (sym (made baskets counted.2)))
