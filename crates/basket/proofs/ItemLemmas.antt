@@ -1,18 +1,16 @@
 -- The items of an input that are counted while it is read.
-use Rattle.std.proofs.Common.{◌≡◌, ℕ, ◌+◌, List, [], ◌++◌, Bool, true, false, cond, Option, Some, None, Result, Ok, Err, sym, ap, ◌∙◌, refl, subst, arith}
+use Rattle.std.proofs.Common.{◌≡◌, ℕ, ◌+◌, List, [], ◌++◌, cond, Option, Some, Result, Ok, Err, sym, ap, ◌∙◌, refl, subst, arith}
 use Rattle.std.specs.Prelude.{IfSome}
 use Rattle.std.proofs.lemmas.Option.{IfSome_then}
 use Rattle.basket_core.specs.declared.fault.MineFault.TheVariants.{Memory, TooMany}
 use Rattle.basket_csv.specs.Csv.{Named, baskets_of_csv}
 use Rattle.basket_csv.specs.Read.{AreCountsNamed}
 use Rattle.basket_plan.specs.declared.plan.Ask.TheVariants.{Items}
-use Rattle.basket_plan.specs.declared.layout.Form.TheVariants.{Baskets, Fimi}
-use Rattle.basket_plan.specs.declared.layout.Layout.{Layout}
+use Rattle.basket_plan.specs.declared.layout.Form.TheVariants.{Baskets}
 use Rattle.basket_plan.specs.Plan.{Question}
 use Rattle.basket_read.specs.declared.fault.ReadFault.{ReadFault}
 use Rattle.basket_read.specs.declared.item_counts.ItemCounts.{ItemCounts}
-use Rattle.basket_read.specs.Fimi.{fimi_of}
-use Rattle.basket_read.specs.ItemCounts.{AreCountsOf, CountsDefined}
+use Rattle.basket_read.specs.ItemCounts.{AreCountsOf}
 use Rattle.basket_report.specs.Report.{report_of}
 use Rattle.basket_sets.proofs.theory.Support.{support-append}
 use Rattle.basket_sets.specs.declared.weighted.Weighted.{Weighted}
@@ -20,7 +18,7 @@ use Rattle.basket_sets.specs.Frequent.{frequent_items_of}
 use Rattle.basket_sets.specs.Support.{total_of}
 use Rattle.basket.specs.Engine.{IsReadable, RefusesSets}
 use Rattle.basket.specs.declared.contents.Contents.TheVariants as contents
-use Rattle.basket.specs.Contents.{by_names, by_numbers, contents_in, wording_with}
+use Rattle.basket.specs.Contents.{by_names, contents_in, wording_with}
 use Rattle.basket.specs.Outcome.{are_too_many, report_of_baskets, of_mining, outcome, outcome_of, text_of}
 use Rattle.basket.proofs.EngineLemmas.{mined_is_readable}
 
@@ -35,9 +33,6 @@ totals_add front back baskets whole = let s = support-append front back [] in le
 abbrev pub csv_of : Question → List ℕ → Result Named ReadFault
 csv_of question bytes = baskets_of_csv question.layout.separator question.layout.header question.layout.weighted [] bytes
 
-pub fimi_outcome : (question : Question) → question.layout.form ≡ Fimi → (bytes : List ℕ) → outcome bytes question ≡ outcome_of (by_numbers contents.Baskets (fimi_of bytes)) question
-fimi_outcome question form bytes = ap (λ f. outcome_of (contents_in f question.layout [] bytes) question) form
-
 pub csv_outcome : (question : Question) → question.layout.form ≡ Baskets → (bytes : List ℕ) → outcome bytes question ≡ outcome_of (by_names contents.Baskets (csv_of question bytes)) question
 csv_outcome question form bytes = ap (λ f. outcome_of (contents_in f question.layout [] bytes) question) form
 
@@ -45,10 +40,7 @@ csv_outcome question form bytes = ap (λ f. outcome_of (contents_in f question.l
 abbrev pub IsCounted : Question → ItemCounts → Option (List (List ℕ)) → List ℕ → Type 0
 IsCounted question counts names bytes = (baskets : List Weighted) × (outcome bytes question ≡ of_mining (report_of_baskets baskets names question)) × AreCountsOf counts baskets
 
--- those of a FIMI input, and of CSV records that are baskets
-pub fimi_counted : (question : Question) (counts : ItemCounts) → question.layout.form ≡ Fimi → (bytes : List ℕ) → CountsDefined counts (fimi_of bytes) → IsCounted question counts None bytes
-fimi_counted question counts form bytes (baskets, is, counted) = (baskets, fimi_outcome question form bytes ∙ ap (λ r. outcome_of (by_numbers contents.Baskets r) question) is, counted)
-
+-- those of CSV records that are baskets
 pub csv_counted : (question : Question) (counts : ItemCounts) (names : List (List ℕ)) → question.layout.form ≡ Baskets → (bytes : List ℕ) → AreCountsNamed (counts, names) (csv_of question bytes)
     → IsCounted question counts (Some names) bytes
 csv_counted question counts names form bytes (baskets, is, counted) = (baskets, csv_outcome question form bytes ∙ ap (λ r. outcome_of (by_names contents.Baskets r) question) is, counted)
