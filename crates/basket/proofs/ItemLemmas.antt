@@ -1,7 +1,8 @@
 -- The items of an input that are counted while it is read.
-use Rattle.std.proofs.Common.{◌≡◌, ℕ, ◌+◌, List, [], ◌++◌, cond, Option, Some, Result, Ok, Err, sym, ap, ◌∙◌, refl, subst, arith}
+use Rattle.std.proofs.Common.{◌≡◌, ℕ, ◌+◌, Bool, List, [], ◌++◌, cond, Option, Some, Result, Ok, Err, sym, ap, ◌∙◌, refl, subst, arith}
 use Rattle.std.specs.Prelude.{IfSome}
 use Rattle.std.proofs.lemmas.Option.{IfSome_then}
+use Rattle.basket_core.specs.declared.fault.MineFault.{MineFault}
 use Rattle.basket_core.specs.declared.fault.MineFault.TheVariants.{Memory, TooMany}
 use Rattle.basket_csv.specs.Csv.{Named, baskets_of_csv}
 use Rattle.basket_csv.specs.Read.{AreCountsNamed}
@@ -10,17 +11,18 @@ use Rattle.basket_plan.specs.declared.layout.Form.TheVariants.{Baskets}
 use Rattle.basket_plan.specs.Plan.{Question}
 use Rattle.basket_read.specs.declared.fault.ReadFault.{ReadFault}
 use Rattle.basket_read.specs.declared.item_counts.ItemCounts.{ItemCounts}
+use Rattle.basket_read.specs.Fault.{Reads}
 use Rattle.basket_read.specs.ItemCounts.{AreCountsOf}
 use Rattle.basket_report.specs.Report.{report_of}
 use Rattle.basket_sets.proofs.theory.Support.{support-append}
 use Rattle.basket_sets.specs.declared.weighted.Weighted.{Weighted}
 use Rattle.basket_sets.specs.Frequent.{frequent_items_of}
 use Rattle.basket_sets.specs.Support.{total_of}
-use Rattle.basket.specs.Engine.{IsReadable, RefusesSets}
+use Rattle.basket.specs.declared.fault.RunFault.TheVariants.{Input}
+use Rattle.basket.specs.Engine.{IsReadable, MakesReport, RefusesSets}
 use Rattle.basket.specs.declared.contents.Contents.TheVariants as contents
-use Rattle.basket.specs.Contents.{by_names, contents_in, wording_with}
+use Rattle.basket.specs.Contents.{FailsIn, by_names, contents_in, wording_with}
 use Rattle.basket.specs.Outcome.{are_too_many, report_of_baskets, of_mining, outcome, outcome_of, text_of}
-use Rattle.basket.proofs.EngineLemmas.{mined_is_readable}
 
 -- ---- counts of two lists of baskets
 
@@ -28,6 +30,18 @@ pub totals_add : (front back baskets : List Weighted) → baskets ≡ front ++ b
 totals_add front back baskets whole = let s = support-append front back [] in let e = ap total_of whole in omega arith
 
 -- ---- what comes of a reader
+
+-- the fault of a reader is that of the input
+pub reader_refuses : {X Y : Type 0} (fits : X → Result Y ReadFault → Type 0) (defined : List ℕ → Result Y ReadFault) (fails : ReadFault → Type 0) (left after : Option (List ℕ)) (question : Question) (failed : Bool) (fault : ReadFault)
+    → ((bytes : List ℕ) → defined bytes ≡ Err fault → outcome bytes question ≡ Err (Input fault)) → (fails fault → FailsIn question.layout.form left after fault)
+    → Reads fits defined fails left failed (Err fault) → MakesReport question left after failed (Err (Input fault))
+reader_refuses fits defined fails left after question failed fault same lost (exact, broken, only) =
+    ((λ working. IfSome_then left (exact working) (λ bytes told no_memory. same bytes (told no_memory)), λ b. lost (broken b), only), λ is. cc)
+
+-- what mining comes to is no fault of the input
+pub mined_is_readable : (mined : Result (List ℕ) MineFault) → IsReadable (of_mining mined)
+mined_is_readable (Ok text) = λ fault is. cc
+mined_is_readable (Err fault) = λ other is. cc
 
 -- what the bytes say as CSV records that are baskets, where no names are known
 abbrev pub csv_of : Question → List ℕ → Result Named ReadFault

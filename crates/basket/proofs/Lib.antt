@@ -1,6 +1,5 @@
 mod MiningLemmas
 mod ContentsLemmas
 mod ItemLemmas
-mod EngineLemmas
 mod GapLemmas
 mod CountLemmas
