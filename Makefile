@@ -1,4 +1,4 @@
-.PHONY: all demo try test test-python install uninstall package wheel bench pictures
+.PHONY: all demo try check test test-python edits install uninstall package wheel bench pictures
 
 PREFIX ?= $(HOME)/.local
 PROGRAM := crates/basket_cli/out/basket_cli
@@ -18,17 +18,25 @@ $(PROGRAM): $(SOURCES)
 demo:
 	tools/demo.py
 
-# Builds the program without its proofs and runs it once over a file of yours, as
+# Builds the program without its proofs, if it isn't built so already, and runs it over a file of yours, as
 #     make try FILE=receipts.csv WORDS="rules --min 1% --conf 1/2 --form single --header"
 #     make try FILE=shop.dat SETS=found.txt WORDS="count"
 # Standard output is the report alone.
 try:
 	@tools/try.py $(if $(SETS),--sets "$(SETS)") "$(FILE)" $(WORDS)
 
-# The gate: proves every crate and its tests from nothing, tries the must-fail edits, and tests the program
-# and the Python package.
+# Builds the program without its proofs, and runs the tests of the program and of the Python package over it.
+check:
+	tools/test.py --check
+
+# The gate: proves every crate and its tests, and tests the program and the Python package.
 test:
 	tools/test.py
+
+# Tries the must-fail edits, and writes into crates/refused.txt over which text each was refused. With CRATES="NAME .."
+# those of these crates alone, over what `rt check` kept of them.
+edits:
+	tools/edits.py $(CRATES)
 
 # The tests of the Python package alone, over the program that is built or that BASKET names.
 test-python: $(if $(BASKET),,$(PROGRAM))

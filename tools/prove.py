@@ -7,7 +7,7 @@ The crates are copied, without their must-fail edits, into a folder of their own
 them there: several at once, those with the longest chain of others above them first. It keeps each
 proof on this machine, so a second run proves only what failed, what changed, and the crates above.
 Each program is built, run on its own files stdin and args, and put into its folder out/. Prints a line
-for each crate once it is proved, and all that the checker says of one that is not.
+for each crate once it is proved, all that the checker says of one that is not, and last what it took.
 """
 
 import os
@@ -17,59 +17,35 @@ import signal
 import subprocess
 import sys
 import tempfile
-import time
 from collections.abc import Iterator
 from pathlib import Path
 
 import kit
+from cost import Cost, free_memory, minutes, processors
+from crates import built, copy_to, is_program, listed, needed
 
 # What the checker says of a crate begins and ends so. A crate that an earlier run proved has no more than its end.
 BEGINS = re.compile(r"== ")
-PROVED = re.compile(r"rt: (\w+)(?: is kept: .*| proved)$")
+PROVED = re.compile(r"rt: (\w+)( is kept: .*| proved)$")
 FAILED = re.compile(r"rt: (.+) NOT PROVED")
 # Lines of a crate that failed on what is well in it.
 WELL = re.compile(r"\w+ \S+: (proved$|modules loaded)|by-macro: ")
+# Its last line.
+COUNTED = re.compile(r"(\d+) passed, (\d+) failed\n")
+
+# What the kit plans for the check of an upper crate, and what the largest of them was seen to take, in bytes.
+PLANNED, TAKEN = 4.5e9, 2.5e9
 
 
 def say(text: str) -> None:
     print(text, flush=True)
 
 
-def listed() -> dict[str, tuple[str, list[str]]]:
-    """The line of each crate in crates.txt, and what it stands on."""
-    crates = {}
-    for line in Path("crates.txt").read_text(encoding="utf-8").splitlines():
-        head, colon, below = line.partition("#")[0].partition(":")
-        if colon:
-            crates[head.split()[0]] = (line, below.split())
-    return crates
-
-
-def needed(programs: list[str], crates: dict[str, tuple[str, list[str]]]) -> list[str]:
-    """The programs and the crates that they stand on, lowest first."""
-    found: list[str] = []
-
-    def visit(name: str) -> None:
-        if name in crates and name not in found:
-            for below in crates[name][1]:
-                visit(below)
-            found.append(name)
-
-    for program in programs:
-        visit(program)
-    return found
-
-
-def copy_to(
-    tree: Path, names: list[str], crates: dict[str, tuple[str, list[str]]]
-) -> None:
-    (tree / ".git").mkdir()
-    shutil.copy("HANDLES", tree)
-    text = "".join(f"{crates[name][0]}\n" for name in names)
-    (tree / "crates.txt").write_text(text, encoding="utf-8")
-    unread = shutil.ignore_patterns("out", "must-fail")
-    for name in names:
-        shutil.copytree(Path("crates", name), tree / "crates" / name, ignore=unread)
+def lanes() -> dict[str, str]:
+    """What keeps all processors busy where the kit's plan of memory would not: it plans twice what a check takes."""
+    for_each = 0.85 * free_memory() / processors()
+    is_short = TAKEN <= for_each < PLANNED and "RT_JOBS" not in os.environ
+    return {"RT_JOBS": str(processors())} if is_short else {}
 
 
 def lines_of(tree: Path) -> Iterator[str]:
@@ -77,6 +53,7 @@ def lines_of(tree: Path) -> Iterator[str]:
     checker = subprocess.Popen(
         ["rt", "ci"],
         cwd=tree,
+        env={**os.environ, **lanes()},
         stdin=subprocess.DEVNULL,
         stdout=subprocess.PIPE,
         stderr=subprocess.STDOUT,
@@ -99,6 +76,9 @@ class Report:
     def __init__(self) -> None:
         self.faults: list[str] = []
         self.loose: list[str] = []
+        self.proved: list[str] = []
+        self.kept: list[str] = []
+        self.passed, self.failed = 0, 1
         self._of_crate: list[str] | None = None
 
     def take(self, line: str) -> str | None:
@@ -107,12 +87,15 @@ class Report:
             self._of_crate = [line]
         elif found := PROVED.match(line):
             self._of_crate = None
+            (self.proved if found[2] == " proved" else self.kept).append(found[1])
             return found[1]
         elif FAILED.match(line):
             self.faults += [*(self._of_crate or []), line]
             self._of_crate = None
         elif self._of_crate is None:
             self.loose.append(line)
+            if counted := COUNTED.fullmatch(line):
+                self.passed, self.failed = int(counted[1]), int(counted[2])
         elif not WELL.match(line):
             self._of_crate.append(line)
         return None
@@ -121,48 +104,52 @@ class Report:
         """What the checker said of what failed, and its last lines."""
         return "".join([*self.faults, *(self._of_crate or []), *self.loose])
 
+    def share(self) -> str:
+        whole = len(self.proved) + len(self.kept)
+        return f"{len(self.proved)} of {whole} crates proved now, {len(self.kept)} kept from earlier runs"
 
-def prove(
-    programs: list[str], crates: dict[str, tuple[str, list[str]]], tree: Path
-) -> None:
-    names = needed(programs, crates)
-    say(
-        f"{' '.join(programs)} is not built as its sources stand. Proving its {len(names)} crates first, which takes "
-        "some 25 minutes on four processors, and less where some of them are proved already."
-    )
+
+def prove(names: list[str], tree: Path) -> Report:
+    """Proves these crates in the folder, with a line for each, and puts their programs into their folders out/."""
+    crates = listed()
     copy_to(tree, names, crates)
-    begun, done, report = time.monotonic(), 0, Report()
+    cost, report = Cost(), Report()
     try:
         for line in lines_of(tree):
             if name := report.take(line):
-                done += 1
-                minutes, seconds = divmod(round(time.monotonic() - begun), 60)
+                done = len(report.proved) + len(report.kept)
                 say(
-                    f"{name}: proved, {done} of {len(names)} after {minutes}:{seconds:02}"
+                    f"{name}: proved, {done} of {len(names)} after {minutes(cost.seconds())}"
                 )
     except subprocess.CalledProcessError:
-        say("Not proved. What the checker said:")
-        sys.exit(
-            f"{report.text()}{done} of {len(names)} crates are proved, and kept: a second `make` goes on from there."
-        )
-    for program in programs:
-        made = Path("crates", program, "out", program)
+        say(f"Not proved. What the checker said:\n{report.text()}")
+        return report
+    for program in filter(is_program, names):
+        made = built(program)
         made.parent.mkdir(exist_ok=True)
         shutil.copy2(tree / made, made)
         say(f"{made}: built")
+    return report
 
 
-def main(programs: list[str]) -> None:
+def main(programs: list[str]) -> int:
     kit.demand()
-    crates = listed()
-    strange = [
-        name for name in programs if not Path("crates", name, "src/main.rt").is_file()
-    ]
+    strange = [name for name in programs if not is_program(name)]
     if strange or not programs:
         sys.exit(f"{' '.join(strange) or 'nothing'}: no program of crates.txt")
+    names = needed(programs, listed())
+    say(
+        f"{' '.join(programs)} is not built as its sources stand. Proving its {len(names)} crates first; "
+        "bench/COST.md says how long that takes."
+    )
+    cost = Cost()
     with tempfile.TemporaryDirectory(prefix="basket-") as tree:
-        prove(programs, crates, Path(tree))
+        report = prove(names, Path(tree))
+    say(f"{cost}; {report.share()}")
+    if report.failed:
+        say("What is proved is kept: a second `make` goes on from there.")
+    return int(report.failed > 0)
 
 
 if __name__ == "__main__":
-    main(sys.argv[1:])
+    sys.exit(main(sys.argv[1:]))

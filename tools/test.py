@@ -1,97 +1,126 @@
 #!/usr/bin/env python3
-"""The gate: `rt ci`, then the tests of the program that it built, and those of the Python package over it.
+"""The gate: every proof, then the tests of the program that was built, and those of the Python package over it.
 
 usage: tools/test.py            at the top of the repository
+       tools/test.py --check    the same over the program built without its proofs
        tools/test.py --program  the tests of the program alone, as it is built now
        tools/test.py --python   those of the package alone, by black, mypy and pytest over python/
+
+Proofs, with the tests of the crates, are of all crates but the bench. The must-fail edits are not tried here
+(tools/edits.py tries them): it is seen that each can be applied, and told which were last refused over
+another text. The variable BASKET names another program for the last two.
 """
 
 import os
-import re
 import subprocess
 import sys
 import tempfile
-import unittest
+from collections.abc import Callable
 from pathlib import Path
+from typing import NamedTuple
 from xml.etree import ElementTree
 
+import edits
 import kit
+from cost import Cost, processors
+from crates import built, listed
+from prove import prove
 
-BUILT = "crates/basket_cli/out/basket_cli"
+BESIDE = ("basket_bench",)
 # The system's Python, which has Debian's packages.
 PYTHON = "/usr/bin/python3"
 FOLDERS = ("python", "tools", "bench")
 STRICT = ("--strict", "--config-file=python/pyproject.toml")
 CHECKS = (("black", "--check", *FOLDERS), ("mypy", *STRICT, *FOLDERS))
 
-Sum = tuple[int, int]
+
+class Sum(NamedTuple):
+    """How many passed and failed, and what is to be said of them at the end."""
+
+    passed: int
+    failed: int
+    said: str = ""
 
 
-def proved() -> Sum:
-    """Runs `rt ci`, and returns how many it counts as passed and as failed."""
+def proved(_program: Path) -> Sum:
+    """Proves the crates, and runs their tests and programs."""
     kit.demand()
-    last = ""
-    with subprocess.Popen(["rt", "ci"], stdout=subprocess.PIPE, text=True) as checker:
-        assert checker.stdout
-        for line in checker.stdout:
-            if not (found := re.fullmatch(r"(\d+) passed, (\d+) failed\n", line)):
-                print(line, end="", flush=True)
-            last = line
-    found = re.fullmatch(r"(\d+) passed, (\d+) failed\n", last)
-    passed, failed = (int(found[1]), int(found[2])) if found else (0, 1)
-    return passed, max(failed, int(checker.returncode != 0))
+    names = [name for name in listed() if name not in BESIDE]
+    with tempfile.TemporaryDirectory(prefix="basket-") as tree:
+        report = prove(names, Path(tree))
+    return Sum(report.passed, report.failed, report.share())
 
 
-def tried() -> Sum:
-    """Runs the tests of the program likewise. A test that is skipped counts as neither."""
-    suite = unittest.defaultTestLoader.discover(
-        "tools/program_tests", top_level_dir="tools"
-    )
-    ended = unittest.TextTestRunner(stream=sys.stdout, verbosity=2).run(suite)
-    failed = len(
-        {case.id().partition(" ")[0] for case, _ in ended.failures + ended.errors}
-    )
-    return ended.testsRun - failed - len(ended.skipped), failed
+def applied(_program: Path) -> Sum:
+    """Looks at the must-fail edits."""
+    return Sum(*edits.looked_at())
 
 
-def packaged() -> Sum:
-    """Has black and mypy read all Python here, and runs the tests of the package likewise."""
-    if subprocess.run(["tools/python-packages"], check=False).returncode != 0:
-        return 0, 1
-    passed, failed = 0, 0
-    for words in CHECKS:
-        print(" ".join(words), flush=True)
-        is_good = subprocess.run([PYTHON, "-m", *words], check=False).returncode == 0
-        passed, failed = passed + is_good, failed + (not is_good)
-    more, worse = tested()
-    return passed + more, failed + worse
-
-
-def tested() -> Sum:
-    """Runs pytest over the package."""
-    given = {"BASKET": str(Path(BUILT).resolve()), **os.environ}
-    with tempfile.TemporaryDirectory() as folder:
-        summary = Path(folder, "summary.xml")
-        words = [PYTHON, "-m", "pytest", "-q", "--durations=5", f"--junitxml={summary}"]
-        ended = subprocess.run(words, cwd="python", env=given, check=False)
+def tested(folder: str, program: Path) -> Sum:
+    """Runs the tests of a folder, as many at once as there are processors."""
+    with tempfile.TemporaryDirectory() as place:
+        summary = Path(place, "summary.xml")
+        words = ["-m", "pytest", "-q", "-n", str(processors()), "--durations=5"]
+        words += [f"--junitxml={summary}", "-p", "no:cacheprovider"]
+        ended = subprocess.run(
+            [PYTHON, *words],
+            cwd=folder,
+            env={**os.environ, "BASKET": str(program)},
+            check=False,
+        )
         if not summary.exists():
-            return 0, 1
+            return Sum(0, 1)
         suite = ElementTree.parse(summary).find("testsuite")
     assert suite is not None
     tests, skipped, failures, errors = (
         int(suite.attrib[name]) for name in ("tests", "skipped", "failures", "errors")
     )
     failed = failures + errors
-    return tests - skipped - failed, max(failed, int(ended.returncode != 0))
+    return Sum(tests - skipped - failed, max(failed, int(ended.returncode != 0)))
+
+
+def of_program(program: Path) -> Sum:
+    return tested("tools", program)
+
+
+def of_package(program: Path) -> Sum:
+    """Has black and mypy read all Python here, and runs the tests of the package."""
+    passed, failed = 0, 0
+    for words in CHECKS:
+        print(" ".join(words), flush=True)
+        is_good = subprocess.run([PYTHON, "-m", *words], check=False).returncode == 0
+        passed, failed = passed + is_good, failed + (not is_good)
+    more = tested("python", program)
+    return Sum(passed + more.passed, failed + more.failed)
+
+
+Part = Callable[[Path], Sum]
+PARTS: dict[str, tuple[Part, ...]] = {
+    "": (applied, proved, of_program, of_package),
+    "--check": (of_program, of_package),
+    "--program": (of_program,),
+    "--python": (of_package,),
+}
 
 
 def main(words: list[str]) -> int:
-    parts = {"--program": (tried,), "--python": (packaged,)}
-    passed, failed = 0, 0
-    for part in parts.get(" ".join(words), (proved, tried, packaged)):
+    which = " ".join(words)
+    if which not in PARTS:
+        sys.exit(__doc__)
+    if subprocess.run(["tools/python-packages"], check=False).returncode != 0:
+        return 1
+    cost = Cost()
+    if which == "--check":
+        program = kit.unproved()
+    else:
+        program = Path(os.environ.get("BASKET", built(kit.PROGRAM))).resolve()
+    passed, failed, said = 0, 0, []
+    for part in PARTS[which]:
         if failed == 0:
-            more, failed = part()
-            passed += more
+            more = part(program)
+            passed, failed = passed + more.passed, more.failed
+            said += [more.said] * bool(more.said)
+    print("; ".join([str(cost), *said]))
     print(f"{passed} passed, {failed} failed")
     return int(failed > 0 or passed == 0)
 

@@ -5,16 +5,16 @@ use Rattle.std.proofs.lemmas.Option.{IfSome_then}
 use Rattle.basket_plan.specs.declared.layout.Layout.{Layout}
 use Rattle.basket_read.specs.declared.fault.ReadFault.{ReadFault}
 use Rattle.basket_read.specs.declared.fault.ReadFault.TheVariants.{Memory, Read}
-use Rattle.basket.specs.declared.contents.Contents.{Contents}
-use Rattle.basket.specs.declared.contents.Contents.TheVariants as contents
+use Rattle.basket_outcome.specs.declared.contents.Contents.{Contents}
+use Rattle.basket_outcome.specs.declared.contents.Contents.TheVariants as contents
 use Rattle.basket_sets.specs.declared.counted.Counted.{Counted}
-use Rattle.basket.specs.declared.fault.RunFault.{RunFault}
-use Rattle.basket.specs.declared.fault.RunFault.TheVariants.{Input, Sets, Uncounted, Mine, Write}
-use Rattle.basket.specs.declared.prepared.PreparedReport.{PreparedReport}
+use Rattle.basket_outcome.specs.declared.fault.RunFault.{RunFault}
+use Rattle.basket_outcome.specs.declared.fault.RunFault.TheVariants.{Input, Sets, Uncounted, Mine, Write}
+use Rattle.basket_outcome.specs.declared.prepared.PreparedReport.{PreparedReport}
 use Rattle.basket_read.specs.Fault.{Returns, ReturnsBoth}
-use Rattle.basket.specs.Contents.{asked_in, contents_of}
+use Rattle.basket_outcome.specs.Contents.{asked_in, contents_of}
 use Rattle.basket.specs.Count.{AreReadable, AreReadableSets, IsCountsFault, MakesCounts, OfBoth, count_outcome, counted_in, counts_in, counts_over, first_uncounted, of_asked, of_contents, text_of_counts, unless_uncounted}
-use Rattle.basket.specs.Prepared.{prepared_text}
+use Rattle.basket_outcome.specs.Prepared.{prepared_text}
 use Rattle.mine_sets.specs.Asked.{asked_of}
 
 -- ---- sums of counts

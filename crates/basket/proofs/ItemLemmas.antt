@@ -2,8 +2,8 @@
 use Rattle.std.proofs.Common.{◌≡◌, ℕ, ◌+◌, Bool, List, [], ◌++◌, cond, Option, Some, Result, Ok, Err, sym, ap, ◌∙◌, refl, subst, arith}
 use Rattle.std.specs.Prelude.{IfSome}
 use Rattle.std.proofs.lemmas.Option.{IfSome_then}
-use Rattle.basket_core.specs.declared.fault.MineFault.{MineFault}
-use Rattle.basket_core.specs.declared.fault.MineFault.TheVariants.{Memory, TooMany}
+use Rattle.mine_limit.specs.declared.fault.MineFault.{MineFault}
+use Rattle.mine_limit.specs.declared.fault.MineFault.TheVariants.{Memory, TooMany}
 use Rattle.basket_csv.specs.Csv.{Named, baskets_of_csv}
 use Rattle.basket_csv.specs.Read.{AreCountsNamed}
 use Rattle.basket_plan.specs.declared.plan.Ask.TheVariants.{Items}
@@ -18,11 +18,11 @@ use Rattle.basket_sets.proofs.theory.Support.{support-append}
 use Rattle.basket_sets.specs.declared.weighted.Weighted.{Weighted}
 use Rattle.basket_sets.specs.Frequent.{frequent_items_of}
 use Rattle.basket_sets.specs.Support.{total_of}
-use Rattle.basket.specs.declared.fault.RunFault.TheVariants.{Input}
+use Rattle.basket_outcome.specs.declared.fault.RunFault.TheVariants.{Input}
 use Rattle.basket.specs.Engine.{IsReadable, MakesReport, RefusesSets}
-use Rattle.basket.specs.declared.contents.Contents.TheVariants as contents
-use Rattle.basket.specs.Contents.{FailsIn, by_names, contents_in, wording_with}
-use Rattle.basket.specs.Outcome.{are_too_many, report_of_baskets, of_mining, outcome, outcome_of, text_of}
+use Rattle.basket_outcome.specs.declared.contents.Contents.TheVariants as contents
+use Rattle.basket_outcome.specs.Contents.{FailsIn, by_names, contents_in, wording_with}
+use Rattle.basket_outcome.specs.Outcome.{are_too_many, report_of_baskets, of_mining, outcome, outcome_of, text_of}
 
 -- ---- counts of two lists of baskets
 

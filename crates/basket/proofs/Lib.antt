@@ -1,5 +1,2 @@
-mod MiningLemmas
-mod ContentsLemmas
 mod ItemLemmas
-mod GapLemmas
 mod CountLemmas

@@ -1,7 +1,7 @@
 -- The counts of given sets over an input.
 use Rattle.std.specs.Prelude.{◌≡◌, ◌≢◌, ◌≤◌, ◌+◌, ℕ, Bool, true, false, List, [], ◌∷◌, Option, Some, None, IfSome, Result, Ok, Err, length, map, take, if◌then◌else◌}
 use Rattle.std.specs.Io.KnownBytes.{Appends}
-use Rattle.basket_core.specs.declared.fault.MineFault.TheVariants as mine
+use Rattle.mine_limit.specs.declared.fault.MineFault.TheVariants as mine
 use Rattle.basket_parts.specs.CombinedCounts.{count_in, has_set}
 use Rattle.basket_plan.specs.declared.layout.Layout.{Layout}
 use Rattle.basket_read.specs.declared.counted_line.CountedLine.{CountedLine}
@@ -10,13 +10,13 @@ use Rattle.basket_read.specs.declared.fault.ReadFault.TheVariants.{Memory, Read}
 use Rattle.basket_report.specs.Report.{report_of}
 use Rattle.basket_sets.specs.declared.counted.Counted.{Counted}
 use Rattle.basket_sets.specs.Frequent.{counted}
-use Rattle.basket.specs.declared.contents.Contents.{Contents}
-use Rattle.basket.specs.declared.contents.Contents.TheVariants as contents
-use Rattle.basket.specs.declared.fault.RunFault.{RunFault}
-use Rattle.basket.specs.declared.fault.RunFault.TheVariants.{Input, Sets, Uncounted, Mine, Write}
-use Rattle.basket.specs.declared.prepared.PreparedReport.{PreparedReport}
-use Rattle.basket.specs.Contents.{FailsIn, asked_in, contents_of, wording_with}
-use Rattle.basket.specs.Prepared.{prepared_text}
+use Rattle.basket_outcome.specs.declared.contents.Contents.{Contents}
+use Rattle.basket_outcome.specs.declared.contents.Contents.TheVariants as contents
+use Rattle.basket_outcome.specs.declared.fault.RunFault.{RunFault}
+use Rattle.basket_outcome.specs.declared.fault.RunFault.TheVariants.{Input, Sets, Uncounted, Mine, Write}
+use Rattle.basket_outcome.specs.declared.prepared.PreparedReport.{PreparedReport}
+use Rattle.basket_outcome.specs.Contents.{FailsIn, asked_in, contents_of, wording_with}
+use Rattle.basket_outcome.specs.Prepared.{prepared_text}
 use Rattle.mine_sets.specs.Asked.{asked_of}
 
 -- ---- what is written

@@ -3,14 +3,14 @@ use Rattle.std.specs.Prelude.{◌≡◌, ◌≢◌, ◌≤◌, ℕ, List, Bool, 
 use Rattle.std.specs.Io.KnownBytes.{Appends}
 use Rattle.basket_read.specs.declared.fault.ReadFault.{ReadFault}
 use Rattle.basket_read.specs.declared.fault.ReadFault.TheVariants.{Memory, Read}
-use Rattle.basket_core.specs.declared.fault.MineFault.{MineFault}
-use Rattle.basket_core.specs.declared.fault.MineFault.TheVariants as mine
-use Rattle.basket.specs.declared.fault.RunFault.{RunFault}
-use Rattle.basket.specs.declared.fault.RunFault.TheVariants.{Input, Sets, Uncounted, Mine, Write}
-use Rattle.basket.specs.declared.prepared.PreparedReport.{PreparedReport}
-use Rattle.basket.specs.Contents.{FailsIn}
-use Rattle.basket.specs.Prepared.{prepared_text}
-use Rattle.basket.specs.Outcome.{outcome}
+use Rattle.mine_limit.specs.declared.fault.MineFault.{MineFault}
+use Rattle.mine_limit.specs.declared.fault.MineFault.TheVariants as mine
+use Rattle.basket_outcome.specs.declared.fault.RunFault.{RunFault}
+use Rattle.basket_outcome.specs.declared.fault.RunFault.TheVariants.{Input, Sets, Uncounted, Mine, Write}
+use Rattle.basket_outcome.specs.declared.prepared.PreparedReport.{PreparedReport}
+use Rattle.basket_outcome.specs.Contents.{FailsIn}
+use Rattle.basket_outcome.specs.Prepared.{prepared_text}
+use Rattle.basket_outcome.specs.Outcome.{outcome}
 use Rattle.basket_plan.specs.Plan.{Question}
 
 -- the writer took the report of what the reader had left, and nothing else

@@ -1,10 +1,2 @@
-pub mod Contents
-pub mod Counted
-pub mod Status
-pub mod Classes
-pub mod Mining
-pub mod Outcome
-pub mod Worked
-pub mod Prepared
 pub mod Engine
 pub mod Count

@@ -3,21 +3,18 @@ ghost use Rattle.std.specs.Prelude.{◌≡◌, ◌≢◌, ◌↔◌, true, false
 ghost use Rattle.std.specs.Io.KnownBytes.{Keeps};
 ghost use Rattle.basket_read.specs.declared.fault.ReadFault.{ReadFault as InputFault};
 ghost use Rattle.basket_report.specs.Report.{report_of};
-ghost use Rattle.basket.specs.Contents.{wording_with};
+ghost use Rattle.basket_outcome.specs.Contents.{wording_with};
 ghost use Rattle.basket.specs.Count.{IsCountFault, IsCountsFault, IsSumsFault, MakesCounts, WritesCounts, WritesCountsPrefix, counts_in, counts_over};
-ghost use Rattle.basket.specs.Prepared.{prepared_text};
+ghost use Rattle.basket_outcome.specs.Prepared.{prepared_text};
 ghost use Rattle.mine_sets.specs.Asked.{asked_of};
 
-use crate::asked::read_asked;
-use crate::contents::{Contents, style_of};
-use crate::fault::RunFault;
-use crate::prepared::PreparedReport;
 use crate::workers::counting_workers;
 use basket_core::{Counted, CountedSets, Itemset, Sink, Source};
 use basket_csv::Names;
+use basket_outcome::{Contents, PreparedReport, RunFault, read_asked, style_of};
 use basket_parts::CombinedCounts;
 use basket_plan::CountPlan;
-use mine_phases::{Cutting, Open};
+use mine_pieces::{Cutting, Open};
 use mine_sets::{asked_for, count_sets};
 use std::alloc::{AllocError, Global};
 use std::random::RandomSource;

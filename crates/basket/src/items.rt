@@ -7,16 +7,16 @@ ghost use Rattle.basket_sets.specs.declared.weighted.Weighted.{Weighted as Baske
 ghost use Rattle.basket_sets.specs.Frequent.{frequent_items_of};
 ghost use Rattle.basket.specs.Engine.{MakesReport};
 
-use crate::fault::RunFault;
-use crate::mining::cutting;
-use crate::prepared::PreparedReport;
 use crate::workers::plan_for;
-use basket_core::{MineFault, Source, add_counts};
+use basket_core::{Source, add_counts};
 use basket_csv::{Dialect, Names, count_baskets};
+use basket_mining::cutting;
+use basket_outcome::{PreparedReport, RunFault};
 use basket_plan::{Ask, Form, Plan};
 use basket_read::{ItemCounts, count_fimi_shared};
 use basket_report::{Style, items_report};
-use mine_phases::{Open, count_shared};
+use mine_limit::MineFault;
+use mine_pieces::{Open, count_shared};
 use std::alloc::{AllocError, Global};
 use std::random::RandomSource;
 use std::thread::Threads;

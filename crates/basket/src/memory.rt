@@ -1,10 +1,10 @@
 //! From bytes to bytes, in memory.
 ghost use Rattle.std.specs.Prelude.{◌≡◌, Ok, IfErr, IfOk};
 ghost use Rattle.basket.specs.Engine.{IsOutcomeFault};
-ghost use Rattle.basket.specs.Outcome.{outcome};
+ghost use Rattle.basket_outcome.specs.Outcome.{outcome};
 
 use crate::engine::reported;
-use crate::fault::RunFault;
+use basket_outcome::RunFault;
 use basket_plan::Plan;
 use basket_stream::SliceSource;
 use std::alloc::Global;

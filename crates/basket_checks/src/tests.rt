@@ -18,8 +18,9 @@ mod seats;
 mod shard;
 mod stream;
 
-use basket_core::{Coded, Database, Frequent, Itemset, Minimum, Tally};
+use basket_core::{Coded, Database, Frequent, Itemset, Minimum};
 use mine_apriori::apriori;
+use mine_limit::Tally;
 use std::alloc::{AllocError, Global};
 use std::test::Fail;
 

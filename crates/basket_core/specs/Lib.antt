@@ -10,5 +10,4 @@ pub use Rattle.basket_sets.specs.Worked
 pub use Rattle.basket_lists.specs.CountedSets
 pub use Rattle.basket_stream.specs.Stream
 pub mod Listing
-pub mod Tally
 pub mod Fraction

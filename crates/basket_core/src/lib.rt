@@ -1,12 +1,10 @@
-//! The list of the frequent sets, the limit on it, and fractions. The names of the crates below come
-//! with it: ranks and coded baskets, itemsets, databases and minimums, sources and sinks.
+//! The list of the frequent sets, and fractions. The names of the crates below come with it: ranks
+//! and coded baskets, itemsets, databases and minimums, sources and sinks, and the limit on the list.
 #![tactic(auto)]
 
 mod compare;
-mod fault;
 mod fraction;
 mod frequent;
-mod tally;
 pub mod worked;
 
 pub use basket_lists::{CountedSets, MOST_ITEMS};
@@ -17,7 +15,6 @@ pub use basket_sets::{
 };
 pub use basket_stream::{Failed, MemSink, MemSource, Sink, Source, StdSink, StdSource};
 pub use compare::compare_parts;
-pub use fault::MineFault;
 pub use fraction::Fraction;
 pub use frequent::Frequent;
-pub use tally::{Limit, Tally};
+pub use mine_limit::{Limit, MineFault, Tally};

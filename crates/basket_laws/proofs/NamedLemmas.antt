@@ -1,7 +1,7 @@
 -- Questions to counts of parts by names.
 use Rattle.std.proofs.Common.{◌≢◌, ◌≤◌, ◌∙◌, ℕ, [], ◌∷◌, List, Some, ap, map, refl, subst, sym}
-use Rattle.basket.specs.declared.contents.Contents.TheVariants as contents
-use Rattle.basket.specs.Outcome.{outcome_for}
+use Rattle.basket_outcome.specs.declared.contents.Contents.TheVariants as contents
+use Rattle.basket_outcome.specs.Outcome.{outcome_for}
 use Rattle.basket_csv.specs.Csv.{baskets_in}
 use Rattle.basket_parts.specs.Laws.{CombiningKeepsCounts, CombiningKeepsFrequent, CombiningKeepsSets}
 use Rattle.basket_sets.specs.declared.weighted.Weighted.{Weighted}

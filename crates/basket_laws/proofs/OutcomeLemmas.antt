@@ -4,11 +4,11 @@ use Rattle.std.specs.Prelude.{All, IsTrue, ◌&&◌, ◌||◌, find, nat_lt, not
 use Rattle.std.specs.List.{Contains, list_any}
 use Rattle.std.proofs.lemmas.Bool.Decides.{nat_tests}
 use Rattle.std.proofs.lemmas.List.Elements.{recursion_from_All}
-use Rattle.basket.specs.Counted.{gap_in, listing_in, needs_subsets, needs_total, unless_fault}
-use Rattle.basket.specs.Contents.{by_names, by_numbers, named_combined_of, with_names, wording_with}
-use Rattle.basket.specs.declared.contents.Contents.TheVariants as contents
-use Rattle.basket.specs.Outcome.{report_of_listing, report_of_baskets, of_listing, of_mining, outcome, outcome_for, outcome_of}
-use Rattle.basket_core.specs.declared.fault.MineFault.TheVariants.{TooMany}
+use Rattle.basket_outcome.specs.Counted.{gap_in, listing_in, needs_subsets, needs_total, unless_fault}
+use Rattle.basket_outcome.specs.Contents.{by_names, by_numbers, named_combined_of, with_names, wording_with}
+use Rattle.basket_outcome.specs.declared.contents.Contents.TheVariants as contents
+use Rattle.basket_outcome.specs.Outcome.{report_of_listing, report_of_baskets, of_listing, of_mining, outcome, outcome_for, outcome_of}
+use Rattle.mine_limit.specs.declared.fault.MineFault.TheVariants.{TooMany}
 use Rattle.basket_core.specs.Listing.{Listing}
 use Rattle.basket_counts.specs.Counts.{counts_of}
 use Rattle.basket_counts.specs.Laws.{lines_from}

@@ -1,11 +1,11 @@
 -- Runs over the parts of an input, and over the whole.
 use Rattle.std.proofs.Common.{◌≡◌, ◌≢◌, ◌∙◌, ◌≤◌, ◌++◌, ℕ, List, [], ◌∷◌, None, Result, Ok, Err, ap, ap₂, length, map, refl, subst, sym}
 use Rattle.std.specs.List.{flat_map}
-use Rattle.basket.specs.declared.fault.RunFault.{RunFault}
-use Rattle.basket.specs.declared.contents.Contents.TheVariants as contents
-use Rattle.basket.specs.Contents.{by_numbers, with_names}
+use Rattle.basket_outcome.specs.declared.fault.RunFault.{RunFault}
+use Rattle.basket_outcome.specs.declared.contents.Contents.TheVariants as contents
+use Rattle.basket_outcome.specs.Contents.{by_numbers, with_names}
 use Rattle.basket.specs.Count.{count_outcome, of_asked, of_contents}
-use Rattle.basket.specs.Outcome.{outcome, outcome_for, outcome_of}
+use Rattle.basket_outcome.specs.Outcome.{outcome, outcome_for, outcome_of}
 use Rattle.basket_counts.specs.Counts.{sets_of_bytes}
 use Rattle.basket_parts.specs.Laws.{CombiningKeepsCounts, CombiningKeepsFrequent, CombiningKeepsSets}
 use Rattle.basket_plan.specs.declared.layout.Form.TheVariants.{Fimi}

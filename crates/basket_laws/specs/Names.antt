@@ -1,8 +1,8 @@
 -- Parts of baskets of names, counted apart and put together.
 use Rattle.std.specs.Prelude.{◌≡◌, ◌≢◌, ◌≤◌, ℕ, Bool, IsTrue, List, [], Some, Ok, All, map}
 use Rattle.std.specs.List.{Contains, flat_map}
-use Rattle.basket.specs.declared.contents.Contents.TheVariants as contents
-use Rattle.basket.specs.Outcome.{outcome, outcome_for}
+use Rattle.basket_outcome.specs.declared.contents.Contents.TheVariants as contents
+use Rattle.basket_outcome.specs.Outcome.{outcome, outcome_for}
 use Rattle.basket_csv.specs.Counts.{named_counts_of}
 use Rattle.basket_csv.specs.Csv.{all_names, baskets_in}
 use Rattle.basket_csv.specs.Names.{in_order}

@@ -1,8 +1,8 @@
 -- The outcomes of questions to counts of parts.
 use Rattle.std.specs.Prelude.{◌≡◌, ◌≢◌, ◌≤◌, ℕ, IsTrue, List, [], None, length, All}
 use Rattle.std.specs.List.{Contains}
-use Rattle.basket.specs.declared.contents.Contents.TheVariants as contents
-use Rattle.basket.specs.Outcome.{outcome, outcome_for}
+use Rattle.basket_outcome.specs.declared.contents.Contents.TheVariants as contents
+use Rattle.basket_outcome.specs.Outcome.{outcome, outcome_for}
 use Rattle.basket_counts.specs.Laws.{IsWritten}
 use Rattle.basket_plan.specs.declared.layout.Form.{Form}
 use Rattle.basket_plan.specs.declared.layout.Form.TheVariants.{Counts}

@@ -2,7 +2,7 @@
 use Rattle.std.specs.Prelude.{◌≡◌, ◌≤◌, ℕ, IsTrue, List, Ok, length, All, map}
 use Rattle.std.specs.List.{Contains, flat_map}
 use Rattle.basket.specs.Count.{count_outcome}
-use Rattle.basket.specs.Outcome.{outcome}
+use Rattle.basket_outcome.specs.Outcome.{outcome}
 use Rattle.basket_counts.specs.Counts.{sets_of_bytes}
 use Rattle.basket_counts.specs.Laws.{IsWritten}
 use Rattle.basket_plan.specs.declared.layout.Form.TheVariants.{Fimi}

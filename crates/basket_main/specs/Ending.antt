@@ -3,8 +3,8 @@ use Rattle.std.specs.Prelude.{ℕ, Bool, true, false, List, [], ◌∷◌, Ok, E
 use Rattle.std.specs.IoError.{error_kind}
 use Rattle.std.specs.declared.io.ErrorKind.{ErrorKind}
 use Rattle.std.specs.declared.io.ErrorKind.TheVariants.{OutOfMemory}
-use Rattle.basket.specs.Status.{status_after}
-use Rattle.basket.specs.declared.fault.RunFault.TheVariants.{Write}
+use Rattle.basket_outcome.specs.Status.{status_after}
+use Rattle.basket_outcome.specs.declared.fault.RunFault.TheVariants.{Write}
 use Rattle.basket_plan.specs.Status.{plan_status_of}
 use Rattle.basket_plan.specs.declared.command.PlanFault.TheVariants.{Help}
 use Rattle.basket_main.specs.declared.ending.Ending.{Ending}

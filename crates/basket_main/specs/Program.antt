@@ -3,8 +3,8 @@ use Rattle.std.specs.Prelude.{◌≡◌, ◌≢◌, ℕ, Bool, true, false, List
 use Rattle.std.specs.Io.KnownBytes.{Appends, Keeps}
 use Rattle.basket.specs.Count.{IsCountFault, WritesCounts, WritesCountsPrefix}
 use Rattle.basket.specs.Engine.{IsReportFault, WritesPrefix, WritesReport}
-use Rattle.basket.specs.declared.fault.RunFault.{RunFault}
-use Rattle.basket.specs.declared.fault.RunFault.TheVariants.{Write}
+use Rattle.basket_outcome.specs.declared.fault.RunFault.{RunFault}
+use Rattle.basket_outcome.specs.declared.fault.RunFault.TheVariants.{Write}
 use Rattle.basket_plan.specs.Command.{asks_help, invocation_of_words, is_help}
 use Rattle.basket_plan.specs.declared.command.PlanFault.{PlanFault}
 use Rattle.basket_plan.specs.declared.command.PlanFault.TheVariants.{Memory, Help}

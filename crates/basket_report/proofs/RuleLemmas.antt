@@ -15,7 +15,7 @@ use Rattle.basket_rules.specs.Listed.{set_at}
 use Rattle.basket_rules.specs.Rules.{rules_among, rules_among_with}
 use Rattle.basket_rules.proofs.theory.Consistency.{frequent_is_consistent}
 use Rattle.basket_rules.proofs.theory.Rules.{rules_of_baskets}
-use Rattle.mine_phases.specs.Pieces.{HasEach}
+use Rattle.mine_pieces.specs.Pieces.{HasEach}
 use Rattle.basket_report.specs.Bytes.{joined}
 use Rattle.basket_report.specs.Report.{rule_text, rules_report_of}
 use Rattle.basket_report.specs.Rules.{ReportsRules, ReportsUnions, first_rules}

@@ -15,7 +15,7 @@ use crate::texts::Texts;
 use basket_core::{Frequent, Share, shard};
 use basket_order::PlaceTable;
 use basket_rules::{Lookups, met_rules, places_of};
-use mine_phases::{Cutting, Open, PartWork, Phase, by_pieces};
+use mine_pieces::{Cutting, Open, PartWork, Phase, by_pieces};
 use std::alloc::{AllocError, Global};
 use std::thread::Threads;
 

@@ -4,7 +4,7 @@ use Rattle.std.proofs.lemmas.List.{take_more}
 use Rattle.std.proofs.lemmas.List.Elements.{filter-append}
 use Rattle.basket_sets.specs.Itemset.{IsRising, has}
 use Rattle.basket_sets.proofs.theory.Rising.{has_place, rest_rises}
-use Rattle.mine_apriori.proofs.UsedItemLemmas.{missing}
+use Rattle.mine_supports.proofs.theory.UsedItems.{missing}
 
 -- ---- one item more
 

@@ -14,10 +14,10 @@ use Rattle.basket_sets.proofs.theory.Members.{Member, Member-append_left, Member
 use Rattle.basket_sets.proofs.theory.Ranges.{filter_members}
 use Rattle.basket_sets.proofs.theory.Rising.{Member-from_has, has-from_Member, has_place}
 use Rattle.mine_apriori.specs.Candidates.{is_one_of, has_subsets, candidates_of}
-use Rattle.mine_apriori.specs.Extensions.{AreGrouped, Group, extend, lists_of, sets_of, prefixes_of, has_items, is_some}
+use Rattle.mine_supports.specs.Extensions.{AreGrouped, Group, extend, lists_of, sets_of, prefixes_of, has_items, is_some}
 use Rattle.mine_apriori.specs.Join.{AreParts, has_parts, joined_group, joined_groups}
-use Rattle.mine_apriori.specs.Sizes.{AreOfSize}
-use Rattle.mine_apriori.proofs.ExtensionLemmas.{looked_up, missing}
+use Rattle.mine_supports.specs.Sizes.{AreOfSize}
+use Rattle.mine_apriori.proofs.GroupLemmas.{looked_up, missing}
 use Rattle.mine_apriori.proofs.JoinedLemmas.{all_joined, filter_both, level_joined, parts_decide}
 use Rattle.mine_apriori.proofs.LawLemmas.{size_at}
 use Rattle.mine_apriori.proofs.PruneLemmas.{is_one_of-from_Member}

@@ -14,10 +14,11 @@ use Rattle.basket_sets.proofs.theory.Members.{Member, Member-append, Member-from
 use Rattle.basket_sets.proofs.theory.Rising.{same_test}
 use Rattle.basket_sets.proofs.theory.Without.{each_passes}
 use Rattle.mine_apriori.specs.Candidates.{is_one_of, has_subsets, candidates_of}
-use Rattle.mine_apriori.specs.Extensions.{AreGrouped, Group, extend, kept, sets_of, prefixes_of, has_items}
+use Rattle.mine_supports.specs.Extensions.{AreGrouped, Group, extend, kept, sets_of, prefixes_of, has_items}
 use Rattle.mine_apriori.specs.Join.{has_parts, joined_group, joined_groups, join, joined_with, joined_from, share_front}
 use Rattle.mine_apriori.proofs.CandidateLemmas.{joins_are_candidates, length_after}
-use Rattle.mine_apriori.proofs.ExtensionLemmas.{filter_prefix, filter_sorted, other_prefix, passing, sets_filled}
+use Rattle.mine_supports.proofs.theory.Extensions.{passing, sets_filled}
+use Rattle.mine_apriori.proofs.GroupLemmas.{filter_prefix, filter_sorted, other_prefix}
 use Rattle.mine_apriori.proofs.JoinLemmas.{joins, same_order, shares, take_front, without_first, without_second}
 use Rattle.mine_apriori.proofs.LawLemmas.{size_at}
 use Rattle.mine_apriori.proofs.PruneLemmas.{Member-without, has_all}

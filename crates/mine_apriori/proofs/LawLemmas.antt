@@ -12,7 +12,7 @@ use Rattle.basket_sets.proofs.theory.Members.{Member, Member-append, Member-appe
 use Rattle.basket_sets.proofs.theory.Rising.{rising-rises, has_each, contains_each}
 use Rattle.basket_sets.proofs.theory.Subsets.{IsSubset, IsSubset-from_Member, Member-from_IsSubset, of_size_sorted, same_length}
 use Rattle.mine_apriori.specs.Candidates.{items_in, is_one_of, has_subsets, candidates_of, IsCandidate, CandidatesAreExact, CandidatesAreInReportOrder, CandidatesAreOneLarger}
-use Rattle.mine_apriori.specs.Sizes.{AreOfSize}
+use Rattle.mine_supports.specs.Sizes.{AreOfSize}
 use Rattle.mine_apriori.proofs.JoinLemmas.{ends_of, without_second, without_first}
 use Rattle.mine_apriori.proofs.PruneLemmas.{Member-from_is_one_of, is_one_of-from_Member, Member-without, in_items, of_size_is}
 use Rattle.basket_sets.proofs.theory.Without.{all_pass, each_passes}

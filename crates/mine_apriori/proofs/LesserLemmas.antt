@@ -9,8 +9,8 @@ use Rattle.std.proofs.lemmas.List.Elements.{All-map}
 use Rattle.basket_sets.specs.Itemset.{IsRising}
 use Rattle.basket_sets.proofs.theory.Members.{Member, Member-append_right, Member-from_Contains, Member-map, first_is_less, rest_is_sorted, sorted_append, sorted_map}
 use Rattle.basket_sets.proofs.theory.Rising.{Less-from_lt, cons_rises, lt-from_Less, nil_rises}
-use Rattle.mine_apriori.specs.Extensions.{AreGrouped, Group, extend, prefixes_of}
-use Rattle.mine_apriori.specs.Sizes.{AreOfSize}
+use Rattle.mine_supports.specs.Extensions.{AreGrouped, Group, extend, prefixes_of}
+use Rattle.mine_supports.specs.Sizes.{AreOfSize}
 use Rattle.mine_apriori.proofs.JoinLemmas.{first_at_most, last_less, less_last, rises_after}
 
 -- the prefixes of groups are single ranks, which rise and are below a rank

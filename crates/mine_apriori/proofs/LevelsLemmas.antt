@@ -26,7 +26,7 @@ use Rattle.basket_sets.proofs.theory.Subsets.{IsSubset, IsSubset-from_Member, Me
 use Rattle.basket_sets.proofs.theory.Support.{frequent_items, subsets_are_frequent}
 use Rattle.mine_apriori.specs.Candidates.{candidates_of}
 use Rattle.mine_apriori.specs.Levels.{level_of, levels_up_to, asked_of, decoded_sets, AreFound, AreTooMany}
-use Rattle.mine_apriori.specs.Sizes.{AreOfSize}
+use Rattle.mine_supports.specs.Sizes.{AreOfSize}
 use Rattle.mine_apriori.proofs.LawLemmas.{subset_of_size, candidates_are_exact, candidates_are_in_report_order}
 
 -- what is larger than a list has no subset of it

@@ -1,7 +1,5 @@
 mod JoinLemmas
-mod ExtensionLemmas
 mod IntersectionLemmas
-mod FrequentLemmas
 mod JoinedLemmas
 mod JoinStepLemmas
 mod PruneLemmas
@@ -15,10 +13,4 @@ mod LesserLemmas
 mod WorkLemmas
 mod AllCandidateLemmas
 mod ItemLemmas
-mod OnesLemmas
-mod PlaceLemmas
-mod NeededLemmas
-mod RowLemmas
-mod PrefixLemmas
-mod CounterLemmas
-mod UsedItemLemmas
+mod GroupLemmas

@@ -30,9 +30,9 @@ use Rattle.basket_sets.proofs.theory.Sorting.{sorted_is}
 use Rattle.basket_sets.proofs.theory.Subsets.{of_size_sorted}
 use Rattle.basket_sets.proofs.theory.Support.{support_falls}
 use Rattle.mine_classes.specs.Conditional.{is_kept}
-use Rattle.mine_classes.proofs.theory.Kept.{met_alone}
+use Rattle.mine_pairs.proofs.theory.Kept.{met_alone}
 use Rattle.mine_classes.proofs.theory.Lists.{distinct-append}
-use Rattle.mine_classes.specs.Pairs.{ArePairs, lists_of, pairs_of}
+use Rattle.mine_pairs.specs.Pairs.{ArePairs, lists_of, pairs_of}
 use Rattle.mine_apriori.specs.declared.pairs.Pair.{Pair}
 use Rattle.mine_apriori.specs.Levels.{level_of}
 use Rattle.mine_apriori.proofs.JoinLemmas.{rises_after}

@@ -4,7 +4,7 @@ use Rattle.std.specs.List.{Contains, list_any, list_all, flat_map}
 use Rattle.basket_sets.specs.Itemset.{IsRising, contains, rising}
 use Rattle.basket_sets.specs.Order.{IsInReportOrder}
 use Rattle.basket_sets.specs.Subsets.{subsets_of_size}
-use Rattle.mine_apriori.specs.Sizes.{AreOfSize}
+use Rattle.mine_supports.specs.Sizes.{AreOfSize}
 
 -- the items of the sets
 abbrev pub items_in : List (List ℕ) → List ℕ

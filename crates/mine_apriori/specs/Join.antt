@@ -5,8 +5,8 @@ use Rattle.std.specs.List.{flat_map}
 use Rattle.std.specs.List.Sorted.{IsStrictlySortedBy}
 use Rattle.std.specs.Ordering.{nat_cmp}
 use Rattle.mine_apriori.specs.Candidates.{is_one_of, has_subsets}
-use Rattle.mine_apriori.specs.Extensions.{Group, has_items, prefixes_of, sets_of}
-use Rattle.mine_apriori.specs.Sizes.{AreOfSize}
+use Rattle.mine_supports.specs.Extensions.{Group, has_items, prefixes_of, sets_of}
+use Rattle.mine_supports.specs.Sizes.{AreOfSize}
 use Rattle.basket_sets.specs.Itemset.{IsRising, has, without}
 
 -- sets that can be joined: of one size, whose last item stands at the place `last`, in lexicographic order

@@ -5,7 +5,7 @@ use Rattle.basket_sets.specs.declared.counted.Counted.{Counted}
 use Rattle.basket_sets.specs.Frequent.{counted, is_frequent}
 use Rattle.basket_sets.specs.Subsets.{subsets_of_size, subsets_up_to}
 use Rattle.basket_sets.specs.Support.{support_of, items_of}
-use Rattle.mine_apriori.specs.Extensions.{AreGrouped, Group, sets_of}
+use Rattle.mine_supports.specs.Extensions.{AreGrouped, Group, sets_of}
 use Rattle.mine_apriori.specs.Candidates.{candidates_of}
 use Rattle.mine_apriori.specs.Work.{candidates_up_to}
 

@@ -1,14 +1,5 @@
-pub mod Sizes
 pub mod Candidates
-pub mod Extensions
 pub mod Join
 pub mod Shard
 pub mod Work
 pub mod Levels
-pub mod TidWord
-pub mod UsedItems
-pub mod Needed
-pub mod Prefixes
-pub mod Rows
-pub mod BlockCounts
-pub mod Counter

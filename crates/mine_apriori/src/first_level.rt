@@ -1,17 +1,18 @@
 //! The first level of Apriori, and the second, which is made of pairs.
 ghost use Rattle.std.specs.Prelude.{◌≡◌, ℕ, Err, IfOk, OnOk};
-ghost use Rattle.basket_core.specs.declared.fault.MineFault.TheVariants.{TooMany};
+ghost use Rattle.mine_limit.specs.declared.fault.MineFault.TheVariants.{TooMany};
 ghost use Rattle.basket_ranks.specs.Codes.{IsCoding};
-ghost use Rattle.mine_apriori.specs.Extensions.{AreGrouped, sets_of};
+ghost use Rattle.mine_supports.specs.Extensions.{AreGrouped, sets_of};
 ghost use Rattle.mine_apriori.specs.Levels.{AreFound, AreTooMany, level_of};
-ghost use Rattle.mine_classes.specs.Pairs.{ArePairs, lists_of};
+ghost use Rattle.mine_pairs.specs.Pairs.{ArePairs, lists_of};
 
-use crate::extensions::Extensions;
 use crate::frequent::add_frequent;
 use crate::levels::{KnownLevels, Levels};
 use crate::pairs::{pair_sets, sorted_pairs};
-use basket_core::{Coded, CountedSets, MineFault, count_items};
-use mine_classes::pair_count;
+use basket_core::{Coded, CountedSets, count_items};
+use mine_limit::MineFault;
+use mine_pairs::pair_count;
+use mine_supports::Extensions;
 use std::alloc::{AllocError, Global};
 use std::marker::Model;
 
@@ -45,7 +46,7 @@ pub struct FirstLevel<'a> {
 impl<'a> Model for FirstLevel<'a> {
     ghost use Rattle.std.specs.Prelude.{◌≤◌, length};
     ghost use Rattle.basket_ranks.specs.Codes.{IsCoding};
-    ghost use Rattle.mine_apriori.specs.Extensions.{AreGrouped, sets_of};
+    ghost use Rattle.mine_supports.specs.Extensions.{AreGrouped, sets_of};
     ghost use Rattle.mine_apriori.specs.Levels.{AreFound, Search};
 
     ghost Value = { Search };

@@ -4,11 +4,11 @@ ghost use Rattle.basket_ranks.specs.Codes.{IsCoding};
 ghost use Rattle.basket_sets.specs.Frequent.{is_frequent};
 ghost use Rattle.basket_sets.specs.Itemset.{IsRising};
 ghost use Rattle.basket_sets.specs.Support.{support_of};
-ghost use Rattle.mine_apriori.specs.Extensions.{extend, kept, sets_of};
+ghost use Rattle.mine_supports.specs.Extensions.{extend, kept, sets_of};
 ghost use Rattle.mine_apriori.specs.Levels.{decoded_sets};
 
-use crate::extensions::{Extensions, put_extended};
 use basket_core::{Coded, CountedSets, Itemset};
+use mine_supports::{Extensions, put_extended};
 use std::alloc::{AllocError, Global};
 
 /// Adds those of the sets that are frequent to those found, as items and with their supports. Returns them as ranks.

@@ -6,13 +6,13 @@ ghost use Rattle.std.specs.Ordering.{nat_cmp};
 ghost use Rattle.basket_sets.specs.Itemset.{IsRising, has, without};
 ghost use Rattle.basket_sets.specs.Order.{IsInReportOrder};
 ghost use Rattle.mine_apriori.specs.Candidates.{is_one_of, candidates_of};
-ghost use Rattle.mine_apriori.specs.Extensions.{AreGrouped, has_items, prefixes_of, sets_of};
+ghost use Rattle.mine_supports.specs.Extensions.{AreGrouped, has_items, prefixes_of, sets_of};
 ghost use Rattle.mine_apriori.specs.Join.{AreParts, has_parts, joined_group};
-ghost use Rattle.mine_apriori.specs.Sizes.{AreOfSize};
+ghost use Rattle.mine_supports.specs.Sizes.{AreOfSize};
 
-use crate::extensions::{Extensions, put_extended};
 use crate::intersection::push_shared;
 use crate::search::find_near;
+use mine_supports::{Extensions, put_extended};
 use std::alloc::{AllocError, Global};
 use std::mem::swap;
 

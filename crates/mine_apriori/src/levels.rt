@@ -1,21 +1,21 @@
 //! Apriori, level by level.
 ghost use Rattle.std.specs.Prelude.{◌≡◌, ◌≢◌, ◌<◌, ◌≤◌, ◌+◌, [], ℕ, Err, IfOk, IfErr, length};
-ghost use Rattle.basket_core.specs.declared.fault.MineFault.TheVariants.{Memory, TooMany};
+ghost use Rattle.mine_limit.specs.declared.fault.MineFault.TheVariants.{Memory, TooMany};
 ghost use Rattle.basket_ranks.specs.Codes.{IsCoding, baskets_of};
 ghost use Rattle.basket_core.specs.Listing.{listing_of};
 ghost use Rattle.basket_sets.specs.Support.{items_of};
-ghost use Rattle.mine_apriori.specs.Extensions.{AreGrouped, sets_of};
+ghost use Rattle.mine_supports.specs.Extensions.{AreGrouped, sets_of};
 ghost use Rattle.mine_apriori.specs.Levels.{AreFound, AreTooMany, asked_of, level_of, wanted};
 ghost use Rattle.mine_apriori.specs.Shard.{IsRegular};
 ghost use Rattle.mine_apriori.specs.Work.{candidate_count, candidates_of_size, candidates_up_to};
 
-use crate::extensions::Extensions;
 use crate::first_level::{FirstLevel, frequent_ranks};
 use crate::frequent::add_frequent;
 use crate::join::candidates;
-use crate::shard::count_extensions;
-use basket_core::{Coded, CountedSets, Frequent, MineFault};
-use mine_classes::frequent_pairs;
+use basket_core::{Coded, CountedSets, Frequent};
+use mine_limit::MineFault;
+use mine_pairs::frequent_pairs;
+use mine_supports::{Extensions, count_extensions};
 use std::alloc::Global;
 use std::marker::Model;
 

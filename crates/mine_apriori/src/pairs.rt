@@ -5,13 +5,13 @@ ghost use Rattle.std.specs.List.Sorted.{IsStrictlySortedBy};
 ghost use Rattle.std.specs.Ordering.{nat_cmp};
 ghost use Rattle.basket_ranks.specs.Codes.{IsCoding};
 ghost use Rattle.basket_sets.specs.Support.{support_of};
-ghost use Rattle.mine_apriori.specs.Extensions.{AreGrouped, sets_of};
+ghost use Rattle.mine_supports.specs.Extensions.{AreGrouped, sets_of};
 ghost use Rattle.mine_apriori.specs.Levels.{level_of};
-ghost use Rattle.mine_apriori.specs.Sizes.{AreOfSize};
-ghost use Rattle.mine_classes.specs.Pairs.{ArePairs, lists_of};
+ghost use Rattle.mine_supports.specs.Sizes.{AreOfSize};
+ghost use Rattle.mine_pairs.specs.Pairs.{ArePairs, lists_of};
 
-use crate::extensions::Extensions;
 use basket_core::Coded;
+use mine_supports::Extensions;
 use std::alloc::{AllocError, Global};
 
 /// Two ranks, the lesser one first, and the support of the pair.

@@ -1,20 +1,4 @@
 pub mod theory
-mod ConditionalLemmas
 mod ClassLemmas
 mod TogetherLemmas
-mod RunLemmas
-mod RunStepLemmas
-mod RunLoopLemmas
-mod SumStepLemmas
-mod SumLemmas
-mod PairLemmas
-mod TriangleLemmas
-mod PlaceLemmas
-mod BitLemmas
-mod CodedLemmas
 mod MinedLemmas
-mod BranchLemmas
-mod ShiftLemmas
-mod WordPathLemmas
-mod RankSumLemmas
-mod FewLemmas

@@ -7,9 +7,6 @@ use Rattle.basket_sets.specs.Database.{weighted}
 use Rattle.basket_sets.specs.Frequent.{is_frequent}
 use Rattle.basket_sets.specs.Itemset.{has}
 use Rattle.basket_sets.specs.Support.{support_of}
-use Rattle.mine_baskets.specs.ListBaskets.{RankBaskets}
-use Rattle.mine_classes.specs.declared.conditional.Conditional.{Conditional}
-use Rattle.mine_classes.specs.declared.conditional.Conditional.TheVariants.{Lists, Words}
 
 -- whether a rank is below another one and frequent together with it, by a least support
 abbrev pub is_kept : List Weighted → ℕ → ℕ → ℕ → Bool
@@ -22,11 +19,6 @@ kept_place keeps rank place = if has place.basket rank then weighted (filter kee
 -- the conditional database of a rank (Han, Pei and Yin 2000): the baskets that have it, kept to the ranks below it that are frequent together with it
 abbrev pub conditional : ℕ → List Weighted → ℕ → List Weighted
 conditional least baskets rank = flat_map (kept_place (is_kept baskets least rank) rank) baskets
-
--- its baskets, in whichever form they are kept
-abbrev pub conditional_baskets : Conditional → RankBaskets
-conditional_baskets (Lists lists) = lists
-conditional_baskets (Words words) = words
 
 -- each set of kept ranks has in the conditional database the support that it has, with the rank added, in the baskets; each other set has none
 abbrev pub ConditionalSupports : Type 0

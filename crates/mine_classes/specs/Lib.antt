@@ -1,14 +1,4 @@
 pub mod Conditional
 pub mod Classes
-pub mod Runs
-pub mod Sums
-pub mod Pairs
-pub mod Triangle
-pub mod RankPlaces
-pub mod BitTable
-pub mod WordPaths
-pub mod Shift
-pub mod Paths
 pub mod Worked
 pub mod Mined
-pub mod Tables

@@ -4,8 +4,8 @@ use Rattle.std.specs.List.{flat_map, range_with_len, sum_by}
 use Rattle.basket_sets.specs.declared.weighted.Weighted.{Weighted}
 use Rattle.basket_sets.specs.declared.minimum.Minimum.{Minimum}
 use Rattle.basket_sets.specs.declared.counted.Counted.{Counted}
-use Rattle.basket_core.specs.declared.fault.MineFault.{MineFault}
-use Rattle.basket_core.specs.declared.fault.MineFault.TheVariants.{TooMany}
+use Rattle.mine_limit.specs.declared.fault.MineFault.{MineFault}
+use Rattle.mine_limit.specs.declared.fault.MineFault.TheVariants.{TooMany}
 use Rattle.basket_ranks.specs.Codes.{Coding, IsCoding, baskets_of, coding_of, decoded_set, frequent_of_coding, merged_coding}
 use Rattle.basket_sets.specs.Frequent.{ListsOnce, is_frequent}
 use Rattle.mine_classes.specs.Classes.{ListsClass, class_of}

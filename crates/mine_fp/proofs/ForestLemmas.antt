@@ -15,7 +15,7 @@ use Rattle.basket_sets.proofs.theory.Rising.{Member-from_has, has-from_Member}
 use Rattle.basket_sets.proofs.theory.Support.{support_falls}
 use Rattle.mine_classes.specs.Classes.{ClassesAreListed}
 use Rattle.mine_classes.specs.Conditional.{ConditionalSupports}
-use Rattle.mine_classes.specs.Pairs.{pairs_of}
+use Rattle.mine_pairs.specs.Pairs.{pairs_of}
 use Rattle.mine_fp.specs.declared.pattern_base.PatternBase.{PatternBase}
 use Rattle.mine_fp.specs.Forest.{IsForest}
 use Rattle.mine_fp.specs.PatternBase.{IsBase, IsBelow, IsNumbered, named, ranks_of, supports_in}

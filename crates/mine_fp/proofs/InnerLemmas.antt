@@ -15,9 +15,9 @@ use Rattle.basket_sets.proofs.theory.Support.{support-cons}
 use Rattle.basket_sets.proofs.theory.Tests.{Member-at, all_of}
 use Rattle.mine_baskets.specs.ListBaskets.{AreRankBaskets, IsRankBasket, RankBaskets}
 use Rattle.mine_classes.specs.Conditional.{ConditionalSupports, is_kept}
-use Rattle.mine_classes.specs.Pairs.{kept_ranks}
-use Rattle.mine_classes.specs.Paths.{IsConditional}
-use Rattle.mine_classes.proofs.theory.Kept.{kept_rises}
+use Rattle.mine_pairs.specs.Pairs.{kept_ranks}
+use Rattle.mine_conditional.specs.Paths.{IsConditional}
+use Rattle.mine_pairs.proofs.theory.Kept.{kept_rises}
 use Rattle.mine_fp.proofs.StraightLemmas.{ArePlain}
 
 pub ranked_plain : (value : RankBaskets) → AreRankBaskets value → ArePlain value.baskets

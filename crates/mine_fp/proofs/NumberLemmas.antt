@@ -19,8 +19,9 @@ use Rattle.basket_sets.proofs.theory.Rising.{Member-from_has, cons_rises, first_
 use Rattle.basket_sets.proofs.theory.Support.{support_falls}
 use Rattle.basket_sets.proofs.theory.Tests.{Member-at, rising_at}
 use Rattle.mine_classes.specs.Conditional.{ConditionalSupports, is_kept}
-use Rattle.mine_classes.specs.Pairs.{kept_ranks, named_pair, pairs_of}
-use Rattle.mine_classes.proofs.theory.Kept.{Member-kept, met_alone, support_with, kept_rises, kept_below as below_kept, pair_ranks as first_ranks}
+use Rattle.mine_pairs.specs.Pairs.{kept_ranks, named_pair, pairs_of}
+use Rattle.mine_classes.proofs.theory.Conditional.{support_with}
+use Rattle.mine_pairs.proofs.theory.Kept.{Member-kept, met_alone, kept_rises, kept_below as below_kept, pair_ranks as first_ranks}
 use Rattle.mine_fp.specs.declared.pattern_base.PatternBase.{PatternBase}
 use Rattle.mine_fp.specs.PatternBase.{IsBelow, IsNumbered, named, ranks_of, supports_in}
 use Rattle.mine_fp.proofs.InnerLemmas.{support_below}

@@ -15,9 +15,9 @@ use Rattle.basket_sets.proofs.theory.Rising.{Member-from_has, contains_each, has
 use Rattle.basket_sets.proofs.theory.Tests.{Member-at, all_of, each_of}
 use Rattle.mine_baskets.specs.ListBaskets.{IsRankBasket}
 use Rattle.mine_classes.specs.Conditional.{ConditionalSupports}
-use Rattle.mine_classes.specs.declared.tables.Tables.{Tables}
-use Rattle.mine_classes.specs.Paths.{is_branch}
-use Rattle.mine_classes.proofs.theory.Kept.{kept_short}
+use Rattle.mine_conditional.specs.declared.tables.Tables.{Tables}
+use Rattle.mine_conditional.specs.Paths.{is_branch}
+use Rattle.mine_pairs.proofs.theory.Kept.{kept_short}
 use Rattle.mine_fp.specs.declared.pattern_base.PatternBase.{PatternBase}
 use Rattle.mine_fp.specs.PatternBase.{HaveSlots, IsBase, IsBelow, KeepSlots, ranks_of}
 use Rattle.mine_fp.specs.Trees.{has_tree, is_straight}

@@ -14,7 +14,7 @@ use Rattle.basket_sets.proofs.theory.Members.{Member, Member-filter, Member-from
 use Rattle.basket_sets.proofs.theory.Rising.{Member-from_has, contains_each, first_below, has-from_Member, has_each, rest_rises, same_test}
 use Rattle.basket_sets.proofs.theory.Support.{at_least_one, support-cons, support_falls}
 use Rattle.basket_sets.proofs.theory.Tests.{all_of, each_of}
-use Rattle.mine_classes.proofs.theory.Branches.{AreHeavy, from_picked, into_picked}
+use Rattle.mine_conditional.proofs.theory.Branches.{AreHeavy, from_picked, into_picked}
 use Rattle.mine_fp.specs.Tree.{begins}
 use Rattle.mine_fp.specs.Trees.{is_straight, paths_below}
 

@@ -6,9 +6,9 @@ use Rattle.basket_sets.specs.Itemset.{IsRising, has}
 use Rattle.basket_sets.specs.Minimum.{IsLeastSupport}
 use Rattle.basket_sets.specs.Support.{support_of, total_of}
 use Rattle.mine_baskets.specs.ListBaskets.{AreRankBaskets}
-use Rattle.mine_classes.specs.declared.tables.Tables.{Tables}
-use Rattle.mine_classes.specs.Pairs.{named_pair, pairs_of}
-use Rattle.mine_classes.specs.Paths.{IsConditional}
+use Rattle.mine_conditional.specs.declared.tables.Tables.{Tables}
+use Rattle.mine_pairs.specs.Pairs.{named_pair, pairs_of}
+use Rattle.mine_conditional.specs.Paths.{IsConditional}
 use Rattle.mine_fp.specs.declared.pattern_base.PatternBase.{PatternBase}
 use Rattle.mine_fp.specs.Trees.{has_tree}
 use Rattle.mine_search.specs.Node.{Node, Supports, is_met, kept}

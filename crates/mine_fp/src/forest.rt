@@ -4,16 +4,18 @@ ghost use Rattle.std.specs.List.{range_with_len};
 ghost use Rattle.basket_sets.specs.Support.{support_of};
 ghost use Rattle.mine_baskets.specs.ListBaskets.{AreRankBaskets, HaveSameWeights};
 ghost use Rattle.mine_classes.specs.Mined.{MinesClass, class_size};
-ghost use Rattle.mine_classes.specs.Tables.{AreTablesOf};
+ghost use Rattle.mine_conditional.specs.Tables.{AreTablesOf};
 ghost use Rattle.mine_fp.specs.Trees.{class_trees};
 
 use crate::pattern_base::PatternBase;
-use basket_core::{Coded, CountedSets, MineFault, Tally};
+use basket_core::{Coded, CountedSets};
 use mine_baskets::ListBaskets;
 use mine_classes::laws::{
     classes_are_listed, conditional_supports, lists_have_class_size, rare_ranks_have_no_class,
 };
-use mine_classes::{Paths, Runs, Tables};
+use mine_conditional::{Paths, Tables};
+use mine_limit::{MineFault, Tally};
+use mine_pairs::Runs;
 use mine_search::Class;
 use std::alloc::{AllocError, Global};
 use std::marker::Model;

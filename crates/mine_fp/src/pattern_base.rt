@@ -2,13 +2,13 @@
 ghost use Rattle.std.specs.Prelude.{◌≡◌, ◌≤◌, ◌<◌, [], IfNone, IfOk, IfSome, length, map, vec_len};
 ghost use Rattle.std.proofs.Common.{◌∙◌, refl, subst, sym};
 ghost use Rattle.basket_sets.specs.Counts.{AllBelow};
-ghost use Rattle.mine_classes.specs.Pairs.{named_pair, pairs_of};
-ghost use Rattle.mine_classes.specs.Paths.{is_branch};
+ghost use Rattle.mine_pairs.specs.Pairs.{named_pair, pairs_of};
+ghost use Rattle.mine_conditional.specs.Paths.{is_branch};
 ghost use Rattle.mine_fp.specs.PatternBase.{HaveSlots, IsBase, IsBelow, KeepSlots, ranks_of};
 
 use basket_core::Coded;
 use mine_classes::laws::conditional_supports;
-use mine_classes::{Paths, Tables};
+use mine_conditional::{Paths, Tables};
 use mine_search::Projected;
 use std::alloc::{AllocError, Global};
 

@@ -1,8 +1,3 @@
-pub mod theory
-mod Placing
-mod Parts
-mod Shares
-mod Numbers
 mod Ranks
 mod RunLemmas
 mod Sharing

@@ -12,7 +12,7 @@ use Rattle.basket_sets.proofs.theory.Merging.{sum_by-add, sum_by-same}
 use Rattle.basket_sets.proofs.theory.Ranges.{range_drops, range_keeps, range_more}
 use Rattle.basket_ranks.specs.Codes.{Coding}
 use Rattle.mine_phases.specs.Classes.{places_of, rank_from_end, ranks_of}
-use Rattle.mine_phases.proofs.theory.Seats.{sum_by-flat_map, sum_by-map}
+use Rattle.mine_pieces.proofs.theory.Seats.{sum_by-flat_map, sum_by-map}
 
 -- ---- the places of a piece
 

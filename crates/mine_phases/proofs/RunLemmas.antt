@@ -3,8 +3,8 @@ use Rattle.std.proofs.Common.{◌≡◌, ℕ, ◌+◌, ◌<◌, List, [], ◌∷
 use Rattle.std.specs.List.{flat_map, range_with_len}
 use Rattle.std.proofs.lemmas.List.Concat.{flat_map-cons}
 use Rattle.mine_baskets.specs.declared.span.Span.{Span}
-use Rattle.mine_classes.specs.declared.rank_range.RankRange.{RankRange}
-use Rattle.mine_classes.specs.Triangle.{ranks_in}
+use Rattle.mine_pairs.specs.declared.rank_range.RankRange.{RankRange}
+use Rattle.mine_pairs.specs.Triangle.{ranks_in}
 
 module _ (IsOf : ℕ → List Span → Type 0) where
   -- the lists are those of the ranks

@@ -8,21 +8,21 @@ use Rattle.std.proofs.lemmas.List.Elements.{All-head, All-map, All-same, All-tai
 use Rattle.std.proofs.lemmas.List.Sorted.{IsPermutation-refl, sum_by-IsPermutation}
 use Rattle.std.proofs.lemmas.List.Sums.{sum_by-cons}
 use Rattle.basket_ranks.specs.Codes.{Coding, IsCoding, baskets_of, frequent_of_coding}
-use Rattle.basket_core.specs.declared.fault.MineFault.{MineFault}
-use Rattle.basket_core.specs.declared.fault.MineFault.TheVariants.{Memory, TooMany}
+use Rattle.mine_limit.specs.declared.fault.MineFault.{MineFault}
+use Rattle.mine_limit.specs.declared.fault.MineFault.TheVariants.{Memory, TooMany}
 use Rattle.basket_sets.specs.declared.counted.Counted.{Counted}
 use Rattle.basket_sets.specs.Frequent.{ListsOnce}
 use Rattle.mine_classes.specs.Mined.{ClassItemsAreAll, ClassSizesAddUp, ListsClassItems, MOST_SET_WORK, class_size}
 use Rattle.mine_round.specs.RoundView.{RoundView}
 use Rattle.mine_round.specs.SeatView.{SeatView}
 use Rattle.mine_round.specs.Totals.{HoldsNumbersBelow, added_by, claimed_by, seen_by}
-use Rattle.mine_phases.specs.declared.worker_result.WorkerResult.{WorkerResult}
+use Rattle.mine_pieces.specs.declared.worker_result.WorkerResult.{WorkerResult}
 use Rattle.mine_phases.specs.Classes.{HasLargeClass, IsClassShare, IsMined, IsWorkOfAll, ToldAll, claimed_size, ranks_of}
-use Rattle.mine_phases.specs.Pieces.{HasEach}
-use Rattle.mine_phases.specs.WorkerResult.{fault_after, fault_of}
-use Rattle.mine_phases.proofs.Numbers.{sum_fits, sum_more}
-use Rattle.mine_phases.proofs.theory.Seats.{sum_by-flat_map, sums_at_most}
-use Rattle.mine_phases.proofs.Placing.{times_all}
+use Rattle.mine_pieces.specs.Pieces.{HasEach}
+use Rattle.mine_pieces.specs.WorkerResult.{fault_after, fault_of}
+use Rattle.mine_pieces.proofs.theory.Numbers.{sum_fits, sum_more}
+use Rattle.mine_pieces.proofs.theory.Seats.{sum_by-flat_map, sums_at_most}
+use Rattle.mine_pieces.proofs.theory.Placing.{times_all}
 use Rattle.mine_phases.proofs.Ranks.{sum_of_ranks}
 
 -- ---- the fault to tell

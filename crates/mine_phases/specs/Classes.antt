@@ -3,13 +3,13 @@ use Rattle.std.specs.Prelude.{◌≡◌, ◌≤◌, ◌<◌, ◌-◌, ◌*◌, �
 use Rattle.std.specs.Global.{Global}
 use Rattle.std.specs.List.{range_with_len, sum_by}
 use Rattle.basket_ranks.specs.Codes.{Coding}
-use Rattle.basket_core.specs.declared.fault.MineFault.TheVariants.{TooMany}
+use Rattle.mine_limit.specs.declared.fault.MineFault.TheVariants.{TooMany}
 use Rattle.basket_sets.specs.declared.counted.Counted.{Counted}
 use Rattle.mine_classes.specs.Mined.{ListsClassItems, MOST_SET_WORK, class_size}
 use Rattle.mine_round.specs.RoundView.{RoundView}
 use Rattle.mine_round.specs.SeatView.{SeatView}
-use Rattle.mine_phases.specs.declared.worker_result.WorkerResult.{WorkerResult}
-use Rattle.mine_phases.specs.Pieces.{IsPieceShare}
+use Rattle.mine_pieces.specs.declared.worker_result.WorkerResult.{WorkerResult}
+use Rattle.mine_pieces.specs.Pieces.{IsPieceShare}
 
 -- the work of the classes of the ranks below a number, added up
 pub record IsWorkOfAll (is_work : ℕ → ℕ → Type 0) (ranks total : ℕ) : Type 0 where

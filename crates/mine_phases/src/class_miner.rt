@@ -2,10 +2,11 @@
 ghost use Rattle.std.specs.Prelude.{◌≡◌, ◌<◌, ℕ, IfOk, OnOk, false, length};
 ghost use Rattle.basket_ranks.specs.Codes.{Coding};
 ghost use Rattle.mine_classes.specs.Mined.{MinesClass};
-ghost use Rattle.mine_classes.specs.Tables.{AreTablesOf};
+ghost use Rattle.mine_conditional.specs.Tables.{AreTablesOf};
 
-use basket_core::{CountedSets, MineFault, Tally};
-use mine_classes::Tables;
+use basket_core::CountedSets;
+use mine_conditional::Tables;
+use mine_limit::{MineFault, Tally};
 use std::alloc::Global;
 
 /// Mines the class of a rank.

@@ -1,26 +1,23 @@
 //! The phase that mines class by class, with one limit over all workers.
 ghost use Rattle.std.specs.Prelude.{◌≡◌, ◌≤◌, ◌<◌, ◌+◌, ◌++◌, ◌⊎◌, ℕ, Err, IfOk, IsTrue, OnOk, false, length, slice_index};
-ghost use Rattle.basket_core.specs.declared.fault.MineFault.TheVariants.{TooMany};
+ghost use Rattle.mine_limit.specs.declared.fault.MineFault.TheVariants.{TooMany};
 ghost use Rattle.basket_ranks.specs.Codes.{frequent_of_coding};
 ghost use Rattle.basket_core.specs.Listing.{listing_of};
-ghost use Rattle.mine_classes.specs.Tables.{AreTablesOf};
+ghost use Rattle.mine_conditional.specs.Tables.{AreTablesOf};
 ghost use Rattle.mine_round.specs.Record.{unused};
 ghost use Rattle.mine_phases.specs.Classes.{AreMined, HasLargeClass, IsClassShare, IsMined, IsWorkOfAll, claimed_size, ranks_of};
-ghost use Rattle.mine_phases.specs.Pieces.{HasEach};
+ghost use Rattle.mine_pieces.specs.Pieces.{HasEach};
 ghost use Rattle.mine_phases.specs.RoundTally.{CountsSets, still};
-ghost use Rattle.mine_phases.specs.WorkerResult.{numbers_of};
+ghost use Rattle.mine_pieces.specs.WorkerResult.{numbers_of};
 
 use crate::class_miner::ClassMiner;
-use crate::cutting::Cutting;
-use crate::gate::Gate;
 use crate::joined::{Class, joined};
-use crate::phase::Phase;
-use crate::placed::collected;
 use crate::round_tally::{RoundTally, Start, are_over};
-use crate::worker_result::{WorkerResult, by_workers, claim_piece};
-use basket_core::{Coded, Frequent, MineFault, Tally};
-use mine_classes::Tables;
+use basket_core::{Coded, Frequent};
 use mine_classes::laws::{class_items_are_all, class_sizes_add_up, lists_have_class_size};
+use mine_conditional::Tables;
+use mine_limit::{MineFault, Tally};
+use mine_pieces::{Cutting, Gate, Phase, WorkerResult, by_workers, claim_piece, collected};
 use mine_round::{Round, RoundSeat};
 use std::alloc::Global;
 use std::marker::Brand;
@@ -29,15 +26,13 @@ use std::thread::Threads;
 /// The number of the phase: the items were counted before.
 const PHASE: u32 = 2;
 
-impl<'a, G: Gate> Phase<'a, G> {
-    /// The phase that mines class by class.
-    pub fn of_classes(cutting: Cutting, gate: &'a G) -> Self
-        ensures number { result.number ≡ PHASE }
-        ensures cutting { result.cutting ≡ cutting }
-        ensures gate { result.gate.now ≡ gate.now }
-    {
-        Phase::new(PHASE, cutting, gate)
-    }
+/// The phase that mines class by class.
+pub fn class_phase<'a, G: Gate>(cutting: Cutting, gate: &'a G) -> Phase<'a, G>
+    ensures number { result.number ≡ PHASE }
+    ensures cutting { result.cutting ≡ cutting }
+    ensures gate { result.gate.now ≡ gate.now }
+{
+    Phase::new(PHASE, cutting, gate)
 }
 
 /// The phase as its workers see it.

@@ -1,13 +1,10 @@
 //! The second phase of Apriori, which finds the frequent pairs of ranks. They are counted where they
 //! occur, and no list of all pairs is made.
 ghost use Rattle.std.specs.Prelude.{◌≡◌, IfOk};
-ghost use Rattle.mine_classes.specs.Pairs.{lists_of, pairs_by_greater, pairs_of};
+ghost use Rattle.mine_pairs.specs.Pairs.{lists_of, pairs_by_greater, pairs_of};
 
-use crate::cutting::Cutting;
-use crate::gate::Gate;
-use crate::phase::Phase;
-use crate::pieces::{PartWork, by_pieces};
-use mine_classes::{Runs, Sums};
+use mine_pairs::{Runs, Sums};
+use mine_pieces::{Cutting, Gate, PartWork, Phase, by_pieces};
 use std::alloc::{AllocError, Global};
 use std::thread::Threads;
 

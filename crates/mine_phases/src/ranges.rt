@@ -2,11 +2,11 @@
 ghost use Rattle.std.specs.Prelude.{◌≤◌, ◌^◌, ◌<◌, ◌≡◌, All, IfOk, length};
 ghost use Rattle.std.specs.List.{flat_map, range_with_len};
 ghost use Rattle.basket_sets.specs.Counts.{AllBelow};
-ghost use Rattle.mine_classes.specs.Triangle.{ranks_in};
+ghost use Rattle.mine_pairs.specs.Triangle.{ranks_in};
 
-use crate::cutting::Cutting;
 use basket_core::{Coded, Weighted};
-use mine_classes::RankRange;
+use mine_pairs::RankRange;
+use mine_pieces::Cutting;
 use std::alloc::{AllocError, Global};
 
 /// About this many baskets show how many steps each rank takes.

@@ -3,7 +3,7 @@ ghost use Rattle.std.specs.Prelude.{◌≡◌, ◌≤◌, ◌<◌, ◌+◌, ◌^
 ghost use Rattle.mine_phases.specs.RoundTally.{CountsSets, no_seat, still};
 ghost use Rattle.mine_round.specs.SeatView.{SeatView};
 
-use basket_core::Tally;
+use mine_limit::Tally;
 use mine_round::{Round, RoundSeat};
 use std::marker::{Brand, Model, PhantomData};
 

@@ -4,20 +4,17 @@ ghost use Rattle.std.proofs.Props.{props};
 ghost use Rattle.basket_sets.specs.Support.{support_of};
 ghost use Rattle.mine_baskets.specs.ListBaskets.{AreRankBaskets, HaveSameWeights};
 ghost use Rattle.mine_baskets.specs.Span.{IsWithin, baskets_at};
-ghost use Rattle.mine_classes.specs.Runs.{HaveRunsFrom, lists_in};
-ghost use Rattle.mine_classes.specs.declared.rank_range.RankRange.{RankRange as Range};
+ghost use Rattle.mine_pairs.specs.Runs.{HaveRunsFrom, lists_in};
+ghost use Rattle.mine_pairs.specs.declared.rank_range.RankRange.{RankRange as Range};
 
-use crate::cutting::Cutting;
-use crate::gate::Open;
 use crate::joined::in_a_row;
 use crate::pairs::PHASE;
-use crate::phase::Phase;
-use crate::pieces::{PartWork, by_pieces};
 use crate::ranges::{Cost, ranges_of};
 use crate::triangle::triangle_pairs;
 use basket_core::Coded;
 use mine_baskets::{ListBaskets, Span};
-use mine_classes::{RankRange, Runs, pays_for_classes, runs_keeping, runs_of_range};
+use mine_pairs::{RankRange, Runs, pays_for_classes, runs_keeping, runs_of_range};
+use mine_pieces::{Cutting, Open, PartWork, Phase, by_pieces};
 use std::alloc::{AllocError, Global};
 use std::thread::Threads;
 

@@ -1,18 +1,15 @@
 //! The frequent pairs of few ranks, over ranges of their greater ranks.
 ghost use Rattle.std.specs.Prelude.{◌≡◌, ◌<◌, ◌^◌, ℕ, List, [], IfOk, length, map, slice_index_or};
 ghost use Rattle.basket_sets.specs.Support.{support_of};
-ghost use Rattle.mine_classes.specs.Pairs.{ArePairs, lists_of};
-ghost use Rattle.mine_classes.specs.Triangle.{pairs_in_range};
+ghost use Rattle.mine_pairs.specs.Pairs.{ArePairs, lists_of};
+ghost use Rattle.mine_pairs.specs.Triangle.{pairs_in_range};
 
-use crate::cutting::Cutting;
-use crate::gate::Gate;
 use crate::joined::in_a_row;
 use crate::pairs::{PHASE, Pairs};
-use crate::phase::Phase;
-use crate::pieces::{PartWork, by_pieces};
 use crate::ranges::{Cost, ranges_of};
 use basket_core::Coded;
-use mine_classes::{RankRange, RankedBaskets, least_support, pairs_of_range};
+use mine_pairs::{RankRange, RankedBaskets, least_support, pairs_of_range};
+use mine_pieces::{Cutting, Gate, PartWork, Phase, by_pieces};
 use std::alloc::{AllocError, Global};
 use std::thread::Threads;
 

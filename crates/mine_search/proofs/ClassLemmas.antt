@@ -6,7 +6,7 @@ use Rattle.basket_lists.proofs.theory.Places.{set_added}
 use Rattle.basket_ranks.specs.Codes.{Coding}
 use Rattle.basket_sets.specs.declared.counted.Counted.{Counted}
 use Rattle.basket_sets.specs.Itemset.{rising}
-use Rattle.mine_classes.proofs.theory.Kept.{support_with}
+use Rattle.mine_classes.proofs.theory.Conditional.{support_with}
 use Rattle.mine_search.specs.Class.{IsClass, IsOver, class_sets, of_rank}
 use Rattle.mine_search.specs.Node.{Node, Supports, is_met, sets_at}
 use Rattle.mine_search.specs.Search.{FindsAll, IsNode, Reached, found_at}

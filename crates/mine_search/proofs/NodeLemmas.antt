@@ -1,8 +1,8 @@
 -- What is found below a node so far, and the nodes that extend it.
 use Rattle.std.proofs.Common.{◌≡◌, ℕ, ◌+◌, ◌<◌, ◌≤◌, Bool, true, false, not, List, [], ◌∷◌, ◌++◌, length, get_or, take, map, refl, sym, ap, ◌∙◌, subst, arith, length-append, append_assoc}
 use Rattle.std.specs.Prelude.{Err, OnOk, Result}
-use Rattle.basket_core.specs.declared.fault.MineFault.{MineFault}
-use Rattle.basket_core.specs.declared.fault.MineFault.TheVariants.{TooMany}
+use Rattle.mine_limit.specs.declared.fault.MineFault.{MineFault}
+use Rattle.mine_limit.specs.declared.fault.MineFault.TheVariants.{TooMany}
 use Rattle.std.specs.List.{flat_map, sum_by}
 use Rattle.std.proofs.lemmas.Bool.{le-leb, leb-true}
 use Rattle.std.proofs.lemmas.List.{append-nil, length-map, length-take-le, map-append, take_all, take_more}

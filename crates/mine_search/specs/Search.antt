@@ -1,7 +1,7 @@
 -- What a search below a node does.
 use Rattle.std.specs.Prelude.{◌≡◌, ◌≤◌, ◌<◌, ◌+◌, ◌*◌, ◌++◌, ℕ, Bool, false, IsTrue, List, ◌∷◌, ◌⊎◌, Err, OnOk, Result, length, map}
-use Rattle.basket_core.specs.declared.fault.MineFault.{MineFault}
-use Rattle.basket_core.specs.declared.fault.MineFault.TheVariants.{TooMany}
+use Rattle.mine_limit.specs.declared.fault.MineFault.{MineFault}
+use Rattle.mine_limit.specs.declared.fault.MineFault.TheVariants.{TooMany}
 use Rattle.basket_sets.specs.declared.counted.Counted.{Counted}
 use Rattle.basket_ranks.specs.Codes.{MOST_RANKS, decoded}
 use Rattle.mine_classes.specs.Mined.{MOST_SET_WORK}

@@ -1,6 +1,6 @@
 //! Sets that are read off a single branch.
 ghost use Rattle.std.specs.Prelude.{◌≡◌, ◌≤◌, ◌<◌, ◌+◌, ◌-◌, ◌++◌, ◌⊎◌, ℕ, Err, IsTrue, OnOk, false, length, map};
-ghost use Rattle.basket_core.specs.declared.fault.MineFault.TheVariants.{TooMany};
+ghost use Rattle.mine_limit.specs.declared.fault.MineFault.TheVariants.{TooMany};
 ghost use Rattle.basket_lists.specs.CountedSets.{set_at};
 ghost use Rattle.mine_search.specs.Node.{Node};
 ghost use Rattle.mine_search.specs.Search.{GoesOn, IsDone, IsOf, reached};
@@ -8,7 +8,7 @@ ghost use Rattle.mine_search.specs.Straight.{IsStraight, between, chosen};
 
 use crate::mined::Mined;
 use crate::projected::Projected;
-use basket_core::{MineFault, Tally};
+use mine_limit::{MineFault, Tally};
 use std::alloc::Global;
 
 /// Adds the frequent sets that extend the set at a place, read off a single branch: each choice of

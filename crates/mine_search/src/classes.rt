@@ -7,8 +7,9 @@ ghost use Rattle.mine_search.specs.Node.{Supports, work_at};
 use crate::mined::Mined;
 use crate::projected::Projected;
 use crate::search::extend;
-use basket_core::{Coded, CountedSets, Itemset, MineFault, Tally};
+use basket_core::{Coded, CountedSets, Itemset};
 use mine_classes::laws::lists_have_class_size;
+use mine_limit::{MineFault, Tally};
 use std::alloc::Global;
 
 /// A frequent rank with its support, its conditional database unless no rank is frequent there, and

@@ -1,10 +1,11 @@
 //! What a search has found so far.
 ghost use Rattle.std.specs.Prelude.{◌≡◌, ◌≤◌, ◌<◌, ◌+◌, ◌++◌, [], ◌∷◌, ℕ, ◌⊎◌, Err, IfOk, IsTrue, false, OnOk, length};
-ghost use Rattle.basket_core.specs.declared.fault.MineFault.TheVariants.{TooMany};
+ghost use Rattle.mine_limit.specs.declared.fault.MineFault.TheVariants.{TooMany};
 ghost use Rattle.basket_sets.specs.Itemset.{with_item};
 ghost use Rattle.basket_lists.specs.CountedSets.{set_at};
 
-use basket_core::{CountedSets, Itemset, MineFault, Tally};
+use basket_core::{CountedSets, Itemset};
+use mine_limit::{MineFault, Tally};
 use std::alloc::{AllocError, Global};
 
 /// The sets that were found, and how much work they took.

@@ -7,7 +7,7 @@ ghost use Rattle.mine_search.specs.Search.{GoesOn, IsDone, IsOf, reached};
 use crate::branch::read_off;
 use crate::mined::Mined;
 use crate::projected::Projected;
-use basket_core::{MineFault, Tally};
+use mine_limit::{MineFault, Tally};
 use std::alloc::Global;
 
 /// Adds the frequent sets that extend the set at a place, whose conditional database this is, depth

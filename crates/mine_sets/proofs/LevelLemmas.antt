@@ -1,7 +1,7 @@
 -- Sets of one size have items.
 use Rattle.std.proofs.Common.{◌≡◌, ◌≤◌, ℕ, true, List, [], ◌∷◌, length, filter, cond, refl, arith, suc}
-use Rattle.mine_apriori.specs.Extensions.{is_some}
-use Rattle.mine_apriori.specs.Sizes.{AreOfOneSize, AreOfSize}
+use Rattle.mine_supports.specs.Extensions.{is_some}
+use Rattle.mine_supports.specs.Sizes.{AreOfOneSize, AreOfSize}
 
 long_is_some : (set : List ℕ) → 1 ≤ length set → is_some set ≡ true
 long_is_some [] some = absurd (omega (arith, some))

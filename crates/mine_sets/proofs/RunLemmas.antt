@@ -5,7 +5,7 @@ use Rattle.std.proofs.lemmas.List.{map-append}
 use Rattle.std.proofs.lemmas.List.Elements.{All-cons}
 use Rattle.basket_sets.specs.declared.weighted.Weighted.{Weighted}
 use Rattle.basket_sets.specs.Support.{support_of}
-use Rattle.mine_apriori.specs.Sizes.{AreOfSize}
+use Rattle.mine_supports.specs.Sizes.{AreOfSize}
 
 -- a set and others of its size
 pub run_sized : (size n k : ℕ) (first : List ℕ) (others : List (List ℕ)) → k ≡ suc n → length first ≡ size → AreOfSize size (take n others) → AreOfSize size (take k (first ∷ others))

@@ -16,9 +16,9 @@ use Rattle.basket_sets.specs.Support.{support_of, total_of, weight_at}
 use Rattle.mine_round.specs.SeatView.{SeatView}
 use Rattle.mine_round.specs.Totals.{added_by, claimed_by}
 use Rattle.mine_sets.specs.Supports.{AddsSupports, part_support}
-use Rattle.mine_phases.specs.declared.worker_result.WorkerResult.{WorkerResult}
-use Rattle.mine_phases.proofs.theory.Claims.{after, after-le, after_push}
-use Rattle.mine_phases.proofs.theory.Seats.{Ends, each_seat, sum_by-flat_map, sum_by-map, sums_at_most}
+use Rattle.mine_pieces.specs.declared.worker_result.WorkerResult.{WorkerResult}
+use Rattle.mine_pieces.proofs.theory.Claims.{after, after-le, after_push}
+use Rattle.mine_pieces.proofs.theory.Seats.{Ends, each_seat, sum_by-flat_map, sum_by-map, sums_at_most}
 
 module _ (baskets : List Weighted) (pieces : ℕ) (set : List ℕ) where
   -- the support in the baskets before a part

@@ -6,7 +6,7 @@ use Rattle.basket_sets.specs.declared.weighted.Weighted.{Weighted}
 use Rattle.basket_sets.specs.Support.{support_of}
 use Rattle.mine_round.specs.RoundView.{RoundView}
 use Rattle.mine_round.specs.SeatView.{SeatView}
-use Rattle.mine_phases.specs.declared.worker_result.WorkerResult.{WorkerResult}
+use Rattle.mine_pieces.specs.declared.worker_result.WorkerResult.{WorkerResult}
 
 -- the support of a set in a part of the baskets
 abbrev pub part_support : List Weighted → ℕ → List ℕ → ℕ → ℕ

@@ -7,7 +7,7 @@ ghost use Rattle.mine_sets.specs.Placed.{found_of, found_with, placed};
 use crate::asked::{Asked, asked_for, placed};
 use crate::runs::count_in_order;
 use basket_sets::{Counted, Database, Itemset};
-use mine_phases::{Cutting, Gate};
+use mine_pieces::{Cutting, Gate};
 use std::alloc::{AllocError, Global};
 use std::random::RandomSource;
 use std::thread::Threads;

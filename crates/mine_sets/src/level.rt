@@ -2,13 +2,13 @@
 ghost use Rattle.std.specs.Prelude.{◌≡◌, ◌≤◌, IfOk, map};
 ghost use Rattle.basket_sets.specs.Database.{MOST_WEIGHT};
 ghost use Rattle.basket_sets.specs.Support.{support_of, total_of};
-ghost use Rattle.mine_apriori.specs.Extensions.{sets_of};
-ghost use Rattle.mine_apriori.specs.Sizes.{AreOfOneSize};
+ghost use Rattle.mine_supports.specs.Extensions.{sets_of};
+ghost use Rattle.mine_supports.specs.Sizes.{AreOfOneSize};
 
 use crate::supports::count_supports;
-use basket_core::{Itemset, Weighted};
-use mine_apriori::{Extensions, RowCounter};
-use mine_phases::{Cutting, Gate, Phase};
+use basket_sets::{Itemset, Weighted};
+use mine_pieces::{Cutting, Gate, Phase};
+use mine_supports::{Extensions, RowCounter};
 use std::alloc::{AllocError, Global};
 use std::thread::Threads;
 

@@ -1,11 +1,11 @@
 //! Sets that are counted in runs of one size.
 ghost use Rattle.std.specs.Prelude.{◌≡◌, ◌≤◌, IfOk, length, map, take};
 ghost use Rattle.basket_sets.specs.Support.{support_of};
-ghost use Rattle.mine_apriori.specs.Sizes.{AreOfSize};
+ghost use Rattle.mine_supports.specs.Sizes.{AreOfSize};
 
 use crate::level::count_level;
 use basket_sets::{Database, Itemset};
-use mine_phases::{Cutting, Gate};
+use mine_pieces::{Cutting, Gate};
 use std::alloc::{AllocError, Global};
 use std::thread::Threads;
 

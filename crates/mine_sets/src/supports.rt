@@ -5,10 +5,12 @@ ghost use Rattle.basket_sets.specs.Support.{support_of, total_of};
 ghost use Rattle.mine_sets.specs.Supports.{AddsSupports, IsSupportShare};
 ghost use Rattle.mine_round.specs.Record.{unused};
 
-use basket_core::{MineFault, Weighted, shard};
-use mine_apriori::RowCounter;
-use mine_phases::{Gate, Phase, WorkerResult, add_counts, by_workers, claim_piece};
+use basket_ranks::shard;
+use basket_sets::Weighted;
+use mine_limit::MineFault;
+use mine_pieces::{Gate, Phase, WorkerResult, add_counts, by_workers, claim_piece};
 use mine_round::{Round, RoundSeat};
+use mine_supports::RowCounter;
 use std::alloc::{AllocError, Global};
 use std::thread::Threads;
 

@@ -20,8 +20,9 @@ use Rattle.basket_sets.proofs.theory.Tests.{all_of, each_of}
 use Rattle.mine_baskets.specs.ListBaskets.{HaveSameWeights}
 use Rattle.mine_classes.specs.Conditional.{ConditionalSupports, is_kept}
 use Rattle.mine_classes.specs.Mined.{RanksAreFrequent}
-use Rattle.mine_classes.specs.Pairs.{kept_ranks}
-use Rattle.mine_classes.proofs.theory.Kept.{met_alone, support_with}
+use Rattle.mine_pairs.specs.Pairs.{kept_ranks}
+use Rattle.mine_classes.proofs.theory.Conditional.{support_with}
+use Rattle.mine_pairs.proofs.theory.Kept.{met_alone}
 use Rattle.mine_search.specs.Class.{IsClass, of_rank}
 use Rattle.mine_search.specs.Node.{Node, Supports, is_met, kept, work_at}
 use Rattle.mine_search.specs.Walk.{kept_below, work_below}

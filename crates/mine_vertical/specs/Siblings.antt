@@ -4,7 +4,7 @@ use Rattle.basket_sets.specs.declared.weighted.Weighted.{Weighted}
 use Rattle.basket_sets.specs.Support.{support_of}
 use Rattle.mine_baskets.specs.Covers.{cover_of, weights_of}
 use Rattle.mine_classes.specs.Conditional.{conditional}
-use Rattle.mine_classes.specs.Pairs.{kept_ranks}
+use Rattle.mine_pairs.specs.Pairs.{kept_ranks}
 use Rattle.mine_vertical.specs.declared.joins.Sibling.{Sibling}
 
 -- the row of a sibling stands for the cover of a set with the sibling's rank, beside the cover of the set

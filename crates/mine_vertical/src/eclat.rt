@@ -2,15 +2,16 @@
 ghost use Rattle.std.specs.Prelude.{◌≡◌, ◌<◌, IfOk, false, length};
 ghost use Rattle.mine_vertical.specs.Joins.{class_joins};
 ghost use Rattle.mine_classes.specs.Mined.{MinesClass, RanksAreFrequent};
-ghost use Rattle.mine_classes.specs.Tables.{AreTablesOf};
+ghost use Rattle.mine_conditional.specs.Tables.{AreTablesOf};
 
 use crate::joins::Joins;
 use crate::search_scratch::SearchScratch;
 use crate::siblings::{Siblings, class_siblings};
 use crate::vertical::Vertical;
-use basket_core::{CountedSets, MineFault, Tally};
-use mine_classes::Tables;
+use basket_core::CountedSets;
 use mine_classes::laws::{conditional_supports, rare_ranks_have_no_class};
+use mine_conditional::Tables;
+use mine_limit::{MineFault, Tally};
 use mine_rows::Row;
 use mine_search::Class;
 use std::alloc::Global;

@@ -3,12 +3,12 @@ ghost use Rattle.std.specs.Prelude.{◌≡◌, ◌≤◌, ◌<◌, ◌+◌, ◌�
 ghost use Rattle.basket_sets.specs.declared.weighted.Weighted.{Weighted as Basket};
 ghost use Rattle.basket_sets.specs.Itemset.{AllBelow, IsRising};
 ghost use Rattle.basket_sets.specs.Support.{support_of};
-ghost use Rattle.mine_classes.specs.Pairs.{pairs_of};
+ghost use Rattle.mine_pairs.specs.Pairs.{pairs_of};
 ghost use Rattle.mine_baskets.specs.Covers.{cover_of, weights_of};
 ghost use Rattle.mine_rows.specs.Cover.{IsAdded, all_places};
 ghost use Rattle.mine_vertical.specs.Siblings.{ArePair, IsSibling};
 
-use mine_classes::{Runs, Sums};
+use mine_pairs::{Runs, Sums};
 use mine_rows::{Marks, Row, Weights};
 use std::alloc::{AllocError, Global};
 

@@ -6,15 +6,16 @@ ghost use Rattle.basket_sets.specs.declared.weighted.Weighted.{Weighted as Baske
 ghost use Rattle.basket_sets.specs.Database.{HasWeight, MOST_WEIGHT};
 ghost use Rattle.basket_sets.specs.Support.{total_of};
 ghost use Rattle.mine_baskets.specs.Covers.{weights_of};
-ghost use Rattle.mine_classes.specs.Pairs.{pairs_of};
-ghost use Rattle.mine_classes.specs.Paths.{IsConditional};
-ghost use Rattle.mine_classes.specs.Tables.{AreTablesOf};
+ghost use Rattle.mine_pairs.specs.Pairs.{pairs_of};
+ghost use Rattle.mine_conditional.specs.Paths.{IsConditional};
+ghost use Rattle.mine_conditional.specs.Tables.{AreTablesOf};
 ghost use Rattle.mine_vertical.specs.Siblings.{AreClassSiblings, AreOver};
 
 use crate::joins::{Joins, Sibling};
 use basket_core::Coded;
 use mine_baskets::ListBaskets;
-use mine_classes::{RankPlaces, Runs, Tables, ranks_of};
+use mine_conditional::{Conditional, RankPlaces, Tables, ranks_of};
+use mine_pairs::Runs;
 use mine_rows::{Row, Weights};
 use std::alloc::{AllocError, Global};
 use std::rc::Rc;
@@ -49,7 +50,7 @@ fn conditional_of(
     ensures merged { IfOk result (IsConditional runs.now.baskets least rank) }
     ensures places { places.new ≡ places.old }
 {
-    let below = runs.below(alloc, places, rank, least, pairs)?;
+    let below = Conditional::below(runs, alloc, places, rank, least, pairs)?;
     let merged = below.merged(alloc)?;
     Ok(merged)
 }

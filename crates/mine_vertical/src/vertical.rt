@@ -7,7 +7,7 @@ ghost use Rattle.mine_baskets.specs.ListBaskets.{HaveSameWeights};
 
 use basket_core::{Coded, CountedSets};
 use mine_baskets::ListBaskets;
-use mine_classes::Runs;
+use mine_pairs::Runs;
 use std::alloc::{AllocError, Global};
 use std::marker::Model;
 

@@ -1,8 +1,9 @@
 //! Classes by Eclat with each kind of row and by FP-growth.
 use super::eclat::text;
 use super::{NINE_BASKETS, database};
-use basket_core::{Coded, CountedSets, Limit, MineFault, Minimum, Tally};
+use basket_core::{Coded, CountedSets, Minimum};
 use mine_fp::{Forest, fp_class};
+use mine_limit::{Limit, MineFault, Tally};
 use mine_vertical::{BitRow, DiffList, TidList, Vertical, eclat_class};
 use std::alloc::Global;
 use std::fmt::Write;

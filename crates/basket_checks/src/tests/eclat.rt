@@ -1,6 +1,7 @@
 //! Classes by Eclat.
 use super::{Early, NINE_BASKETS, database};
-use basket_core::{Coded, CountedSets, Limit, MineFault, Minimum, Tally};
+use basket_core::{Coded, CountedSets, Minimum};
+use mine_limit::{Limit, MineFault, Tally};
 use mine_vertical::{BitRow, DiffList, Row as Kind, TidList, Vertical, eclat_class};
 use std::alloc::Global;
 use std::fmt::Write;

@@ -1,7 +1,8 @@
 //! FP-growth.
 use super::{Early, NINE_BASKETS, Row, database};
-use basket_core::{Coded, MineFault, Minimum, Tally};
+use basket_core::{Coded, Minimum};
 use mine_fp::{Forest, FpTree, fp_class};
+use mine_limit::{MineFault, Tally};
 use std::alloc::Global;
 use std::fmt::Write;
 use std::test::Fail;

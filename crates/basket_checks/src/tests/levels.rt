@@ -1,8 +1,10 @@
 ghost use Rattle.std.specs.Prelude.{◌≡◌, IfOk};
 
 use super::{NINE_BASKETS, database};
-use basket_core::{Coded, Frequent, MineFault, Minimum};
-use mine_apriori::{Extensions, Levels, apriori, count_extensions};
+use basket_core::{Coded, Frequent, Minimum};
+use mine_apriori::{Levels, apriori};
+use mine_limit::MineFault;
+use mine_supports::{Extensions, count_extensions};
 use std::alloc::Global;
 use std::process::Abort;
 use std::test::Fail;

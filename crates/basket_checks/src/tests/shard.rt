@@ -1,7 +1,7 @@
 //! Supports of any sets.
 use super::{NINE_BASKETS, database, sets_of};
 use basket_core::shard;
-use mine_apriori::count_shard;
+use mine_supports::count_shard;
 use std::alloc::Global;
 use std::test::Fail;
 

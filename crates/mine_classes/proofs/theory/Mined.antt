@@ -1,8 +1,8 @@
 -- How a call that mines a class ends.
 use Rattle.std.proofs.Common.{◌≡◌, ℕ, ◌+◌, ◌<◌, ◌≤◌, Bool, false, List, [], ◌∷◌, length, Ok, Err, refl, sym, ap, subst, arith, ◌⊎◌}
 use Rattle.std.specs.Prelude.{IsTrue, Result}
-use Rattle.basket_core.specs.declared.fault.MineFault.{MineFault}
-use Rattle.basket_core.specs.declared.fault.MineFault.TheVariants.{TooMany}
+use Rattle.mine_limit.specs.declared.fault.MineFault.{MineFault}
+use Rattle.mine_limit.specs.declared.fault.MineFault.TheVariants.{TooMany}
 use Rattle.basket_ranks.specs.Codes.{Coding}
 use Rattle.basket_sets.specs.declared.counted.Counted.{Counted}
 use Rattle.basket_sets.specs.Frequent.{is_frequent}

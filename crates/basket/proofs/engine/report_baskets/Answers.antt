@@ -6,7 +6,7 @@ use Rattle.basket_sets.specs.Counts.{item_supports}
 use Rattle.basket_sets.proofs.theory.Items.{frequent_items_are_counted}
 use Rattle.basket_plan.specs.declared.layout.Layout.{Layout}
 use Rattle.basket_plan.specs.declared.plan.Ask.TheVariants.{Items}
-use Rattle.basket.specs.Contents.{wording_with}
+use Rattle.basket_outcome.specs.Contents.{wording_with}
 use Rattle.basket.proofs.engine.report_baskets.Goals as goal
 
 pub returns-in_ok-items_report-in-Items-clause-ok : goal.returns-in_ok-items_report-in-Items-clause-ok

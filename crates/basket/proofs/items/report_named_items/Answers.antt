@@ -6,9 +6,9 @@ use Rattle.basket_plan.specs.declared.layout.Layout.{Layout}
 use Rattle.basket_read.specs.Fault.{IsRead}
 use Rattle.basket_report.specs.Report.{report_of}
 use Rattle.basket_sets.specs.Frequent.{frequent_items_of}
-use Rattle.basket.specs.declared.contents.Contents.TheVariants as contents
-use Rattle.basket.specs.Contents.{FailsIn, by_names, wording_with}
-use Rattle.basket.specs.Outcome.{outcome_of}
+use Rattle.basket_outcome.specs.declared.contents.Contents.TheVariants as contents
+use Rattle.basket_outcome.specs.Contents.{FailsIn, by_names, wording_with}
+use Rattle.basket_outcome.specs.Outcome.{outcome_of}
 use Rattle.basket.proofs.ItemLemmas.{counts_report, csv_counted, csv_of, csv_outcome, memory_refuses, reader_refuses}
 use Rattle.basket.proofs.items.report_named_items.Goals as goal
 

@@ -6,10 +6,10 @@ use Rattle.basket_sets.specs.Frequent.{is_frequent}
 use Rattle.basket_sets.specs.Itemset.{IsRising}
 use Rattle.basket_sets.specs.Support.{items_of, support_of}
 use Rattle.basket_sets.proofs.theory.Rising.{nil_rises}
-use Rattle.mine_apriori.specs.Extensions.{AreGrouped, sets_of}
+use Rattle.mine_supports.specs.Extensions.{AreGrouped, sets_of}
 use Rattle.mine_apriori.specs.Levels.{decoded_sets}
-use Rattle.mine_apriori.proofs.ExtensionLemmas.{kept_sets}
-use Rattle.mine_apriori.proofs.FrequentLemmas.{singles_rise}
+use Rattle.mine_supports.proofs.theory.Extensions.{kept_sets}
+use Rattle.mine_supports.proofs.theory.Frequent.{singles_rise}
 use Rattle.mine_apriori.proofs.JoinedLemmas.{kept_grouped}
 use Rattle.mine_apriori.proofs.JoinStepLemmas.{one_grouped}
 use Rattle.mine_apriori.proofs.LevelsLemmas.{first_asked, first_level, first_ranks, items_rise}

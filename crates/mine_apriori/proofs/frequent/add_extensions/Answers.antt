@@ -7,7 +7,7 @@ use Rattle.basket_sets.specs.Itemset.{has, rising}
 use Rattle.basket_sets.specs.Minimum.{meets}
 use Rattle.basket_sets.specs.Support.{support_of}
 use Rattle.basket_sets.proofs.theory.Rising.{rising-rising}
-use Rattle.mine_apriori.proofs.FrequentLemmas.{count_read, extended_rises, found_more, kept_more}
+use Rattle.mine_supports.proofs.theory.Frequent.{count_read, extended_rises, found_more, kept_more}
 use Rattle.mine_apriori.proofs.frequent.add_extensions.Goals as goal
 use Rattle.mine_apriori.proofs.frequent.add_extensions.Goals.{After-met, then-met+in_ok-put_extended+in_ok-ranks+in_ok-push_renamed+in_ok-push+in-Heap-1, then-met+in_ok-put_extended+in_ok-ranks+in_ok-push_renamed+in_ok-push+in-Inline-1, else-met}
 

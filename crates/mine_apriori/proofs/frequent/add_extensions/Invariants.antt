@@ -1,6 +1,6 @@
 use Rattle.std.proofs.Common.{◌≡◌, ◌++◌, ◌∷◌, [], filter, take}
 use Rattle.basket_sets.specs.Frequent.{is_frequent}
-use Rattle.mine_apriori.specs.Extensions.{extend}
+use Rattle.mine_supports.specs.Extensions.{extend}
 use Rattle.mine_apriori.specs.Levels.{decoded_sets}
 use Rattle.mine_apriori.proofs.frequent.add_extensions.Given as goal
 

@@ -5,10 +5,10 @@ use Rattle.basket_sets.specs.Frequent.{counted, is_frequent}
 use Rattle.basket_sets.specs.Itemset.{IsRising}
 use Rattle.basket_sets.specs.Support.{support_of}
 use Rattle.basket_sets.proofs.theory.Ranges.{filter_rises}
-use Rattle.mine_apriori.specs.Extensions.{extend}
+use Rattle.mine_supports.specs.Extensions.{extend}
 use Rattle.mine_apriori.specs.Levels.{decoded_sets}
-use Rattle.mine_apriori.proofs.ExtensionLemmas.{items_read, lists_long, no_group, prefix_read}
-use Rattle.mine_apriori.proofs.FrequentLemmas.{counts_first, counts_rest, counts_within, found_next, group_rises, kept_none, kept_some}
+use Rattle.mine_supports.proofs.theory.Extensions.{items_read, lists_long, no_group, prefix_read}
+use Rattle.mine_supports.proofs.theory.Frequent.{counts_first, counts_rest, counts_within, found_next, group_rises, kept_none, kept_some}
 use Rattle.mine_apriori.proofs.JoinStepLemmas.{none_if, some_if}
 use Rattle.mine_apriori.proofs.frequent.add_frequent.Goals as goal
 use Rattle.mine_apriori.proofs.frequent.add_frequent.Goals.{After-len, After-add_extensions-arg-1, then-not-is_empty+in_ok-level, else-not-is_empty}

@@ -1,7 +1,7 @@
 use Rattle.std.proofs.Common.{◌≡◌, ◌++◌, drop, filter, map, take}
 use Rattle.basket_sets.specs.Frequent.{is_frequent}
 use Rattle.basket_sets.specs.Support.{support_of}
-use Rattle.mine_apriori.specs.Extensions.{kept, sets_of}
+use Rattle.mine_supports.specs.Extensions.{kept, sets_of}
 use Rattle.mine_apriori.specs.Levels.{decoded_sets}
 use Rattle.mine_apriori.proofs.frequent.add_frequent.Given as goal
 

@@ -1,9 +1,9 @@
 use Rattle.std.proofs.Common.{◌≡◌, ◌<◌, ◌≤◌, ◌++◌, filter, get_or, length, suc, subst, sym, ap, ◌∙◌, arith}
 use Rattle.std.proofs.lemmas.List.{take_all}
 use Rattle.basket_sets.specs.Itemset.{IsRising}
-use Rattle.mine_apriori.specs.Extensions.{AreGrouped, has_items, sets_of}
+use Rattle.mine_supports.specs.Extensions.{AreGrouped, has_items, sets_of}
 use Rattle.mine_apriori.specs.Join.{AreParts, joined_group, joined_groups}
-use Rattle.mine_apriori.proofs.ExtensionLemmas.{groups_long, items_read, no_group, prefix_read}
+use Rattle.mine_supports.proofs.theory.Extensions.{groups_long, items_read, no_group, prefix_read}
 use Rattle.mine_apriori.proofs.JoinedLemmas.{candidates_grouped}
 use Rattle.mine_apriori.proofs.JoinStepLemmas.{group_more, group_parts, level_candidates}
 use Rattle.mine_apriori.proofs.join.candidates.Goals as goal

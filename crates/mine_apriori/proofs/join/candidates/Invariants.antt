@@ -1,5 +1,5 @@
 use Rattle.std.proofs.Common.{◌≡◌, take}
-use Rattle.mine_apriori.specs.Extensions.{sets_of}
+use Rattle.mine_supports.specs.Extensions.{sets_of}
 use Rattle.mine_apriori.specs.Join.{joined_groups}
 use Rattle.mine_apriori.proofs.join.candidates.Given as goal
 

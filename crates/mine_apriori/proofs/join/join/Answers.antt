@@ -2,7 +2,7 @@ use Rattle.std.proofs.Common.{◌≡◌, ◌+◌, ◌-◌, ◌∷◌, ◌++◌, 
 use Rattle.std.proofs.lemmas.List.{take_rest}
 use Rattle.basket_sets.specs.Itemset.{IsRising}
 use Rattle.basket_sets.proofs.theory.Ranges.{filter_rises}
-use Rattle.mine_apriori.specs.Extensions.{has_items, is_some, sets_of}
+use Rattle.mine_supports.specs.Extensions.{has_items, is_some, sets_of}
 use Rattle.mine_apriori.specs.Join.{has_parts, joined_group}
 use Rattle.mine_apriori.proofs.CandidateLemmas.{length_after}
 use Rattle.mine_apriori.proofs.IntersectionLemmas.{drop_rises}

@@ -1,5 +1,5 @@
 use Rattle.std.proofs.Common.{◌≡◌, ◌++◌, drop, filter, length, suc}
-use Rattle.mine_apriori.specs.Extensions.{has_items, sets_of}
+use Rattle.mine_supports.specs.Extensions.{has_items, sets_of}
 use Rattle.mine_apriori.specs.Join.{joined_group}
 use Rattle.mine_apriori.proofs.join.join.Given as goal
 

@@ -1,7 +1,7 @@
 use Rattle.std.proofs.Common.{subst, sym}
 use Rattle.basket_sets.specs.Itemset.{IsRising}
 use Rattle.basket_sets.proofs.theory.Ranges.{filter_rises}
-use Rattle.mine_apriori.specs.Extensions.{sets_of}
+use Rattle.mine_supports.specs.Extensions.{sets_of}
 use Rattle.mine_apriori.specs.Join.{has_parts}
 use Rattle.mine_apriori.proofs.JoinStepLemmas.{parts_more, parts_none}
 use Rattle.mine_apriori.proofs.join.keep_extensions.Goals as goal

@@ -1,5 +1,5 @@
 use Rattle.std.proofs.Common.{◌≡◌, filter}
-use Rattle.mine_apriori.specs.Extensions.{sets_of}
+use Rattle.mine_supports.specs.Extensions.{sets_of}
 use Rattle.mine_apriori.specs.Join.{has_parts}
 use Rattle.mine_apriori.proofs.join.keep_extensions.Given as goal
 

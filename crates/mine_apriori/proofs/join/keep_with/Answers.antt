@@ -3,8 +3,8 @@ use Rattle.std.proofs.lemmas.List.{get_or_default}
 use Rattle.basket_sets.specs.Itemset.{has, without}
 use Rattle.basket_sets.proofs.theory.Without.{around_is}
 use Rattle.mine_apriori.specs.Candidates.{is_one_of}
-use Rattle.mine_apriori.specs.Extensions.{lists_of, prefixes_of}
-use Rattle.mine_apriori.proofs.ExtensionLemmas.{groups_long, lists_long}
+use Rattle.mine_supports.specs.Extensions.{lists_of, prefixes_of}
+use Rattle.mine_supports.proofs.theory.Extensions.{groups_long, lists_long}
 use Rattle.mine_apriori.proofs.JoinStepLemmas.{kept_found, kept_missing}
 use Rattle.mine_apriori.proofs.join.keep_with.Goals as goal
 use Rattle.mine_apriori.proofs.join.keep_with.Goals.{in-Ok+in_ok-push_shared-in-Ok, in-Err}

@@ -2,9 +2,9 @@ use Rattle.std.proofs.Common.{◌≡◌, ◌<◌, ◌+◌, ◌++◌, ◌∷◌, 
 use Rattle.std.proofs.lemmas.List.{get_or-map, length-map, length_push, map-append, take_more}
 use Rattle.basket_sets.specs.Itemset.{IsRising}
 use Rattle.basket_sets.proofs.theory.Rising.{nil_rises}
-use Rattle.mine_apriori.specs.Extensions.{AreGrouped, extend, sets_of}
+use Rattle.mine_supports.specs.Extensions.{AreGrouped, extend, sets_of}
 use Rattle.mine_apriori.specs.declared.pairs.Pair.{Pair}
-use Rattle.mine_apriori.proofs.ExtensionLemmas.{item_more, sets_push}
+use Rattle.mine_supports.proofs.theory.Extensions.{item_more, sets_push}
 use Rattle.mine_apriori.proofs.LesserLemmas.{AreFirsts, firsts_grouped, firsts_more, greater_rises, lesser_rises, none_first, parts, single_rises}
 use Rattle.mine_apriori.proofs.pairs.pair_sets.Goals as goal
 use Rattle.mine_apriori.proofs.pairs.pair_sets.Goals.{then-first-lesser+in_ok-found, else-first-lesser}

@@ -1,6 +1,6 @@
 use Rattle.std.proofs.Common.{◌≡◌, ◌++◌, ◌∷◌, [], map, take}
 use Rattle.basket_sets.specs.Itemset.{IsRising}
-use Rattle.mine_apriori.specs.Extensions.{extend, sets_of}
+use Rattle.mine_supports.specs.Extensions.{extend, sets_of}
 use Rattle.mine_apriori.proofs.LesserLemmas.{AreFirsts}
 use Rattle.mine_apriori.proofs.pairs.pair_sets.Given as goal
 

@@ -1,4 +1,4 @@
-use Rattle.mine_classes.proofs.ConditionalLemmas as lemmas
+use Rattle.mine_classes.proofs.theory.Conditional as lemmas
 use Rattle.mine_classes.proofs.laws.conditional_supports.Goals as goal
 
 pub returns : goal.returns

@@ -3,7 +3,7 @@ use Rattle.std.proofs.lemmas.List.{get_or-map, get_or_default, length-map}
 use Rattle.std.proofs.lemmas.List.Edits.{map_over_more}
 use Rattle.basket_sets.specs.Counts.{AllBelow}
 use Rattle.basket_sets.proofs.theory.Tests.{all_below_at}
-use Rattle.mine_classes.specs.Pairs.{named_pair}
+use Rattle.mine_pairs.specs.Pairs.{named_pair}
 use Rattle.mine_fp.proofs.NodeLemmas.{rest_at}
 use Rattle.mine_fp.proofs.pattern_base.rename.Goals as goal
 

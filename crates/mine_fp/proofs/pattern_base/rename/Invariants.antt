@@ -1,5 +1,5 @@
 use Rattle.std.proofs.Common.{◌≡◌, ◌++◌, ℕ, drop, map, take}
-use Rattle.mine_classes.specs.Pairs.{named_pair}
+use Rattle.mine_pairs.specs.Pairs.{named_pair}
 use Rattle.mine_fp.proofs.pattern_base.rename.Given as goal
 
 -- the pairs before the place have the items, the others are as they were

@@ -4,16 +4,16 @@ use Rattle.std.specs.Global.{Global}
 use Rattle.std.proofs.lemmas.List.Elements.{All-same}
 use Rattle.std.proofs.lemmas.Result.{err_from_is_err_and}
 use Rattle.basket_ranks.specs.Codes.{Coding, IsCoding, frequent_of_coding}
-use Rattle.basket_core.specs.declared.fault.MineFault.TheVariants.{TooMany}
+use Rattle.mine_limit.specs.declared.fault.MineFault.TheVariants.{TooMany}
 use Rattle.basket_sets.specs.declared.counted.Counted.{Counted}
 use Rattle.mine_round.specs.Lawful.{once_below}
 use Rattle.mine_round.specs.SeatView.{SeatView}
-use Rattle.mine_phases.specs.declared.worker_result.WorkerResult.{WorkerResult}
+use Rattle.mine_pieces.specs.declared.worker_result.WorkerResult.{WorkerResult}
 use Rattle.mine_phases.specs.Classes.{IsClassShare, IsMined, ToldAll, claimed_size, ranks_of}
-use Rattle.mine_phases.specs.Pieces.{HasEach}
-use Rattle.mine_phases.specs.WorkerResult.{fault_of}
-use Rattle.mine_phases.proofs.theory.Seats.{all_own, each_seat}
-use Rattle.mine_phases.proofs.Shares.{all_claimed, have_each, hold_numbers}
+use Rattle.mine_pieces.specs.Pieces.{HasEach}
+use Rattle.mine_pieces.specs.WorkerResult.{fault_of}
+use Rattle.mine_pieces.proofs.theory.Seats.{all_own, each_seat}
+use Rattle.mine_pieces.proofs.theory.Shares.{all_claimed, have_each, hold_numbers}
 use Rattle.mine_phases.proofs.Sharing.{no_more_than_limit, ranks_once, too_many_are}
 use Rattle.mine_phases.proofs.classes.mined_classes.Goals as goal
 

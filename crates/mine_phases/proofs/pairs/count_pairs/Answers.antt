@@ -1,6 +1,6 @@
 use Rattle.std.proofs.lemmas.Result.{IfOk-weaker}
-use Rattle.mine_classes.specs.Pairs.{pairs_of}
-use Rattle.mine_phases.proofs.Parts.{entries_by_part}
+use Rattle.mine_pairs.specs.Pairs.{pairs_of}
+use Rattle.mine_pieces.proofs.theory.Parts.{entries_by_part}
 use Rattle.mine_phases.proofs.pairs.count_pairs.Goals as goal
 
 pub returns : goal.returns

@@ -2,9 +2,9 @@ use Rattle.std.proofs.Common.{◌≡◌, ◌+◌, ◌++◌, ◌∷◌, [], List,
 use Rattle.std.specs.List.{flat_map, range_with_len}
 use Rattle.std.proofs.lemmas.List.{length-append}
 use Rattle.std.proofs.lemmas.List.Concat.{flat_map-append}
-use Rattle.mine_classes.specs.declared.rank_range.RankRange.{RankRange}
-use Rattle.mine_classes.specs.Triangle.{ranks_in}
-use Rattle.mine_phases.proofs.Numbers.{range_split}
+use Rattle.mine_pairs.specs.declared.rank_range.RankRange.{RankRange}
+use Rattle.mine_pairs.specs.Triangle.{ranks_in}
+use Rattle.mine_pieces.proofs.theory.Numbers.{range_split}
 use Rattle.mine_phases.proofs.ranges.cut.Goals as goal
 use Rattle.mine_phases.proofs.ranges.cut.Goals.{then-sum-share+in_ok-push, else-sum-share+else-rank-steps}
 

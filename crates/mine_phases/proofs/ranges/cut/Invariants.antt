@@ -1,6 +1,6 @@
 use Rattle.std.proofs.Common.{◌≡◌, ◌≤◌, length}
 use Rattle.std.specs.List.{flat_map, range_with_len}
-use Rattle.mine_classes.specs.Triangle.{ranks_in}
+use Rattle.mine_pairs.specs.Triangle.{ranks_in}
 use Rattle.mine_phases.proofs.ranges.cut.Given as goal
 
 abbrev pub invariant-loop-rank : goal.invariant-loop-rank

@@ -8,11 +8,11 @@ use Rattle.std.proofs.lemmas.Result.{IfOk-weaker}
 use Rattle.basket_sets.specs.declared.weighted.Weighted.{Weighted}
 use Rattle.mine_baskets.specs.declared.span.Span.{Span}
 use Rattle.mine_baskets.specs.Span.{baskets_at}
-use Rattle.mine_classes.specs.declared.rank_range.RankRange.{RankRange}
-use Rattle.mine_classes.specs.Runs.{AreRunsOf, HaveRunsFrom, lists_in}
-use Rattle.mine_classes.specs.Triangle.{ranks_in}
-use Rattle.mine_phases.specs.Pieces.{HasEach}
-use Rattle.mine_phases.proofs.Parts.{map_flat}
+use Rattle.mine_pairs.specs.declared.rank_range.RankRange.{RankRange}
+use Rattle.mine_pairs.specs.Runs.{AreRunsOf, HaveRunsFrom, lists_in}
+use Rattle.mine_pairs.specs.Triangle.{ranks_in}
+use Rattle.mine_pieces.specs.Pieces.{HasEach}
+use Rattle.mine_pieces.proofs.theory.Parts.{map_flat}
 use Rattle.mine_phases.proofs.RunLemmas.{AreOf, are_at, are_joined, length-are}
 use Rattle.mine_phases.proofs.runs.runs_by_ranges.Goals as goal
 

@@ -8,12 +8,12 @@ use Rattle.std.proofs.lemmas.List.Folds.{flat_map-map}
 use Rattle.std.proofs.lemmas.List.FromFn.{fill_by_all}
 use Rattle.std.proofs.lemmas.Result.{IfOk-weaker}
 use Rattle.basket_sets.specs.declared.weighted.Weighted.{Weighted}
-use Rattle.mine_classes.specs.declared.rank_range.RankRange.{RankRange}
-use Rattle.mine_classes.specs.Pairs.{ArePairs, lists_of, pairs_by_greater, pairs_of}
-use Rattle.mine_classes.specs.Triangle.{pairs_in_range, ranks_in}
-use Rattle.mine_classes.proofs.theory.Pairs.{same_pairs}
-use Rattle.mine_phases.specs.Pieces.{HasEach}
-use Rattle.mine_phases.proofs.Parts.{entries_by_part, map_flat}
+use Rattle.mine_pairs.specs.declared.rank_range.RankRange.{RankRange}
+use Rattle.mine_pairs.specs.Pairs.{ArePairs, lists_of, pairs_by_greater, pairs_of}
+use Rattle.mine_pairs.specs.Triangle.{pairs_in_range, ranks_in}
+use Rattle.mine_pairs.proofs.theory.Pairs.{same_pairs}
+use Rattle.mine_pieces.specs.Pieces.{HasEach}
+use Rattle.mine_pieces.proofs.theory.Parts.{entries_by_part, map_flat}
 use Rattle.mine_phases.proofs.triangle.triangle_pairs.Goals as goal
 
 -- the pairs of the ranges, one after another, are those of all ranks

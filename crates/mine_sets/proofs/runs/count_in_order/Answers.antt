@@ -1,6 +1,6 @@
 use Rattle.std.proofs.Common.{◌≡◌, ◌≤◌, ◌+◌, [], length, map, take, sym, ap, ◌∙◌, subst, arith}
 use Rattle.basket_sets.specs.Support.{support_of}
-use Rattle.mine_apriori.specs.Sizes.{AreOfSize}
+use Rattle.mine_supports.specs.Sizes.{AreOfSize}
 use Rattle.mine_sets.proofs.RunLemmas.{run_sized, some_items, one_more, run_more}
 use Rattle.mine_sets.proofs.runs.count_in_order.Goals as goal
 

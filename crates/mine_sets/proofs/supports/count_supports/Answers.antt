@@ -3,7 +3,7 @@ use Rattle.std.specs.Prelude.{IfOk}
 use Rattle.basket_sets.specs.Support.{support_of}
 use Rattle.mine_round.specs.Record.{unused}
 use Rattle.mine_round.specs.SeatView.{SeatView}
-use Rattle.mine_phases.proofs.theory.Seats.{all_own}
+use Rattle.mine_pieces.proofs.theory.Seats.{all_own}
 use Rattle.mine_sets.proofs.SupportLemmas.{shares_are_supports}
 use Rattle.mine_sets.proofs.supports.count_supports.Goals as goal
 use Rattle.mine_sets.proofs.supports.count_supports.Goals.{in-Ok-ended, in-Err}

@@ -8,7 +8,7 @@ use Rattle.basket_sets.specs.Support.{support_of}
 use Rattle.mine_baskets.specs.ListBaskets.{RankBaskets, weight_where}
 use Rattle.mine_baskets.specs.Words.{word_places}
 use Rattle.mine_baskets.proofs.theory.Weights.{changed_weight}
-use Rattle.mine_classes.proofs.theory.Kept.{coding_of}
+use Rattle.mine_pairs.proofs.theory.Kept.{coding_of}
 use Rattle.mine_vertical.specs.Remade.{AreBitsOf, bit_places}
 use Rattle.mine_vertical.specs.Siblings.{AreOver}
 use Rattle.mine_vertical.proofs.PlacesLemmas.{nothing_in, supports_are}

@@ -6,8 +6,8 @@ use Rattle.basket_sets.specs.declared.minimum.Minimum.TheVariants.{Count}
 use Rattle.basket_sets.specs.Itemset.{contains}
 use Rattle.basket_sets.specs.Support.{support_of}
 use Rattle.mine_classes.specs.Conditional.{conditional}
-use Rattle.mine_classes.specs.Pairs.{kept_ranks, pairs_of}
-use Rattle.mine_classes.proofs.theory.Kept.{conditional_coding, pair_ranks}
+use Rattle.mine_pairs.specs.Pairs.{kept_ranks, pairs_of}
+use Rattle.mine_pairs.proofs.theory.Kept.{conditional_coding, pair_ranks}
 use Rattle.mine_vertical.specs.Siblings.{AreOver}
 use Rattle.mine_vertical.proofs.siblings.class_siblings.Goals as goal
 

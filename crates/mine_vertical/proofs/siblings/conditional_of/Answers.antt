@@ -1,7 +1,7 @@
 use Rattle.std.proofs.Common.{◌∙◌}
 use Rattle.mine_baskets.proofs.theory.Weights.{decoded_weights}
-use Rattle.mine_classes.specs.Conditional.{conditional_baskets}
-use Rattle.mine_classes.specs.Pairs.{kept_ranks}
+use Rattle.mine_conditional.specs.Conditional.{conditional_baskets}
+use Rattle.mine_pairs.specs.Pairs.{kept_ranks}
 use Rattle.mine_vertical.proofs.siblings.conditional_of.Goals as goal
 
 pub returns-clause-merged : goal.returns-clause-merged

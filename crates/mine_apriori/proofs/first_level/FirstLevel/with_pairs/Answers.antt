@@ -8,11 +8,11 @@ use Rattle.basket_ranks.specs.Codes.{decoded_set}
 use Rattle.basket_sets.specs.Frequent.{counted, is_frequent}
 use Rattle.basket_sets.specs.Itemset.{IsRising}
 use Rattle.basket_sets.specs.Support.{support_of}
-use Rattle.mine_apriori.specs.Extensions.{AreGrouped, sets_of}
+use Rattle.mine_supports.specs.Extensions.{AreGrouped, sets_of}
 use Rattle.mine_apriori.specs.Levels.{level_of, levels_up_to}
-use Rattle.mine_apriori.specs.Sizes.{AreOfSize}
+use Rattle.mine_supports.specs.Sizes.{AreOfSize}
 use Rattle.mine_apriori.specs.declared.pairs.Pair.{Pair}
-use Rattle.mine_apriori.proofs.ExtensionLemmas.{kept_sets}
+use Rattle.mine_supports.proofs.theory.Extensions.{kept_sets}
 use Rattle.mine_apriori.proofs.JoinedLemmas.{kept_grouped}
 use Rattle.mine_apriori.proofs.LevelsLemmas.{found_next, level_again, level_rises, level_sized}
 use Rattle.mine_apriori.proofs.PairLemmas.{pairs_sorted}

@@ -5,9 +5,9 @@ use Rattle.std.proofs.lemmas.Result.{IfOk-weaker}
 use Rattle.basket_sets.specs.Frequent.{is_frequent}
 use Rattle.basket_sets.specs.Itemset.{IsRising}
 use Rattle.basket_sets.specs.Support.{support_of}
-use Rattle.mine_apriori.specs.Extensions.{AreGrouped, sets_of}
+use Rattle.mine_supports.specs.Extensions.{AreGrouped, sets_of}
 use Rattle.mine_apriori.specs.Levels.{asked_of, wanted}
-use Rattle.mine_apriori.proofs.ExtensionLemmas.{kept_sets}
+use Rattle.mine_supports.proofs.theory.Extensions.{kept_sets}
 use Rattle.mine_apriori.proofs.JoinedLemmas.{kept_grouped}
 use Rattle.mine_apriori.proofs.LevelsLemmas.{asked_few, asked_rise, found_next, next_level}
 use Rattle.mine_apriori.proofs.levels.Levels.answer.Goals as goal

@@ -1,6 +1,6 @@
 use Rattle.std.proofs.Common.{◌≡◌, ◌∙◌, ℕ, true, length, map, ap, subst, arith}
 use Rattle.basket_sets.specs.Itemset.{has}
-use Rattle.mine_classes.proofs.theory.Kept.{kept_below, pair_ranks}
+use Rattle.mine_pairs.proofs.theory.Kept.{kept_below, pair_ranks}
 use Rattle.mine_fp.proofs.pattern_base.PatternBase.below.Goals as goal
 
 pub rename-requires : goal.rename-requires

@@ -6,11 +6,11 @@ use Rattle.std.proofs.lemmas.List.Elements.{All-push, All-same}
 use Rattle.std.proofs.lemmas.List.Sums.{sum_by_push}
 use Rattle.std.proofs.lemmas.Result.{err_from_is_err_and}
 use Rattle.basket_ranks.specs.Codes.{Coding}
-use Rattle.basket_core.specs.declared.fault.MineFault.TheVariants.{TooMany}
+use Rattle.mine_limit.specs.declared.fault.MineFault.TheVariants.{TooMany}
 use Rattle.basket_sets.specs.declared.counted.Counted.{Counted}
 use Rattle.mine_classes.specs.Mined.{class_size}
 use Rattle.mine_phases.specs.Classes.{IsMined, claimed_size, rank_from_end}
-use Rattle.mine_phases.specs.WorkerResult.{numbers_of}
+use Rattle.mine_pieces.specs.WorkerResult.{numbers_of}
 use Rattle.mine_phases.proofs.Ranks.{all_ranks, first_ranks, next_rank, ranks_before, ranks_fit}
 use Rattle.mine_phases.proofs.classes.Classes.add_classes.Goals as goal
 

@@ -1,9 +1,9 @@
 use Rattle.std.proofs.Common.{◌≡◌, ◌+◌, ◌-◌, ◌%◌, ◌++◌, false}
 use Rattle.std.specs.List.{sum_by}
 use Rattle.mine_classes.specs.Mined.{class_size}
-use Rattle.mine_classes.specs.Tables.{AreTablesOf}
+use Rattle.mine_conditional.specs.Tables.{AreTablesOf}
 use Rattle.mine_phases.specs.Classes.{AreMined}
-use Rattle.mine_phases.specs.WorkerResult.{numbers_of}
+use Rattle.mine_pieces.specs.WorkerResult.{numbers_of}
 use Rattle.mine_phases.proofs.Ranks.{ranks_before}
 use Rattle.mine_phases.proofs.classes.Classes.add_classes.Given as goal
 

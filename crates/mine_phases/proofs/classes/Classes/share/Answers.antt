@@ -5,12 +5,12 @@ use Rattle.std.proofs.lemmas.List.{append-nil}
 use Rattle.std.proofs.lemmas.List.Concat.{flat_map-append}
 use Rattle.std.proofs.lemmas.List.Sums.{sum_by_push}
 use Rattle.basket_ranks.specs.Codes.{Coding}
-use Rattle.basket_core.specs.declared.fault.MineFault.TheVariants.{TooMany}
+use Rattle.mine_limit.specs.declared.fault.MineFault.TheVariants.{TooMany}
 use Rattle.mine_round.specs.Record.{with_piece}
 use Rattle.mine_round.specs.SeatView.{SeatView}
 use Rattle.mine_phases.specs.Classes.{claimed_size, ranks_of}
 use Rattle.mine_phases.specs.RoundTally.{still}
-use Rattle.mine_phases.proofs.theory.Claims.{after, after-le, after_push}
+use Rattle.mine_pieces.proofs.theory.Claims.{after, after-le, after_push}
 use Rattle.mine_phases.proofs.classes.Classes.share.Goals as goal
 
 -- what a seat has claimed that looked at the counter, claimed a piece and told of it

@@ -1,10 +1,10 @@
 use Rattle.std.proofs.Common.{◌≡◌, ◌≤◌, ◌-◌, slice_index}
 use Rattle.std.specs.List.{flat_map, sum_by}
-use Rattle.mine_classes.specs.Tables.{AreTablesOf}
+use Rattle.mine_conditional.specs.Tables.{AreTablesOf}
 use Rattle.mine_phases.specs.Classes.{AreMined, claimed_size, ranks_of}
 use Rattle.mine_phases.specs.RoundTally.{CountsSets}
-use Rattle.mine_phases.specs.WorkerResult.{numbers_of}
-use Rattle.mine_phases.proofs.theory.Claims.{after}
+use Rattle.mine_pieces.specs.WorkerResult.{numbers_of}
+use Rattle.mine_pieces.proofs.theory.Claims.{after}
 use Rattle.mine_phases.proofs.classes.Classes.share.Given as goal
 
 abbrev pub invariant-loop-alloc : goal.invariant-loop-alloc

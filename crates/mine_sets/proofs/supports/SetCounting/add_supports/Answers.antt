@@ -3,7 +3,7 @@ use Rattle.std.specs.Prelude.{slice_range}
 use Rattle.std.proofs.lemmas.List.{take_at}
 use Rattle.basket_ranks.specs.Shards.{shard_of}
 use Rattle.basket_sets.specs.Support.{support_of, total_of}
-use Rattle.mine_phases.proofs.theory.Claims.{after, after-le, after_push}
+use Rattle.mine_pieces.proofs.theory.Claims.{after, after-le, after_push}
 use Rattle.mine_sets.proofs.SupportLemmas.{HasAdded, added_fits, index_zero, nothing_added, part_added, part_fits}
 use Rattle.mine_sets.proofs.supports.SetCounting.add_supports.Goals as goal
 

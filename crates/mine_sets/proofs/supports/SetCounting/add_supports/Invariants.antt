@@ -1,6 +1,6 @@
 use Rattle.std.proofs.Common.{◌≡◌, ◌≤◌, ◌-◌, length}
 use Rattle.std.specs.Prelude.{replicate}
-use Rattle.mine_phases.proofs.theory.Claims.{after}
+use Rattle.mine_pieces.proofs.theory.Claims.{after}
 use Rattle.mine_sets.proofs.SupportLemmas.{HasAdded}
 use Rattle.mine_sets.proofs.supports.SetCounting.add_supports.Given as goal
 

@@ -1,0 +1,96 @@
+-- From the frequent sets of coded baskets to those of a database.
+use Rattle.std.proofs.Common.{◌≡◌, ◌+◌, ◌^◌, ◌<◌, ℕ, List, [], ◌∷◌, get_or, length, refl, sym, ap, ◌∙◌, subst, arith, suc}
+use Rattle.std.specs.List.{range_with_len, sum, sum_by}
+use Rattle.std.proofs.lemmas.List.Sums.{sum_by-cons}
+use Rattle.basket_sets.specs.declared.minimum.Minimum.{Minimum}
+use Rattle.basket_sets.specs.declared.weighted.Weighted.{Weighted}
+use Rattle.basket_ranks.specs.Codes.{Coding, IsCoding, coding_of, merged_coding, baskets_of, frequent_of_coding, ranks_of}
+use Rattle.basket_ranks.specs.Depth.{HasSetOfSize}
+use Rattle.basket_sets.specs.Frequent.{frequent_of}
+use Rattle.basket_sets.specs.Support.{total_of}
+use Rattle.basket_ranks.proofs.theory.Coding.{coding_keeps_frequent, coded_total, merging_keeps_coded}
+use Rattle.basket_ranks.proofs.theory.Depth.{deep_sets_are_many}
+use Rattle.mine_classes.specs.Mined.{CodedRanksAreFrequent, RanksAreFrequent}
+use Rattle.mine_fp.specs.Trees.{ClassTreesAddUp, class_trees, trees_of}
+use Rattle.mine_phases.specs.Classes.{IsWorkOfAll}
+use Rattle.mine_vertical.specs.Joins.{ClassJoinsAddUp, class_joins, joins_of}
+use Rattle.basket_mining.specs.Classes.{IsJoins, IsTrees}
+use Rattle.basket_mining.specs.Mining.{IsWorkOver}
+use Rattle.basket_mining.specs.declared.mining.Work.{Work}
+use Rattle.basket_core.specs.Listing.{Listing, listing_of}
+use Rattle.mine_limit.specs.declared.fault.MineFault.{MineFault}
+use Rattle.std.specs.Prelude.{IfOk, Ok, Err, Result}
+use Rattle.mine_apriori.specs.Work.{candidate_count, CandidatesBySets}
+
+module _ (database : List Weighted) (minimum : Minimum) (coding : Coding) (made : coding ≡ coding_of database minimum) where
+  pub list_is : frequent_of_coding coding ≡ frequent_of database minimum
+  list_is = ap frequent_of_coding made ∙ coding_keeps_frequent database minimum
+
+  pub total_is : total_of coding.baskets ≡ total_of database
+  total_is = ap (λ c. total_of c.baskets) made ∙ coded_total (ranks_of database minimum) database
+
+  -- a frequent set of enough items settles that there are more sets than the limit
+  pub settled : (size limit : ℕ) → limit + 1 < 2 ^ size → HasSetOfSize (frequent_of_coding coding) size → limit < length (frequent_of database minimum)
+  settled size limit enough h =
+      let many = deep_sets_are_many (baskets_of coding) coding.minimum size h in
+      let same = ap length list_is in
+      omega (arith, many, same, enough)
+
+-- ---- equal baskets merged
+
+pub merged_list : (coding merged : Coding) → merged ≡ merged_coding coding → frequent_of_coding merged ≡ frequent_of_coding coding
+merged_list coding merged is = ap frequent_of_coding is ∙ (merging_keeps_coded coding).0
+
+pub merged_total : (coding merged : Coding) → merged ≡ merged_coding coding → total_of merged.baskets ≡ total_of coding.baskets
+merged_total coding merged is = ap (λ c. total_of c.baskets) is ∙ (merging_keeps_coded coding).1
+
+-- a coding with the frequent sets of another one
+module _ (coding merged : Coding) (list : frequent_of_coding merged ≡ frequent_of_coding coding) (total : total_of merged.baskets ≡ total_of coding.baskets) (least : merged.minimum ≡ coding.minimum) where
+  pub merged_listing : listing_of merged ≡ listing_of coding
+  merged_listing = λ i. record { sets = list i; total = total i }
+
+  -- there are as many candidates
+  pub count_is : CandidatesBySets → (database : List Weighted) (minimum : Minimum) → coding ≡ coding_of database minimum
+      → candidate_count (baskets_of merged) merged.minimum ≡ candidate_count database minimum
+  count_is law database minimum made =
+      let one : merged.minimum ≡ minimum = least ∙ ap (λ c. c.minimum) made in
+      let same = list ∙ list_is database minimum coding made in
+      ap (candidate_count (baskets_of merged)) one
+      ∙ ap length (law (baskets_of merged) database minimum (subst (λ m. frequent_of (baskets_of merged) m ≡ frequent_of database minimum) one same))
+
+-- ---- the work of classes
+
+sum_is : (f : ℕ → ℕ) (first : ℕ) (each : List ℕ) → ((k : ℕ) → k < length each → get_or each k 0 ≡ f (first + k)) → sum each ≡ sum_by f (range_with_len first (length each))
+sum_is f first [] are = refl
+sum_is f first (x ∷ each) are =
+    let head : x ≡ f first = are 0 (omega arith) ∙ ap f (omega arith) in
+    let rest = sum_is f (first + 1) each (λ k below. are (suc k) (omega arith) ∙ ap f (omega arith)) in
+    sum_by-cons (λ n. n) x each ∙ (λ i. head i + rest i) ∙ sym (sum_by-cons f first (range_with_len (first + 1) (length each)))
+
+module _ (database : List Weighted) (minimum : Minimum) (coding : Coding) (made : coding ≡ coding_of database minimum) where
+  pub joins_are : (total : ℕ) → CodedRanksAreFrequent → ClassJoinsAddUp → IsWorkOfAll (IsJoins coding) (length coding.items) total → total ≡ joins_of (coding_of database minimum)
+  joins_are total frequent adds so =
+      let ranks : RanksAreFrequent coding = subst RanksAreFrequent (sym made) (frequent database minimum).0 in
+      so.added
+      ∙ sum_is (class_joins coding) 0 so.each (λ k below. let e : k ≡ 0 + k = omega arith in so.works k (subst (λ n. k < n) so.long below) ranks ∙ ap (class_joins coding) e)
+      ∙ ap (λ n. sum_by (class_joins coding) (range_with_len 0 n)) so.long
+      ∙ adds coding ∙ ap joins_of made
+
+  pub trees_are : (total : ℕ) → IsCoding coding → ClassTreesAddUp → IsWorkOfAll (IsTrees coding) (length coding.items) total → total ≡ trees_of (coding_of database minimum)
+  trees_are total is adds so =
+      so.added
+      ∙ sum_is (class_trees coding) 0 so.each (λ k below. let e : k ≡ 0 + k = omega arith in so.works k (subst (λ n. k < n) so.long below) ∙ ap (class_trees coding) e)
+      ∙ ap (λ n. sum_by (class_trees coding) (range_with_len 0 n)) so.long ∙ adds coding is ∙ ap trees_of made
+
+  -- what is answered for the coding is answered for the database
+  pub sets_are : (result : Result (Listing × Work) MineFault) → IfOk result (λ mined. mined.0 ≡ listing_of coding) → IfOk result (λ mined. mined.0.sets ≡ frequent_of database minimum)
+  sets_are (Ok mined) is = ap (λ f. f.sets) is ∙ list_is database minimum coding made
+  sets_are (Err fault) is = is
+
+  pub totals_are : (result : Result (Listing × Work) MineFault) → IfOk result (λ mined. mined.0 ≡ listing_of coding) → IfOk result (λ mined. mined.0.total ≡ total_of database)
+  totals_are (Ok mined) is = ap (λ f. f.total) is ∙ total_is database minimum coding made
+  totals_are (Err fault) is = is
+
+  pub work_is : (such : List Weighted → Minimum → Work) (result : Result (Listing × Work) MineFault) → IfOk result (λ mined. IsWorkOver coding such mined.1) → IfOk result (λ mined. mined.1 ≡ such database minimum)
+  work_is such (Ok mined) is = is database minimum made
+  work_is such (Err fault) is = is

@@ -1,0 +1,2 @@
+pub mod Classes
+pub mod Mining

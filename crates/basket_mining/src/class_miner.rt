@@ -1,0 +1,54 @@
+//! The miners that mine class by class.
+ghost use Rattle.basket_mining.specs.Classes.{IsJoins, IsTrees};
+
+use basket_core::CountedSets;
+use mine_conditional::Tables;
+use mine_fp::{Forest, fp_class_with};
+use mine_limit::{MineFault, Tally};
+use mine_phases::ClassMiner;
+use mine_vertical::{Row, Vertical, eclat_class_with};
+use std::alloc::Global;
+use std::marker::PhantomData;
+
+/// Eclat over rows of one type (Zaki 2000; Zaki and Gouda 2003).
+#[derive(Debug, Drop)]
+pub struct EclatMiner<'a, R> {
+    pub vertical: Vertical<'a>,
+    pub rows: PhantomData<R>,
+}
+
+impl<R: Row> ClassMiner for EclatMiner<'_, R> {
+    ghost coding_of = { λ miner. miner.vertical };
+
+    ghost is_work = { λ miner. IsJoins miner.vertical };
+
+    fn class<T: Tally>(
+        &self,
+        alloc: Global,
+        tables: &mut Tables,
+        rank: u32,
+        tally: &mut T,
+    ) -> Result<(CountedSets, u64), MineFault> {
+        eclat_class_with::<R, T>(alloc, &self.vertical, tables, rank, tally)
+    }
+}
+
+/// FP-growth (Han, Pei and Yin 2000).
+#[derive(Debug, Drop)]
+pub struct FpGrowthMiner<'a>(pub Forest<'a>);
+
+impl ClassMiner for FpGrowthMiner<'_> {
+    ghost coding_of = { λ miner. miner.0 };
+
+    ghost is_work = { λ miner. IsTrees miner.0 };
+
+    fn class<T: Tally>(
+        &self,
+        alloc: Global,
+        tables: &mut Tables,
+        rank: u32,
+        tally: &mut T,
+    ) -> Result<(CountedSets, u64), MineFault> {
+        fp_class_with(alloc, &self.0, tables, rank, tally)
+    }
+}

@@ -1,0 +1,2 @@
+mod ContentsLemmas
+mod GapLemmas

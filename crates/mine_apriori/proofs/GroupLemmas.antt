@@ -1,0 +1,108 @@
+-- Extensions in order of their prefixes, and the look-up of a set among them.
+use Rattle.std.proofs.Common.{◌≡◌, ◌≢◌, ℕ, zero, suc, ◌+◌, ◌<◌, ◌||◌, Bool, true, false, List, [], ◌∷◌, ◌++◌, length, filter, map, get_or, cond, take, append-nil, append_assoc, refl, Some, None, ◌-◌, sym, ap, ◌∙◌, subst, inl, inr, arith}
+use Rattle.std.specs.Cmp.Lexicographic.{slice_cmp, nat_list_cmp_total}
+use Rattle.std.specs.List.Sorted.{IsStrictlySortedBy}
+use Rattle.std.specs.Ordering.{nat_cmp}
+use Rattle.std.specs.declared.cmp.Ordering.TheVariants.{Less}
+use Rattle.std.proofs.lemmas.Bool.{cases_Bool}
+use Rattle.std.proofs.lemmas.Grind.{flat_map-append}
+use Rattle.std.specs.List.{slice_get}
+use Rattle.std.proofs.lemmas.List.{get_or-map, length-append, length-map, map-append, take_more}
+use Rattle.std.proofs.lemmas.List.Elements.{filter-append}
+use Rattle.std.proofs.lemmas.List.Folds.{list_any-append}
+use Rattle.basket_sets.specs.Itemset.{IsRising, has}
+use Rattle.basket_sets.proofs.theory.Items.{filter-map}
+use Rattle.basket_sets.proofs.theory.Members.{Member, Member-filter, Member-map, Member-from_map, All-from_Member, first_is_less, rest_is_sorted, not_both_less}
+use Rattle.basket_sets.proofs.theory.Rising.{Member-from_has, cons_rises, first_below, has-from_Member, nil_rises, rest_rises, same_test}
+use Rattle.mine_apriori.specs.Candidates.{is_one_of}
+use Rattle.mine_supports.specs.Extensions.{Group, groups_of, prefixes_of, lists_of, extend, sets_of, has_items, is_some}
+use Rattle.mine_apriori.proofs.PruneLemmas.{Member-from_is_one_of, is_one_of-from_Member}
+
+-- ---- prefixes in order
+
+pub filter_prefix : (p : Group → Bool) (groups : List Group) (prefix : List ℕ) → Member prefix (prefixes_of (filter p groups)) → Member prefix (prefixes_of groups)
+filter_prefix p groups prefix m =
+    let g = Member-from_map (λ (group : Group). group.prefix) prefix (filter p groups) m in
+    subst (λ s. Member s (prefixes_of groups)) g.2 (Member-map (λ (group : Group). group.prefix) g.0 groups (Member-filter p g.0 groups g.1).0)
+
+sorted_step : (first : Group) (rest : List Group) (b : Bool) → ((prefix : List ℕ) → Member prefix (prefixes_of rest) → slice_cmp nat_cmp first.prefix prefix ≡ Less)
+    → IsStrictlySortedBy (slice_cmp nat_cmp) (prefixes_of rest) → IsStrictlySortedBy (slice_cmp nat_cmp) (prefixes_of (cond b (first ∷ rest) rest))
+unfolding IsStrictlySortedBy
+sorted_step first rest false less up = up
+sorted_step first rest true less up = (All-from_Member (λ z. slice_cmp nat_cmp first.prefix z ≡ Less) (prefixes_of rest) less, up)
+
+pub filter_sorted : (p : Group → Bool) (groups : List Group) → IsStrictlySortedBy (slice_cmp nat_cmp) (prefixes_of groups) → IsStrictlySortedBy (slice_cmp nat_cmp) (prefixes_of (filter p groups))
+filter_sorted p [] up = up
+filter_sorted p (first ∷ groups) up =
+    sorted_step first (filter p groups) (p first)
+    (λ prefix m. first_is_less nat_list_cmp_total first.prefix prefix (prefixes_of groups) up (filter_prefix p groups prefix m))
+    (filter_sorted p groups (rest_is_sorted nat_list_cmp_total first.prefix (prefixes_of groups) up))
+
+-- no later prefix is the first
+pub other_prefix : (first : List ℕ) (others : List (List ℕ)) (other : List ℕ) → IsStrictlySortedBy (slice_cmp nat_cmp) (first ∷ others) → Member other others → other ≢ first
+other_prefix first others other up m e =
+    let less = first_is_less nat_list_cmp_total first other others up m in
+    let itself = subst (λ s. slice_cmp nat_cmp first s ≡ Less) e less in
+    not_both_less nat_list_cmp_total first first itself itself
+
+-- ---- a set is looked up
+
+pub last_same : (a b : List ℕ) (x y : ℕ) → a ++ x ∷ [] ≡ b ++ y ∷ [] → (a ≡ b) × (x ≡ y)
+last_same [] [] x y e = (refl, ap (λ l. get_or l 0 0) e)
+last_same [] (v ∷ b) x y e = absurd (let n = ap length e in let m = length-append b (y ∷ []) in omega (arith, n, m))
+last_same (u ∷ a) [] x y e = absurd (let n = ap length e in let m = length-append a (x ∷ []) in omega (arith, n, m))
+last_same (u ∷ a) (v ∷ b) x y e =
+    let first : u ≡ v = ap (λ l. get_or l 0 0) e in
+    let rest = last_same a b x y (ap tail e) in
+    ((λ i. first i ∷ rest.0 i), rest.1)
+  where
+    tail : List ℕ → List ℕ
+    tail [] = []
+    tail (z ∷ l) = l
+
+-- among the sets of a prefix
+pub among : (prefix items : List ℕ) (item : ℕ) → is_one_of (extend prefix items) (prefix ++ item ∷ []) ≡ has items item
+among prefix items item = same_test (is_one_of (extend prefix items) (prefix ++ item ∷ [])) (has items item)
+    (λ h. let m = Member-from_map (λ x. prefix ++ x ∷ []) (prefix ++ item ∷ []) items (Member-from_is_one_of (extend prefix items) (prefix ++ item ∷ []) h) in
+    has-from_Member items item (subst (λ x. Member x items) (last_same prefix prefix m.0 item m.2).1 m.1))
+    (λ h. is_one_of-from_Member (extend prefix items) (prefix ++ item ∷ []) (Member-map (λ x. prefix ++ x ∷ []) item items (Member-from_has items item h)))
+
+not_among : (prefix items other : List ℕ) (item : ℕ) → prefix ≢ other → is_one_of (extend prefix items) (other ++ item ∷ []) ≡ false
+not_among prefix items other item differ = elim (cases_Bool (is_one_of (extend prefix items) (other ++ item ∷ []))) [
+  | inl e ↦ absurd (let m = Member-from_map (λ x. prefix ++ x ∷ []) (other ++ item ∷ []) items (Member-from_is_one_of (extend prefix items) (other ++ item ∷ []) e) in
+      differ (last_same prefix other m.0 item m.2).0)
+  | inr e ↦ e
+]
+
+pub missing : (groups : List Group) (prefix : List ℕ) (item : ℕ) → ((other : List ℕ) → Member other (prefixes_of groups) → other ≢ prefix) → is_one_of (sets_of groups) (prefix ++ item ∷ []) ≡ false
+missing [] prefix item none = refl
+missing (group ∷ groups) prefix item none =
+    list_any-append _ (extend group.prefix group.items) (sets_of groups)
+    ∙ (λ i. not_among group.prefix group.items prefix item (none group.prefix (inl refl)) i || missing groups prefix item (λ other m. none other (inr m)) i)
+
+pub looked_up : (groups : List Group) (at : ℕ) (prefix : List ℕ) (item : ℕ) → IsStrictlySortedBy (slice_cmp nat_cmp) (prefixes_of groups) → at < length groups → get_or (prefixes_of groups) at [] ≡ prefix
+    → is_one_of (sets_of groups) (prefix ++ item ∷ []) ≡ has (get_or (lists_of groups) at []) item
+looked_up [] at prefix item up below is = absurd (omega arith)
+looked_up (group ∷ groups) zero prefix item up below is =
+    list_any-append _ (extend group.prefix group.items) (sets_of groups)
+    ∙ (λ i. here i || missing groups prefix item (λ other m e. other_prefix group.prefix (prefixes_of groups) other up m (e ∙ sym is)) i)
+    ∙ or_false (has group.items item)
+  where
+    here : is_one_of (extend group.prefix group.items) (prefix ++ item ∷ []) ≡ has group.items item
+    here = ap (λ s. is_one_of (extend group.prefix group.items) (s ++ item ∷ [])) (sym is) ∙ among group.prefix group.items item
+
+    or_false : (b : Bool) → (b || false) ≡ b
+    or_false true = refl
+    or_false false = refl
+looked_up (group ∷ groups) (suc at) prefix item up below is =
+    list_any-append _ (extend group.prefix group.items) (sets_of groups)
+    ∙ (λ i. not_among group.prefix group.items prefix item (λ e. other_prefix group.prefix (prefixes_of groups) prefix up there (sym e)) i
+    || looked_up groups at prefix item (rest_is_sorted nat_list_cmp_total group.prefix (prefixes_of groups) up) (omega arith) is i)
+  where
+    at_place : (list : List (List ℕ)) (k : ℕ) → k < length list → Member (get_or list k []) list
+    at_place [] k h = absurd (omega arith)
+    at_place (x ∷ list) zero h = inl refl
+    at_place (x ∷ list) (suc k) h = inr (at_place list k (omega arith))
+
+    there : Member prefix (prefixes_of groups)
+    there = subst (λ s. Member s (prefixes_of groups)) is (at_place (prefixes_of groups) at (let n = length-map groups (λ (g : Group). g.prefix) in omega (arith, n, below)))

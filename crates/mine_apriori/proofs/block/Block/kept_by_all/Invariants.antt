@@ -1,7 +1,0 @@
-use Rattle.std.proofs.Common.{◌++◌, ℕ, List, take}
-use Rattle.mine_apriori.specs.BlockCounts.{placed}
-use Rattle.mine_apriori.specs.TidWord.{ArePlacesOf}
-use Rattle.mine_apriori.proofs.block.Block.kept_by_all.Given as goal
-
-abbrev pub invariant-loop-item : goal.invariant-loop-item
-invariant-loop-item l = (set : List ℕ) → ArePlacesOf (placed l.self) set l.places → ArePlacesOf (placed l.self) (set ++ take l.item-index l.items) l.shared.items

@@ -1,7 +1,0 @@
-use Rattle.std.proofs.Common.{take}
-use Rattle.mine_apriori.specs.Extensions.{sets_of}
-use Rattle.mine_apriori.specs.Needed.{AreAtLeast}
-use Rattle.mine_apriori.proofs.extensions.Extensions.least_items.Given as goal
-
-abbrev pub invariant-loop-number : goal.invariant-loop-number
-invariant-loop-number l = AreAtLeast l.least (sets_of (take l.number l.self))

@@ -1,8 +1,0 @@
-use Rattle.std.specs.Prelude.{List}
-use Rattle.basket_sets.specs.declared.weighted.Weighted.{Weighted}
-use Rattle.mine_apriori.specs.declared.block.Block.{Block}
-use Rattle.mine_apriori.specs.Needed.{needed}
-
--- the baskets of a block that have a place
-abbrev pub placed : Block → List Weighted
-placed block = needed block.used.now block.least block.baskets.now

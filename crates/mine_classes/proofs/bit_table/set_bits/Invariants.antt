@@ -1,5 +1,0 @@
-use Rattle.mine_classes.proofs.BitLemmas.{HasBits}
-use Rattle.mine_classes.proofs.bit_table.set_bits.Given as goal
-
-abbrev pub invariant-loop-at : goal.invariant-loop-at
-invariant-loop-at l = HasBits l.kept l.at l.of

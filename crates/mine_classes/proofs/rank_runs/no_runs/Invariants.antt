@@ -1,7 +1,0 @@
-use Rattle.std.proofs.Common.{◌≡◌, []}
-use Rattle.std.specs.Prelude.{replicate}
-use Rattle.mine_classes.specs.Runs.{lists_in}
-use Rattle.mine_classes.proofs.rank_runs.no_runs.Given as goal
-
-abbrev pub invariant-loop-rank : goal.invariant-loop-rank
-invariant-loop-rank l = lists_in l.of.items ≡ replicate l._rank []

@@ -1,8 +1,0 @@
-use Rattle.std.proofs.Common.{◌≡◌, ℕ, take}
-use Rattle.std.specs.List.{list_any}
-use Rattle.mine_baskets.specs.Words.{has_rank}
-use Rattle.mine_classes.specs.Shift.{shifted}
-use Rattle.mine_classes.proofs.shift.shift_all.Given as goal
-
-abbrev pub invariant-loop-shift : goal.invariant-loop-shift
-invariant-loop-shift l = (place : ℕ) → has_rank l.moved place ≡ list_any (λ shift. has_rank (shifted l.bits shift) place) (take l.shift-index l.shifts)

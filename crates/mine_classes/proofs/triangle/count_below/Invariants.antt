@@ -1,6 +1,0 @@
-use Rattle.std.proofs.Common.{take}
-use Rattle.mine_classes.specs.Sums.{WithBasket}
-use Rattle.mine_classes.proofs.triangle.count_below.Given as goal
-
-abbrev pub invariant-loop-rank : goal.invariant-loop-rank
-invariant-loop-rank l = WithBasket (take l.rank-index l.ranks) l.weight l.initial.row l.row

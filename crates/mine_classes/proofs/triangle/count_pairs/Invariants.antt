@@ -1,7 +1,0 @@
-use Rattle.std.proofs.Common.{take}
-use Rattle.mine_classes.specs.Pairs.{lists_of}
-use Rattle.mine_classes.specs.Triangle.{HaveCounts}
-use Rattle.mine_classes.proofs.triangle.count_pairs.Given as goal
-
-abbrev pub invariant-loop-place : goal.invariant-loop-place
-invariant-loop-place g l = HaveCounts (take l.place (g.B.RankedBaskets.baskets l.baskets)) l.first (lists_of l.rows)

@@ -1,5 +1,0 @@
-use Rattle.mine_classes.proofs.WordPathLemmas.{IsFront}
-use Rattle.mine_classes.proofs.word_paths.is_front.Given as goal
-
-abbrev pub invariant-loop-rank : goal.invariant-loop-rank
-invariant-loop-rank l = IsFront l.rank l.word.bits

@@ -1,0 +1,165 @@
+-- Whether baskets are a single branch, by the lengths of the paths of their runs.
+use Rattle.std.proofs.Common.{◌≡◌, ℕ, ◌+◌, ◌-◌, ◌<◌, ◌≤◌, Bool, true, false, List, [], ◌∷◌, filter, length, cond, drop, eqb, ltb, refl, sym, ap, ◌∙◌, subst, inl, inr, arith, zero, suc}
+use Rattle.std.specs.Prelude.{not}
+use Rattle.std.specs.List.{list_all, range_with_len, slice_range}
+use Rattle.std.proofs.lemmas.Bool.{cases_Bool, cases_lt, eq-eqb, eqb-true, lt-ltb, true≢false}
+use Rattle.std.proofs.lemmas.List.{length-drop, length-take}
+use Rattle.std.proofs.lemmas.List.Elements.{recursion_from_All}
+use Rattle.std.proofs.lemmas.List.FromFn.{length-range_with_len}
+use Rattle.std.proofs.lemmas.List.Sums.{sum_by-cons}
+use Rattle.basket_sets.specs.declared.weighted.Weighted.{Weighted}
+use Rattle.basket_sets.specs.Counts.{AllBelow}
+use Rattle.basket_sets.specs.Database.{weighted}
+use Rattle.basket_sets.specs.Itemset.{IsRising, contains, has}
+use Rattle.basket_sets.proofs.theory.Members.{Member, Member-filter, Member-from_filter, Member-from_map, Member-map, at_Member}
+use Rattle.basket_sets.proofs.theory.Rising.{contains_each, first_below, has-from_Member, has_each, length-le-contains, rest_rises}
+use Rattle.basket_sets.proofs.theory.Tests.{all_of, each_of}
+use Rattle.basket_sets.proofs.theory.Ranges.{Member-range, range_rises}
+use Rattle.mine_baskets.specs.declared.span.Span.{Span}
+use Rattle.mine_baskets.specs.ListBaskets.{AreRankBaskets, IsRankBasket, RankBaskets, weight_where}
+use Rattle.mine_pairs.specs.Runs.{AreRunsOf, below}
+use Rattle.mine_baskets.specs.Span.{IsWithin, basket_at, baskets_at}
+use Rattle.mine_conditional.proofs.theory.Branches.{AreHeavy, IsFullAt, from_picked, into_picked}
+use Rattle.mine_conditional.specs.Paths.{is_branch}
+
+-- ---- rising lists that fill a range
+
+abbrev IsInRange : ℕ → ℕ → List ℕ → Type 0
+IsInRange a n xs = (y : ℕ) → Member y xs → (a ≤ y) × (y < a + n)
+
+at_most : (n a : ℕ) (xs : List ℕ) → IsRising xs → IsInRange a n xs → length xs ≤ n
+at_most n a [] up within = omega arith
+at_most zero a (x ∷ xs) up within = let low = (within x (inl refl)).0 in let high = (within x (inl refl)).1 in absurd (omega arith)
+at_most (suc n) a (x ∷ xs) up within =
+    let rest = at_most n (a + 1) xs (rest_rises x xs up) (λ y m.
+    let low = (within x (inl refl)).0 in let more = first_below x xs up y m in let high = (within y (inr m)).1 in (omega arith, omega arith)) in
+    omega arith
+
+fills : (n a : ℕ) (xs : List ℕ) → IsRising xs → IsInRange a n xs → length xs ≡ n → (z : ℕ) → a ≤ z → z < a + n → Member z xs
+fills zero a xs up within long z low high = absurd (omega arith)
+fills (suc n) a [] up within long z low high = absurd (omega arith)
+fills (suc n) a (x ∷ xs) up within long z low high =
+    let first = within x (inl refl) in
+    elim (cases_lt a x) [
+      | inl more ↦
+          (let short = at_most n (a + 1) (x ∷ xs) up (λ y m. let top = (within y m).1 in (later y m more, omega arith)) in
+          absurd (omega arith))
+      | inr less ↦
+          (let from = first.0 in
+          elim (cases_lt a z) [
+            | inl above ↦ inr (fills n (a + 1) xs (rest_rises x xs up) (λ y m.
+                let next = first_below x xs up y m in let top = (within y (inr m)).1 in (omega arith, omega arith)) (omega arith) z (omega arith) (omega arith))
+            | inr at ↦ inl (omega arith)
+          ])
+    ]
+  where
+    later : (y : ℕ) → Member y (x ∷ xs) → a < x → a + 1 ≤ y
+    later y (inl e) more = omega arith
+    later y (inr m) more = let next = first_below x xs up y m in omega arith
+
+-- ---- weights
+
+weightless : (test : List ℕ → Bool) (places : List Weighted) → AreHeavy places → weight_where test places ≡ 0 → (place : Weighted) → Member place places → test place.basket ≡ false
+weightless test [] heavy none place m = absurd m
+weightless test (p ∷ places) heavy none place m =
+    let sum = sum_by-cons (λ (q : Weighted). cond (test q.basket) q.weight 0) p places in
+    elim m [
+      | inl e ↦ elim (cases_Bool (test p.basket)) [
+        | inl h ↦
+            (let whole : cond (test p.basket) p.weight 0 ≡ p.weight = ap (λ b. cond b p.weight 0) h in
+            let weighs = heavy p (inl refl) in
+            absurd (omega arith))
+        | inr h ↦ ap (λ (q : Weighted). test q.basket) (sym e) ∙ h
+      ]
+      | inr n ↦ (let rest : weight_where test places ≡ 0 = omega arith in weightless test places (λ q k. heavy q (inr k)) rest place n)
+    ]
+
+no_weight : (test : List ℕ → Bool) (places : List Weighted) → ((place : Weighted) → Member place places → test place.basket ≡ false) → weight_where test places ≡ 0
+no_weight test [] fail = refl
+no_weight test (p ∷ places) fail =
+    sum_by-cons (λ (q : Weighted). cond (test q.basket) q.weight 0) p places
+    ∙ ap (λ b. cond b p.weight 0 + weight_where test places) (fail p (inl refl)) ∙ (let rest = no_weight test places (λ q m. fail q (inr m)) in omega arith)
+
+-- ---- runs
+
+pub branch_from_full : (count : ℕ) (baskets : List Weighted) → ((place : Weighted) → Member place baskets → AllBelow count place.basket) → ((rank : ℕ) → rank < count → IsFullAt rank baskets) → is_branch baskets ≡ true
+branch_from_full count baskets low full = all_of (λ (p : Weighted). list_all (λ r. contains p.basket (range_with_len 0 r)) p.basket) baskets (λ place m.
+    all_of (λ r. contains place.basket (range_with_len 0 r)) place.basket (λ r n. let here = has-from_Member place.basket r n in full r (low place m r here) place m here))
+
+length-part : (ranks : List ℕ) (run : Span) → IsWithin (length ranks) run → length (slice_range ranks run.start run.end) ≡ run.end - run.start
+length-part ranks run within =
+    let ordered = within.ordered in let inside = within.within in
+    omega (arith, length-take (run.end - run.start) (drop run.start ranks), length-drop run.start ranks)
+
+module _ (ranks : List ℕ) (value : RankBaskets) (rank : ℕ) (runs : List Span) (are : AreRunsOf ranks value.baskets rank runs) (ranked : AreRankBaskets value) where
+  abbrev lacks : List ℕ → Bool
+  lacks basket = not (contains basket (range_with_len 0 rank))
+
+  abbrev is_whole : Span → Bool
+  is_whole run = eqb (run.end - run.start) rank
+
+  abbrev has_rank : Weighted → Bool
+  has_rank place = has place.basket rank
+
+  abbrev lower_part : Weighted → Weighted
+  lower_part place = weighted (filter (λ other. ltb other rank) place.basket) place.weight
+
+  abbrev places : List Weighted
+  places = baskets_at ranks runs
+
+  run_basket : (place : Weighted) → Member place places → IsRankBasket rank place
+  run_basket place m = at_Member (IsRankBasket rank) place places (recursion_from_All (IsRankBasket rank) places are.places) m
+
+  run_within : (run : Span) → Member run runs → IsWithin (length ranks) run
+  run_within run m = at_Member (IsWithin (length ranks)) run runs (recursion_from_All (IsWithin (length ranks)) runs are.within) m
+
+  heavy : AreHeavy value.baskets
+  heavy place m = (at_Member (IsRankBasket value.ranks) place value.baskets (recursion_from_All (IsRankBasket value.ranks) value.baskets ranked.places) m).weighs
+
+  below_heavy : AreHeavy (below rank value.baskets)
+  below_heavy place m = let p = from_picked has_rank lower_part value.baskets place m in subst (λ (q : Weighted). 1 ≤ q.weight) p.3 (heavy p.0 p.1)
+
+  lower_contains : (place : Weighted) → contains place.basket (range_with_len 0 rank) ≡ true → contains (lower_part place).basket (range_with_len 0 rank) ≡ true
+  lower_contains place h = contains_each (lower_part place).basket (range_with_len 0 rank) (λ r m.
+      Member-from_filter (λ other. ltb other rank) r place.basket (has_each place.basket (range_with_len 0 rank) h r m) (lt-ltb r rank (let less = (Member-range 0 rank r m).1 in omega arith)))
+
+  not_lacking : (basket : List ℕ) → lacks basket ≡ false → contains basket (range_with_len 0 rank) ≡ true
+  not_lacking basket h = elim (cases_Bool (contains basket (range_with_len 0 rank))) [
+    | inl e ↦ e
+    | inr e ↦ absurd (true≢false (sym (ap not e) ∙ h))
+  ]
+
+  in_range : (place : Weighted) → Member place places → IsInRange 0 rank place.basket
+  in_range place m y n = (omega arith, (let less = (run_basket place m).below y (has-from_Member place.basket y n) in omega arith))
+
+  whole_full : (run : Span) → Member run runs → is_whole run ≡ true → lacks (basket_at ranks run).basket ≡ false
+  whole_full run m h =
+      let place = basket_at ranks run in
+      let n = Member-map (basket_at ranks) run runs m in
+      let long = length-part ranks run (run_within run m) ∙ eqb-true (run.end - run.start) rank h in
+      ap not (contains_each place.basket (range_with_len 0 rank) (λ z k. fills rank 0 place.basket (run_basket place n).rises (in_range place n) long z (omega arith) (let less = (Member-range 0 rank z k).1 in omega arith)))
+
+  full_whole : (run : Span) → Member run runs → lacks (basket_at ranks run).basket ≡ false → is_whole run ≡ true
+  full_whole run m h =
+      let place = basket_at ranks run in
+      let n = Member-map (basket_at ranks) run runs m in
+      let short = at_most rank 0 place.basket (run_basket place n).rises (in_range place n) in
+      let more = length-le-contains (range_with_len 0 rank) place.basket (range_rises 0 rank) (run_basket place n).rises (has_each place.basket (range_with_len 0 rank) (not_lacking place.basket h)) in
+      eq-eqb (run.end - run.start) rank (omega (arith, length-part ranks run (run_within run m), short, more, length-range_with_len 0 rank))
+
+  pub full_by_runs : list_all is_whole runs ≡ true → IsFullAt rank value.baskets
+  full_by_runs h place m here =
+      let none : weight_where lacks places ≡ 0 = no_weight lacks places (λ p n.
+      let r = Member-from_map (basket_at ranks) p runs n in
+      ap (λ (q : Weighted). lacks q.basket) (sym r.2) ∙ whole_full r.0 r.1 (each_of is_whole runs h r.0 r.1)) in
+      let lower = not_lacking (lower_part place).basket (weightless lacks (below rank value.baskets) below_heavy (are.weights lacks ∙ none) (lower_part place) (into_picked has_rank lower_part value.baskets place m here)) in
+      contains_each place.basket (range_with_len 0 rank) (λ r n.
+      (Member-filter (λ other. ltb other rank) r place.basket (has_each (lower_part place).basket (range_with_len 0 rank) lower r n)).0)
+
+  pub runs_by_full : IsFullAt rank value.baskets → list_all is_whole runs ≡ true
+  runs_by_full full =
+      let none : weight_where lacks (below rank value.baskets) ≡ 0 = no_weight lacks (below rank value.baskets) (λ p n.
+      let r = from_picked has_rank lower_part value.baskets p n in
+      ap (λ (q : Weighted). lacks q.basket) (sym r.3) ∙ ap not (lower_contains r.0 (full r.0 r.1 r.2))) in
+      all_of is_whole runs (λ run m.
+      full_whole run m (weightless lacks places (λ p n. (run_basket p n).weighs) (sym (are.weights lacks) ∙ none) (basket_at ranks run) (Member-map (basket_at ranks) run runs m)))

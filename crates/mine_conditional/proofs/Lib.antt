@@ -1,0 +1,7 @@
+pub mod theory
+mod BitLemmas
+mod BranchLemmas
+mod PlaceLemmas
+mod RankSumLemmas
+mod ShiftLemmas
+mod WordPathLemmas

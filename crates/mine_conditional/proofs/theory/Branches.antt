@@ -1,0 +1,46 @@
+-- Baskets of which each that has a rank has the lower ones, and those that pass a test.
+use Rattle.std.proofs.Common.{◌≡◌, ℕ, ◌≤◌, Bool, true, false, List, [], ◌∷◌, cond, refl, sym, ap, ◌∙◌, subst, inl, inr}
+use Rattle.std.specs.List.{flat_map, list_all, range_with_len}
+use Rattle.basket_sets.specs.declared.weighted.Weighted.{Weighted}
+use Rattle.basket_sets.specs.Itemset.{contains, has}
+use Rattle.basket_sets.proofs.theory.Members.{Member, Member-append, Member-append_left, Member-append_right}
+use Rattle.basket_sets.proofs.theory.Rising.{Member-from_has}
+use Rattle.basket_sets.proofs.theory.Tests.{each_of}
+use Rattle.mine_conditional.specs.Paths.{is_branch}
+
+module _ {X : Type 0} (test : Weighted → Bool) (f : Weighted → X) where
+  abbrev pub picked_place : Weighted → List X
+  picked_place place = cond (test place) (f place ∷ []) []
+
+  pub into_picked : (places : List Weighted) (place : Weighted) → Member place places → test place ≡ true → Member (f place) (flat_map picked_place places)
+  into_picked [] place m h = absurd m
+  into_picked (p ∷ places) place (inl e) h =
+      Member-append_left (f place) (picked_place p) (flat_map picked_place places)
+      (subst (λ b. Member (f place) (cond b (f p ∷ []) [])) (sym (ap test e ∙ h)) (inl (ap f e)))
+  into_picked (p ∷ places) place (inr m) h = Member-append_right (f place) (picked_place p) (flat_map picked_place places) (into_picked places place m h)
+
+  pub from_picked : (places : List Weighted) (x : X) → Member x (flat_map picked_place places) → (place : Weighted) × Member place places × (test place ≡ true) × (f place ≡ x)
+  from_picked [] x m = absurd m
+  from_picked (p ∷ places) x m = elim (Member-append x (picked_place p) (flat_map picked_place places) m) [
+    | inl n ↦ here (test p) refl n
+    | inr n ↦ (let r = from_picked places x n in (r.0, inr r.1, r.2, r.3))
+  ]
+    where
+      here : (b : Bool) → test p ≡ b → Member x (cond b (f p ∷ []) []) → (place : Weighted) × Member place (p ∷ places) × (test place ≡ true) × (f place ≡ x)
+      here true e (inl same) = (p, inl refl, e, same)
+      here true e (inr none) = absurd none
+      here false e none = absurd none
+
+-- ---- single branches
+
+abbrev pub AreHeavy : List Weighted → Type 0
+AreHeavy baskets = (place : Weighted) → Member place baskets → 1 ≤ place.weight
+
+-- each basket that has the rank has all lower ones
+abbrev pub IsFullAt : ℕ → List Weighted → Type 0
+IsFullAt rank baskets = (place : Weighted) → Member place baskets → has place.basket rank ≡ true → contains place.basket (range_with_len 0 rank) ≡ true
+
+pub full_from_branch : (baskets : List Weighted) → is_branch baskets ≡ true → (rank : ℕ) → IsFullAt rank baskets
+full_from_branch baskets h rank place m here =
+    each_of (λ r. contains place.basket (range_with_len 0 r)) place.basket
+    (each_of (λ (p : Weighted). list_all (λ r. contains p.basket (range_with_len 0 r)) p.basket) baskets h place m) rank (Member-from_has place.basket rank here)

@@ -1,0 +1,96 @@
+//! The conditional database of a rank.
+ghost use Rattle.std.specs.Prelude.{◌≡◌, ◌≤◌, ◌<◌, ◌∷◌, [], ℕ, IfOk, length, map};
+ghost use Rattle.basket_sets.specs.Database.{MOST_WEIGHT};
+ghost use Rattle.basket_sets.specs.Support.{support_of};
+ghost use Rattle.mine_baskets.specs.ListBaskets.{AreRankBaskets, HaveSameWeights, RankBaskets};
+ghost use Rattle.mine_conditional.specs.Conditional.{conditional_baskets};
+ghost use Rattle.mine_pairs.specs.Pairs.{first_support, pairs_of};
+ghost use Rattle.mine_conditional.specs.Paths.{IsConditional};
+
+use crate::rank_places::RankPlaces;
+use mine_baskets::{ListBaskets, WordBaskets};
+use mine_pairs::Runs;
+use std::alloc::{AllocError, Global};
+
+/// The baskets that have a rank, kept to the ranks below it that are frequent together with it, by
+/// a least support (Han, Pei and Yin 2000): words if at most 64 are kept, else lists. The ranks
+/// that are kept are numbered anew, from 0 on, so that the baskets are baskets of ranks again.
+#[derive(Debug, Drop)]
+pub enum Conditional {
+    Lists(ListBaskets),
+    Words(WordBaskets),
+}
+
+impl Conditional {
+    /// The same baskets as lists, equal ones merged, those whose weights have more bits first.
+    pub fn merged(self, alloc: Global) -> Result<ListBaskets, AllocError>
+        requires { AreRankBaskets (conditional_baskets self) }
+        ensures ranks { IfOk result (λ merged. merged.ranks ≡ (conditional_baskets self).ranks) }
+        ensures ranked { IfOk result AreRankBaskets }
+        ensures weights { IfOk result (λ merged. HaveSameWeights (conditional_baskets self).baskets merged.baskets) }
+    {
+        let merged = match self {
+            Conditional::Lists(lists) => lists.sorted(alloc)?,
+            // Equal words are merged already.
+            Conditional::Words(words) => words.lists(alloc)?,
+        };
+        Ok(merged.heavy_first())
+    }
+
+    /// That of a rank of the runs. The pairs are those of the rank by the same least support.
+    pub fn below(
+        runs: &Runs,
+        alloc: Global,
+        places: &mut RankPlaces,
+        rank: u32,
+        least: u64,
+        pairs: &[(u32, u64)],
+    ) -> Result<Conditional, AllocError>
+        requires rank { rank < runs.now.ranks }
+        requires places { runs.now.ranks ≤ places.old }
+        requires pairs { pairs.now ≡ pairs_of runs.now.baskets least rank }
+        ensures below { IfOk result (λ below. IsConditional runs.now.baskets least rank (conditional_baskets below)) }
+        ensures places { places.new ≡ places.old }
+    {
+        let (ranks, paths) = runs.of_rank(rank);
+        if pairs.len() <= 1 {
+            let below = below_few(alloc, runs.support(rank), pairs)?;
+            return Ok(Conditional::Words(below));
+        }
+        let kept = ranks_of(alloc, pairs)?;
+        let below = places.coded(alloc, &kept, ranks, paths)?;
+        Ok(below)
+    }
+}
+
+/// The conditional database of a rank with this support and at most one pair. Its baskets have one
+/// rank or none, so their weights are known and no path is looked at.
+fn below_few(alloc: Global, support: u64, pairs: &[(u32, u64)]) -> Result<WordBaskets, AllocError>
+    requires few { length pairs.now ≤ 1 }
+    requires falls { first_support pairs.now ≤ support }
+    requires light { support ≤ MOST_WEIGHT }
+    ensures { (all : RankBaskets) (least rank : ℕ) → AreRankBaskets all → pairs.now ≡ pairs_of all.baskets least rank → support ≡ support_of all.baskets (rank ∷ [])
+        → IfOk result (IsConditional all.baskets least rank) }
+{
+    let with = first_support(pairs);
+    let without = support - with;
+    let below = WordBaskets::of_one_rank(alloc, pairs.len() as u32, with, without)?;
+    Ok(below)
+}
+
+/// The support of the first pair, or 0.
+fn first_support(pairs: &[(u32, u64)]) -> u64
+    ensures { result ≡ first_support pairs.now }
+{
+    match pairs.first() {
+        Some((_, support)) => *support,
+        None => 0,
+    }
+}
+
+/// The ranks of some pairs.
+pub fn ranks_of(alloc: Global, pairs: &[(u32, u64)]) -> Result<Vec<u32>, AllocError>
+    ensures { IfOk result (λ ranks. ranks.items ≡ map (λ pair. pair.0) pairs.now) }
+{
+    pairs.iter().map(|pair| pair.0).collect(alloc)
+}

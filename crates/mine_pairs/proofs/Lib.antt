@@ -1,0 +1,3 @@
+pub mod theory
+mod RunStepLemmas
+mod TriangleLemmas

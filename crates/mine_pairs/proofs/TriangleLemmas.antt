@@ -1,0 +1,137 @@
+-- Counts of pairs, one basket after another.
+use Rattle.std.proofs.Common.{◌≡◌, ◌≢◌, ℕ, ◌+◌, ◌<◌, ◌≤◌, Bool, true, false, ◌&&◌, ◌||◌, List, [], ◌∷◌, length, map, take, get_or, set, cond, refl, sym, ap, ◌∙◌, ltb, subst, inl, inr, arith, add-zero}
+use Rattle.std.proofs.Math.Bool.{or-false, or-true}
+use Rattle.std.proofs.lemmas.Bool.{cases_eq, eq-eqb, ne_eqb, lt-ltb, ltb-true}
+use Rattle.std.proofs.lemmas.List.{get_or-replicate, get_or-set_other, get_or-set_same, length-replicate}
+use Rattle.std.proofs.lemmas.List.FromFn.{get_or-map-range_with_len, length-map-range_with_len}
+use Rattle.std.proofs.lemmas.List.Sums.{sum_by_more, sum_by_more_le}
+use Rattle.std.specs.List.{filter, range_with_len}
+use Rattle.basket_sets.specs.declared.weighted.Weighted.{Weighted}
+use Rattle.basket_sets.specs.Counts.{AllBelow}
+use Rattle.basket_sets.specs.Database.{MOST_WEIGHT}
+use Rattle.basket_sets.specs.Itemset.{IsRising, has}
+use Rattle.basket_sets.specs.Support.{total_of, weight_at}
+use Rattle.basket_sets.proofs.theory.Members.{Member, Member-filter, Member-from_filter}
+use Rattle.basket_sets.proofs.theory.Ranges.{filter_rises}
+use Rattle.basket_sets.proofs.theory.Rising.{Member-from_has, has-from_Member, has_more, not_before, rising_distinct, same_test}
+use Rattle.basket_sets.proofs.theory.Support.{support_falls}
+use Rattle.mine_pairs.specs.Pairs.{pairs_of}
+use Rattle.mine_pairs.specs.Sums.{WithBasket, is_met}
+use Rattle.mine_pairs.specs.Triangle.{HaveCounts, WithPairs, row_at, zeros}
+use Rattle.mine_pairs.proofs.theory.PairSums.{sums_are_pairs}
+use Rattle.mine_pairs.proofs.RunStepLemmas.{front_is}
+
+-- ---- the ranks before one of a basket
+
+module _ (ranks : List ℕ) (place : ℕ) (up : IsRising ranks) (here : place < length ranks) where
+  abbrev rank : ℕ
+  rank = get_or ranks place 0
+
+  -- of the ranks below it the basket has those that stand before it
+  pub front_has : (lesser : ℕ) → lesser < rank → has (take place ranks) lesser ≡ has ranks lesser
+  front_has lesser less =
+      let below : ℕ → Bool = λ other. ltb other rank in
+      let front = front_is ranks place up here in
+      same_test (has (take place ranks) lesser) (has ranks lesser)
+      (λ h. has-from_Member ranks lesser (Member-filter below lesser ranks (subst (Member lesser) (sym front) (Member-from_has (take place ranks) lesser h))).0)
+      (λ h. has-from_Member (take place ranks) lesser (subst (Member lesser) front (Member-from_filter below lesser ranks (Member-from_has ranks lesser h) (lt-ltb lesser rank less))))
+
+  pub before_rises : IsRising (take place ranks)
+  before_rises = subst IsRising (front_is ranks place up here) (filter_rises (λ other. ltb other rank) ranks up)
+
+  pub before_all_below : AllBelow rank (take place ranks)
+  before_all_below lesser h =
+      let m = subst (Member lesser) (sym (front_is ranks place up here)) (Member-from_has (take place ranks) lesser h) in
+      ltb-true lesser rank (Member-filter (λ other. ltb other rank) lesser ranks m).1
+
+  pub other_front : (greater : ℕ) → greater ≢ rank → has (take place ranks) greater ≡ has (take (place + 1) ranks) greater
+  other_front greater differ =
+      sym (has_more ranks place greater here ∙ ap (λ b. has (take place ranks) greater || b) (ne_eqb rank greater (λ e. differ (sym e))) ∙ or-false (has (take place ranks) greater))
+
+-- ---- the rows, one rank of a basket after another
+
+module _ (first weight : ℕ) (ranks : List ℕ) (old now : List (List ℕ)) where
+  pub other_greater : (one other : List ℕ) → ((k : ℕ) → k < length old → has one (first + k) ≡ has other (first + k)) → WithPairs first one ranks weight old now → WithPairs first other ranks weight old now
+  other_greater one other same with = record {
+    long = with.long;
+    added = λ k below. subst (λ b. WithBasket (cond b ranks []) weight (row_at old k) (row_at now k)) (same k below) (with.added k below);
+  }
+
+  module _ (place k : ℕ) (up : IsRising ranks) (here : place < length ranks) (within : k < length old) (is : first + k ≡ get_or ranks place 0) (with : WithPairs first (take place ranks) ranks weight old now) where
+    -- the row of the next rank is as it was
+    pub as_was : (lesser : ℕ) → lesser < length (row_at old k) → get_or (row_at now k) lesser 0 ≡ get_or (row_at old k) lesser 0
+    as_was lesser below = with.added k within lesser below
+        ∙ ap (λ b. get_or (row_at old k) lesser 0 + cond (has (cond b ranks []) lesser) weight 0) (ap (has (take place ranks)) is ∙ not_before ranks place (rising_distinct ranks up) here)
+        ∙ add-zero (get_or (row_at old k) lesser 0)
+
+    pub row_more : (row : List ℕ) → length now ≡ length old → length (row_at old k) ≡ first + k → length row ≡ length (row_at now k) → WithBasket (take place ranks) weight (row_at now k) row
+        → WithPairs first (take (place + 1) ranks) ranks weight old (set now k row)
+    row_more row same wide long added = record {
+      long = λ j below. elim (cases_eq j k) [
+        | inl e ↦ subst (λ n. length (row_at (set now k row) n) ≡ length (row_at old n)) (sym e) (ap length (get_or-set_same now k row [] (omega arith)) ∙ long ∙ with.long k within)
+        | inr differ ↦ ap length (get_or-set_other now k j row [] differ) ∙ with.long j below
+      ];
+      added = λ j below. elim (cases_eq j k) [
+        | inl e ↦
+            subst (λ n. WithBasket (cond (has (take (place + 1) ranks) (first + n)) ranks []) weight (row_at old n) (row_at (set now k row) n)) (sym e)
+            (λ lesser less. ap (λ l. get_or l lesser 0) (get_or-set_same now k row [] (omega arith)) ∙ whole lesser less
+            ∙ ap (λ b. get_or (row_at old k) lesser 0 + cond (has (cond b ranks []) lesser) weight 0) (sym there))
+        | inr differ ↦
+            λ lesser less. ap (λ l. get_or l lesser 0) (get_or-set_other now k j row [] differ) ∙ with.added j below lesser less
+            ∙ ap (λ b. get_or (row_at old j) lesser 0 + cond (has (cond b ranks []) lesser) weight 0) (other_front ranks place up here (first + j) (λ e. differ (omega arith)))
+      ];
+    }
+      where
+        there : has (take (place + 1) ranks) (first + k) ≡ true
+        there = has_more ranks place (first + k) here ∙ ap (λ b. has (take place ranks) (first + k) || b) (eq-eqb (get_or ranks place 0) (first + k) (sym is)) ∙ or-true (has (take place ranks) (first + k))
+
+        whole : WithBasket ranks weight (row_at old k) row
+        whole lesser below = added lesser (omega (arith, with.long k within))
+            ∙ ap (λ n. n + cond (has (take place ranks) lesser) weight 0) (as_was lesser below)
+            ∙ ap (λ b. get_or (row_at old k) lesser 0 + cond b weight 0) (front_has ranks place up here lesser (omega arith))
+
+pub none_added : (first weight : ℕ) (ranks : List ℕ) (rows : List (List ℕ)) → WithPairs first [] ranks weight rows rows
+none_added first weight ranks rows = record { long = λ k below. refl; added = λ k below lesser less. sym (add-zero (get_or (row_at rows k) lesser 0)) }
+
+-- ---- the rows, one basket after another
+
+pub zeros_count : (first count : ℕ) → HaveCounts [] first (map zeros (range_with_len first count))
+zeros_count first count = record { long = λ k within. ap length (is k within) ∙ length-replicate (first + k) 0; counts = λ k lesser within less. ap (λ l. get_or l lesser 0) (is k within) ∙ get_or-replicate (first + k) lesser 0 0 less }
+  where
+    is : (k : ℕ) → k < length (map zeros (range_with_len first count)) → row_at (map zeros (range_with_len first count)) k ≡ zeros (first + k)
+    is k within = get_or-map-range_with_len zeros first count k (first + k) [] (omega (arith, within, length-map-range_with_len zeros first count)) refl
+
+both : (a b : Bool) (ranks : List ℕ) (lesser : ℕ) → has ranks lesser ≡ b → has (cond a ranks []) lesser ≡ (b && (a && true))
+both true true ranks lesser e = e
+both true false ranks lesser e = e
+both false true ranks lesser e = refl
+both false false ranks lesser e = refl
+
+module _ (baskets : List Weighted) (i : ℕ) (d : Weighted) (first : ℕ) (now : List (List ℕ)) (here : i < length baskets) (have : HaveCounts (take i baskets) first now) where
+  pub counts_light : total_of baskets ≤ MOST_WEIGHT → (k lesser : ℕ) → k < length now → lesser < first + k → get_or (row_at now k) lesser 0 + (get_or baskets i d).weight ≤ MOST_WEIGHT
+  counts_light light k lesser within less =
+      let before = have.counts k lesser within less in
+      let fall = support_falls (take i baskets) (lesser ∷ (first + k) ∷ []) [] refl in
+      let all = sum_by_more_le (weight_at []) baskets i d here in
+      omega (arith, before, fall, all)
+
+  pub counts_more : (new : List (List ℕ)) → length new ≡ length now → WithPairs first (get_or baskets i d).basket (get_or baskets i d).basket (get_or baskets i d).weight now new
+      → HaveCounts (take (i + 1) baskets) first new
+  counts_more new same with = record {
+    long = λ k within. with.long k (omega arith) ∙ have.long k (omega arith);
+    counts = λ k lesser within less.
+        let place = get_or baskets i d in
+        let inside : k < length now = omega arith in
+        let before = have.counts k lesser inside less in
+        let more = sum_by_more (weight_at (lesser ∷ (first + k) ∷ [])) baskets i d here in
+        let added = with.added k inside lesser (omega (arith, have.long k inside))
+        ∙ ap (λ b. get_or (row_at now k) lesser 0 + cond b place.weight 0) (both (has place.basket (first + k)) (has place.basket lesser) place.basket lesser refl) in
+        omega (arith, before, more, added);
+  }
+
+-- ---- the pairs of a rank
+
+pub row_pairs : (baskets : List Weighted) (least first : ℕ) (rows : List (List ℕ)) (k : ℕ) (row : List ℕ) → HaveCounts baskets first rows → k < length rows → row ≡ row_at rows k
+    → map (λ other. (other, get_or row other 0)) (filter (λ other. is_met least (get_or row other 0)) (range_with_len 0 (length row))) ≡ pairs_of baskets least (first + k)
+row_pairs baskets least first rows k row have within is =
+    sums_are_pairs baskets least (first + k) row (ap length is ∙ have.long k within) (λ other less. ap (λ l. get_or l other 0) is ∙ have.counts k other within less)

@@ -1,0 +1,45 @@
+use Rattle.std.proofs.Common.{◌≡◌, ◌<◌, ◌≤◌, ◌++◌, ◌∷◌, [], ℕ, true, false, cond, get_or, leb, map, sym, ap, ◌∙◌, inl, inr, arith, add-one, zero-add, append-nil}
+use Rattle.std.specs.List.{filter, range_with_len}
+use Rattle.std.proofs.lemmas.Bool.{and_from, and_parts, cases_Bool, le-leb, leb-true}
+use Rattle.std.proofs.lemmas.List.{map-append}
+use Rattle.std.proofs.lemmas.List.Elements.{filter-append}
+use Rattle.mine_pairs.specs.Sums.{is_met}
+use Rattle.mine_pairs.proofs.sums.met_in_order.Goals as goal
+use Rattle.mine_pairs.proofs.sums.met_in_order.Goals.{then-sum-ge1+then-sum-least+in_ok-push, else-sum-ge1, else-sum-ge1-via-then-sum-ge1+else-sum-least, else-sum-ge1-via-else-sum-ge1}
+use Rattle.basket_sets.proofs.theory.Ranges.{range_more}
+
+met_sum : (least sum : ℕ) → 1 ≤ sum → least ≤ sum → is_met least sum ≡ true
+met_sum least sum one enough = and_from (leb 1 sum) (leb least sum) (le-leb 1 sum one) (le-leb least sum enough)
+
+no_sum : (least sum : ℕ) → sum < 1 → is_met least sum ≡ false
+no_sum least sum none = elim (cases_Bool (is_met least sum)) [
+  | inl e ↦ (let one = leb-true 1 sum (and_parts (leb 1 sum) (leb least sum) e).0 in absurd (omega arith))
+  | inr e ↦ e
+]
+
+low_sum : (least sum : ℕ) → sum < least → is_met least sum ≡ false
+low_sum least sum low = elim (cases_Bool (is_met least sum)) [
+  | inl e ↦ (let enough = leb-true least sum (and_parts (leb 1 sum) (leb least sum) e).1 in absurd (omega arith))
+  | inr e ↦ e
+]
+
+pub loop-rank-preserved : goal.loop-rank-preserved
+loop-rank-preserved c =
+    let sums = c.args.sums.now in
+    let least = c.args.least in
+    let rank = c.loop-rank.rank in
+    let sum = get_or sums rank 0 in
+    let met = λ (r : ℕ). is_met least (get_or sums r 0) in
+    let pair : ℕ → ℕ × ℕ = λ r. (r, get_or sums r 0) in
+    let so_far = filter met (range_with_len 0 rank) in
+    let more = ap (λ n. filter met (range_with_len 0 n)) (add-one rank) ∙ ap (filter met) (range_more 0 rank ∙ ap (λ n. range_with_len 0 rank ++ n ∷ []) (zero-add rank))
+    ∙ filter-append met (range_with_len 0 rank) (rank ∷ []) in
+    let lost = λ (e : is_met least sum ≡ false). c.loop-rank.invariant ∙ ap (map pair) (sym (more ∙ ap (λ b. so_far ++ cond b (rank ∷ []) []) e ∙ append-nil so_far)) in
+    elim c.if-sum-ge1.branch [
+      | then-sum-ge1+then-sum-least+in_ok-push w ↦ ap (λ v. v.items) w.pairs-is ∙ w.in_ok-push.ensures.items ∙ ap (λ l. l ++ pair rank ∷ []) c.loop-rank.invariant
+          ∙ sym (ap (map pair) (more ∙ ap (λ b. so_far ++ cond b (rank ∷ []) []) (met_sum least sum w.if-sum-ge1.true w.if-sum-least.true)) ∙ map-append pair so_far (rank ∷ []))
+      | else-sum-ge1 w ↦ ap (λ v. v.items) w.pairs-is ∙ lost (elim w.else-sum-ge1.branch [
+        | else-sum-ge1-via-then-sum-ge1+else-sum-least w' ↦ low_sum least sum w'.if-sum-least.false
+        | else-sum-ge1-via-else-sum-ge1 w' ↦ no_sum least sum w'.if-sum-ge1.false
+      ])
+    ]

@@ -1,0 +1,102 @@
+-- The conditional database of a rank by the runs of the rank.
+use Rattle.std.proofs.Common.{◌≡◌, ℕ, ◌+◌, ◌<◌, Bool, true, false, List, [], ◌∷◌, ◌++◌, length, get_or, map, cond, ltb, refl, sym, ap, ◌∙◌, subst, arith, zero-add}
+use Rattle.std.specs.List.{AllByRecursion, filter, flat_map, range_with_len}
+use Rattle.std.specs.Ordering.{nat_cmp}
+use Rattle.std.proofs.lemmas.Bool.{ltb-false}
+use Rattle.std.proofs.lemmas.List.{get_or_default}
+use Rattle.std.proofs.lemmas.List.Elements.{recursion_from_All}
+use Rattle.std.proofs.lemmas.List.Kept.{IsStrictlySortedBy-filter}
+use Rattle.std.proofs.lemmas.List.Sums.{sum_by-cons}
+use Rattle.basket_ranks.specs.Codes.{coded, coded_place, decoded, decoded_place}
+use Rattle.basket_ranks.proofs.theory.Coding.{from_decoded, from_ranks, into_decoded, into_ranks}
+use Rattle.basket_sets.specs.declared.weighted.Weighted.{Weighted}
+use Rattle.basket_sets.specs.Database.{weighted}
+use Rattle.basket_sets.specs.Itemset.{IsRising, has}
+use Rattle.basket_sets.proofs.theory.Members.{Member, Member-filter, Member-from_filter, Contains-from_Member}
+use Rattle.basket_sets.proofs.theory.Rising.{Member-from_has, has-from_Member, rising-rises, same_rising}
+use Rattle.basket_sets.proofs.theory.Tests.{Member-at}
+use Rattle.mine_baskets.specs.declared.span.Span.{Span}
+use Rattle.mine_classes.specs.Conditional.{conditional, is_kept, kept_place}
+use Rattle.mine_baskets.specs.ListBaskets.{HaveSameWeights, IsRankBasket, weight_where}
+use Rattle.mine_pairs.specs.Pairs.{kept_ranks}
+use Rattle.mine_pairs.specs.Runs.{AreRunsOf, below}
+use Rattle.mine_baskets.specs.Span.{baskets_at}
+use Rattle.mine_pairs.proofs.theory.Kept.{Member-kept, kept_lower}
+use Rattle.mine_baskets.proofs.theory.Weights.{changed_weight}
+
+-- ---- weights of baskets that a function changes
+
+same_tests_weigh : (P : Weighted → Type 0) (p q : List ℕ → Bool) (places : List Weighted) → ((place : Weighted) → P place → p place.basket ≡ q place.basket) → AllByRecursion P places
+    → weight_where p places ≡ weight_where q places
+same_tests_weigh P p q [] same all = refl
+same_tests_weigh P p q (place ∷ places) same all =
+    sum_by-cons (λ (x : Weighted). cond (p x.basket) x.weight 0) place places
+    ∙ ap (λ b. cond b place.weight 0 + weight_where p places) (same place all.0)
+    ∙ ap (λ n. cond (q place.basket) place.weight 0 + n) (same_tests_weigh P p q places same all.1)
+    ∙ sym (sum_by-cons (λ (x : Weighted). cond (q x.basket) x.weight 0) place places)
+
+-- ---- the ranks that are kept
+
+module _ (baskets : List Weighted) (least rank : ℕ) where
+  abbrev keeps : ℕ → Bool
+  keeps other = is_kept baskets least rank other
+
+  abbrev kept : List ℕ
+  kept = kept_ranks baskets least rank
+
+  kept_at : (k : ℕ) → k < length kept → keeps (get_or kept k 0) ≡ true
+  kept_at k here = (Member-filter keeps (get_or kept k 0) (range_with_len 0 rank) (Member-at kept k here)).1
+
+  -- a rising basket coded by the kept ranks and decoded again is kept to them
+  pub back_again : (basket : List ℕ) → IsRising basket → decoded kept (coded kept basket) ≡ filter keeps basket
+  back_again basket up = same_rising (decoded kept (coded kept basket)) (filter keeps basket)
+      (rising-rises (map (λ place. get_or kept place 0) (coded kept basket))) (IsStrictlySortedBy-filter nat_cmp keeps basket up)
+      (λ item m.
+      let d = from_decoded kept (coded kept basket) item m in
+      let r = from_ranks 0 kept basket d.0 d.1 in
+      let at : get_or kept r.0 0 ≡ item = ap (λ k. get_or kept k 0) (sym (r.2 ∙ zero-add r.0)) ∙ d.2 in
+      subst (λ x. Member x (filter keeps basket)) at (Member-from_filter keeps (get_or kept r.0 0) basket (Member-from_has basket (get_or kept r.0 0) r.3) (kept_at r.0 r.1)))
+      (λ item m.
+      let f = Member-filter keeps item basket m in
+      let c = Contains-from_Member item kept (Member-kept baskets least rank item f.1) in
+      let at : get_or kept c.0 0 ≡ item = get_or_default kept c.0 0 item c.1 ∙ c.2 in
+      let place = into_ranks 0 kept basket c.0 c.1 (has-from_Member basket (get_or kept c.0 0) (subst (λ x. Member x basket) (sym at) f.0)) in
+      subst (λ x. Member x (decoded kept (coded kept basket))) at (into_decoded kept (coded kept basket) c.0 (subst (λ n. Member n (coded kept basket)) (zero-add c.0) place)))
+
+  -- ---- the baskets
+
+  filter_twice : (basket : List ℕ) → filter keeps (filter (λ other. ltb other rank) basket) ≡ filter keeps basket
+  filter_twice [] = refl
+  filter_twice (x ∷ basket) = at (ltb x rank) refl (keeps x) refl (filter_twice basket)
+    where
+      at : (b : Bool) → ltb x rank ≡ b → (k : Bool) → keeps x ≡ k → filter keeps (filter (λ other. ltb other rank) basket) ≡ filter keeps basket
+          → filter keeps (cond b (x ∷ filter (λ other. ltb other rank) basket) (filter (λ other. ltb other rank) basket)) ≡ cond k (x ∷ filter keeps basket) (filter keeps basket)
+      at true e k h rest =
+          ap (λ l. cond (keeps x) (x ∷ l) l) rest ∙ ap (λ b. cond b (x ∷ filter keeps basket) (filter keeps basket)) h
+      at false e true h rest = let less = kept_lower baskets least rank x h in let not = ltb-false x rank e in absurd (omega arith)
+      at false e false h rest = rest
+
+  below_weight : (test : List ℕ → Bool) (places : List Weighted) → weight_where (λ basket. test (filter keeps basket)) (below rank places) ≡ weight_where test (flat_map (kept_place keeps rank) places)
+  below_weight test [] = refl
+  below_weight test (place ∷ places) = at (has place.basket rank) (below rank places) (flat_map (kept_place keeps rank) places) (below_weight test places)
+    where
+      at : (h : Bool) (ls ms : List Weighted) → weight_where (λ basket. test (filter keeps basket)) ls ≡ weight_where test ms
+          → weight_where (λ basket. test (filter keeps basket)) (cond h (weighted (filter (λ other. ltb other rank) place.basket) place.weight ∷ []) [] ++ ls)
+          ≡ weight_where test (cond h (weighted (filter keeps place.basket) place.weight ∷ []) [] ++ ms)
+      at true ls ms rest =
+          sum_by-cons (λ (p : Weighted). cond (test (filter keeps p.basket)) p.weight 0) (weighted (filter (λ other. ltb other rank) place.basket) place.weight) ls
+          ∙ ap (λ l. cond (test l) place.weight 0 + weight_where (λ basket. test (filter keeps basket)) ls) (filter_twice place.basket)
+          ∙ ap (λ n. cond (test (filter keeps place.basket)) place.weight 0 + n) rest
+          ∙ sym (sum_by-cons (λ (p : Weighted). cond (test p.basket) p.weight 0) (weighted (filter keeps place.basket) place.weight) ms)
+      at false ls ms rest = rest
+
+  pub conditional_weights : (ranks : List ℕ) (runs : List Span) → AreRunsOf ranks baskets rank runs → (others : List Weighted)
+      → HaveSameWeights (map (coded_place kept) (baskets_at ranks runs)) others → HaveSameWeights (conditional least baskets rank) (map (decoded_place kept) others)
+  conditional_weights ranks runs are others same test =
+      sym (below_weight test baskets)
+      ∙ are.weights (λ basket. test (filter keeps basket))
+      ∙ sym (same_tests_weigh (IsRankBasket rank) (λ basket. test (decoded kept (coded kept basket))) (λ basket. test (filter keeps basket)) (baskets_at ranks runs)
+      (λ place is. ap test (back_again place.basket is.rises)) (recursion_from_All (IsRankBasket rank) (baskets_at ranks runs) are.places))
+      ∙ sym (changed_weight (λ basket. test (decoded kept basket)) (coded kept) (baskets_at ranks runs))
+      ∙ same (λ basket. test (decoded kept basket))
+      ∙ sym (changed_weight test (decoded kept) others)

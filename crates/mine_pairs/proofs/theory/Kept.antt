@@ -1,0 +1,83 @@
+-- The ranks that a conditional database keeps.
+use Rattle.std.proofs.Common.{◌≡◌, ℕ, ◌<◌, ◌≤◌, Bool, true, ◌&&◌, List, [], ◌∷◌, length, leb, map, ltb, refl, ap, ◌∙◌, subst, inl, inr, arith}
+use Rattle.std.specs.List.{range_with_len}
+use Rattle.std.proofs.lemmas.Bool.{and_parts, le-leb, leb-true, ltb-true}
+use Rattle.std.proofs.lemmas.List.Elements.{All-weaker}
+use Rattle.std.proofs.lemmas.List.FromFn.{length-range_with_len}
+use Rattle.basket_ranks.specs.Codes.{IsCodedPlace, IsCoding, MOST_RANKS}
+use Rattle.basket_sets.specs.declared.weighted.Weighted.{Weighted}
+use Rattle.basket_sets.specs.declared.minimum.Minimum.TheVariants.{Count}
+use Rattle.basket_sets.specs.Counts.{AllBelow}
+use Rattle.basket_sets.specs.Database.{HasWeight}
+use Rattle.basket_sets.specs.Frequent.{is_frequent}
+use Rattle.basket_sets.specs.Itemset.{IsRising, has}
+use Rattle.basket_sets.specs.Support.{support_of}
+use Rattle.basket_sets.proofs.theory.Members.{Member, Member-filter, Member-from_filter}
+use Rattle.basket_sets.proofs.theory.Support.{support_falls}
+use Rattle.basket_sets.proofs.theory.Rising.{Member-from_has, contains_each, has-from_Member, length-le-contains, rising_distinct, same_test}
+use Rattle.basket_sets.proofs.theory.Ranges.{Member-into_range, filtered_range_rises, range_rises}
+use Rattle.mine_classes.specs.Conditional.{is_kept}
+use Rattle.mine_baskets.specs.ListBaskets.{AreRankBaskets, IsRankBasket, RankBaskets}
+use Rattle.mine_pairs.specs.Pairs.{kept_ranks, pairs_of}
+
+-- what has a least support is in one basket or more
+pub met_alone : (least support : ℕ) → 1 ≤ least → (leb 1 support && leb least support) ≡ leb least support
+met_alone least support some =
+    same_test (leb 1 support && leb least support) (leb least support) (λ h. (and_parts (leb 1 support) (leb least support) h).1)
+    (λ h. let high = leb-true least support h in ap (λ b. b && leb least support) (le-leb 1 support (omega arith)) ∙ h)
+
+-- baskets of so many ranks are a coding of as many items that rise
+pub coding_of : (items : List ℕ) (least : ℕ) (value : RankBaskets) → IsRising items → length items < MOST_RANKS → AreRankBaskets value → value.ranks ≡ length items
+    → IsCoding (record { items = items; minimum = Count least; baskets = value.baskets })
+coding_of items least value up few are long = record {
+  distinct = rising_distinct items up;
+  few = few;
+  places = All-weaker (IsRankBasket value.ranks) (IsCodedPlace items) (λ place is. (is.rises, subst (λ n. AllBelow n place.basket) long is.below)) value.baskets are.places;
+  weights = All-weaker (IsRankBasket value.ranks) HasWeight (λ place is. is.weighs) value.baskets are.places;
+  light = are.light;
+}
+
+module _ (baskets : List Weighted) (least rank : ℕ) where
+  abbrev keeps : ℕ → Bool
+  keeps other = is_kept baskets least rank other
+
+  abbrev kept : List ℕ
+  kept = kept_ranks baskets least rank
+
+  pub kept_rises : IsRising kept
+  kept_rises = filtered_range_rises keeps 0 rank
+
+  pub kept_lower : (other : ℕ) → keeps other ≡ true → other < rank
+  kept_lower other h = ltb-true other rank (and_parts (ltb other rank) (is_frequent baskets (Count least) (other ∷ rank ∷ [])) h).0
+
+  pub Member-kept : (other : ℕ) → keeps other ≡ true → Member other kept
+  Member-kept other h = Member-from_filter keeps other (range_with_len 0 rank) (Member-into_range 0 rank other (omega arith) (let less = kept_lower other h in omega arith)) h
+
+  pub has_kept : (other : ℕ) → has kept other ≡ keeps other
+  has_kept other = same_test (has kept other) (keeps other)
+      (λ h. (Member-filter keeps other (range_with_len 0 rank) (Member-from_has kept other h)).1)
+      (λ h. has-from_Member kept other (Member-kept other h))
+
+  pub kept_below : AllBelow rank kept
+  kept_below other h = kept_lower other (Member-filter keeps other (range_with_len 0 rank) (Member-from_has kept other h)).1
+
+  pub kept_short : length kept ≤ rank
+  kept_short =
+      omega (
+        arith,
+        length-range_with_len 0 rank,
+        length-le-contains kept (range_with_len 0 rank) kept_rises (range_rises 0 rank) (λ z m. (Member-filter keeps z (range_with_len 0 rank) m).0),
+      )
+
+  -- the first ranks of a rank's pairs are those that are kept
+  pub pair_ranks : map (λ (pair : ℕ × ℕ). pair.0) (pairs_of baskets least rank) ≡ kept
+  pair_ranks = go kept
+    where
+      go : (ranks : List ℕ) → map (λ (pair : ℕ × ℕ). pair.0) (map (λ other. (other, support_of baskets (other ∷ rank ∷ []))) ranks) ≡ ranks
+      go [] = refl
+      go (first ∷ ranks) = ap (λ l. first ∷ l) (go ranks)
+
+  -- baskets of so many ranks are a coding of the ranks that are kept
+  pub conditional_coding : (value : RankBaskets) → AreRankBaskets value → value.ranks ≡ length kept → rank < MOST_RANKS
+      → IsCoding (record { items = kept; minimum = Count least; baskets = value.baskets })
+  conditional_coding value are long few = coding_of kept least value kept_rises (let short = kept_short in omega arith) are long

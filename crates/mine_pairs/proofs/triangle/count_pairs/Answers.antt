@@ -1,0 +1,36 @@
+use Rattle.std.proofs.Common.{◌<◌, [], ℕ, length, subst, sym, ap, ◌∙◌, arith}
+use Rattle.std.specs.declared.alloc.Global.{Global}
+use Rattle.std.specs.declared.vec.Vec.{Vec}
+use Rattle.std.proofs.lemmas.List.{length-map, take_all}
+use Rattle.basket_sets.specs.declared.weighted.Weighted.{Weighted}
+use Rattle.basket_sets.specs.Database.{weighted}
+use Rattle.mine_pairs.specs.Pairs.{lists_of}
+use Rattle.mine_pairs.specs.Triangle.{HaveCounts, WithPairs}
+use Rattle.mine_pairs.proofs.TriangleLemmas.{counts_light, counts_more}
+use Rattle.mine_pairs.proofs.triangle.count_pairs.Goals as goal
+
+pub count_basket-requires-clause-light : goal.count_basket-requires-clause-light
+count_basket-requires-clause-light g c = λ k lesser within less.
+    let rows = c.loop-place.rows in
+    let baskets = g.B.RankedBaskets.baskets c.args.baskets.now in
+    let here : c.loop-place.place < length baskets = omega (arith, c.loop-place-test.true, c.basket_count-place-end.ensures) in
+    let light = counts_light baskets c.loop-place.place (weighted [] 0) c.args.first (lists_of rows) here c.loop-place.invariant
+    c.basket_at-weight.ensures.light k lesser (omega (arith, within, length-map rows (λ (v : Vec ℕ Global). v.items))) less in
+    omega (arith, light, ap (λ (p : Weighted). p.weight) c.basket_at-weight.ensures.basket)
+
+pub loop-place-preserved : goal.loop-place-preserved
+loop-place-preserved g c =
+    let baskets = g.B.RankedBaskets.baskets c.args.baskets.now in
+    let now = lists_of c.loop-place.rows in
+    let new = lists_of c.count_basket.new.rows in
+    let items = λ (v : Vec ℕ Global). v.items in
+    let here : c.loop-place.place < length baskets = omega (arith, c.loop-place-test.true, c.basket_count-place-end.ensures) in
+    counts_more baskets c.loop-place.place (weighted [] 0) c.args.first now here c.loop-place.invariant new
+    (length-map c.count_basket.new.rows items ∙ c.count_basket.auto.rows ∙ sym (length-map c.loop-place.rows items))
+    (subst (λ (p : Weighted). WithPairs c.args.first p.basket p.basket p.weight now new) c.basket_at-weight.ensures.basket c.count_basket.ensures)
+
+pub returns : goal.returns
+returns g c =
+    let baskets = g.B.RankedBaskets.baskets c.args.baskets.now in
+    subst (λ l. HaveCounts l c.args.first (lists_of c.loop-place.rows))
+    (take_all c.loop-place.place baskets (omega (arith, c.loop-place-test.false, c.basket_count-place-end.ensures))) c.loop-place.invariant

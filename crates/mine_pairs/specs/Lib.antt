@@ -1,0 +1,4 @@
+pub mod Pairs
+pub mod Runs
+pub mod Sums
+pub mod Triangle

@@ -1,0 +1,4 @@
+pub mod Counting
+pub mod Pieces
+pub mod Placed
+pub mod WorkerResult

@@ -1,0 +1,8 @@
+pub mod theory
+mod CounterLemmas
+mod NeededLemmas
+mod OnesLemmas
+mod PlaceLemmas
+mod PrefixLemmas
+mod RowLemmas
+mod SupportLemmas

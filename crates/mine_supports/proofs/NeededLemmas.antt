@@ -1,0 +1,139 @@
+-- Baskets that can contain a set of so many items.
+use Rattle.std.proofs.Common.{◌≡◌, ℕ, suc, ◌+◌, ◌<◌, ◌≤◌, ◌||◌, Bool, true, false, List, [], ◌∷◌, ◌++◌, length, filter, take, get_or, cond, Some, refl, sym, ap, ◌∙◌, subst, inl, inr, arith}
+use Rattle.std.specs.Prelude.{nat_eq}
+use Rattle.std.specs.Cmp.{nat_eq_equiv}
+use Rattle.std.specs.List.{All, list_any, slice_get}
+use Rattle.std.proofs.lemmas.Bool.{cases_Bool, le-leb, true≢false}
+use Rattle.std.proofs.lemmas.List.{length_push, take_more}
+use Rattle.std.proofs.lemmas.List.Elements.{All-append, All-from_recursion, All-map, filter-append}
+use Rattle.std.proofs.lemmas.Map.Made.{length-le_from_is_member}
+use Rattle.basket_sets.specs.declared.weighted.Weighted.{Weighted}
+use Rattle.basket_sets.specs.Itemset.{IsRising, contains, has}
+use Rattle.basket_sets.specs.Support.{support_of, total_of, weight_at}
+use Rattle.basket_sets.proofs.theory.Members.{All-from_Member, Member, Member-append, Member-append_left, Member-append_right, Member-from_filter}
+use Rattle.basket_sets.proofs.theory.Rising.{Member-from_has, cons_rises, contains-refl, contains_each, first_below, has-from_Member, has_each, nil_rises, rest_rises, rising_distinct}
+use Rattle.basket_sets.proofs.theory.Support.{support-cons}
+use Rattle.mine_supports.specs.Extensions.{Group, extend, lists_of, prefixes_of, sets_of}
+use Rattle.mine_supports.specs.Needed.{AreAtLeast, IsAtLeast, is_needed, needed}
+use Rattle.mine_supports.specs.UsedItems.{AreUsed}
+use Rattle.mine_supports.proofs.theory.Extensions.{sets_push}
+
+-- ---- sets of at least so many items
+
+fewer : (most least : ℕ) → least ≤ most → (set : List ℕ) → IsAtLeast most set → IsAtLeast least set
+fewer most least le set is = record {
+  some = is.some;
+  rises = is.rises;
+  within = is.within;
+  enough = let enough = is.enough in omega arith;
+}
+
+-- the sets of one more prefix
+pub at_least_more : (groups : List Group) (i : ℕ) (d : Group) (most least more : ℕ) → i < length groups → least ≤ most → least ≤ more → AreAtLeast most (sets_of (take i groups))
+    → AreAtLeast more (extend (get_or groups i d).prefix (get_or groups i d).items) → AreAtLeast least (sets_of (take (i + 1) groups))
+at_least_more groups i d most least more below le less before now =
+    let group = get_or groups i d in
+    subst (AreAtLeast least) (sym (ap sets_of (take_more groups i d below) ∙ sets_push (take i groups) group.prefix group.items))
+    (All-append (IsAtLeast least) (sets_of (take i groups)) (extend group.prefix group.items)
+    (λ k e within. fewer most least le (get_or (sets_of (take i groups)) k e) (before k e within))
+    (λ k e within. fewer more least less (get_or (extend group.prefix group.items) k e) (now k e within)))
+
+-- a prefix has its items with any item more
+pub prefix_at_least : (prefix items : List ℕ) → IsRising prefix → AreAtLeast (length prefix) (extend prefix items)
+prefix_at_least prefix items up = All-map (IsAtLeast (length prefix)) (λ item. prefix ++ item ∷ []) items (λ k d below. record {
+  some = prefix;
+  rises = up;
+  within = contains_each (prefix ++ get_or items k d ∷ []) prefix (λ item m. Member-append_left item prefix (get_or items k d ∷ []) m);
+  enough = omega arith;
+})
+
+-- a set that rises still does with a greater last item
+greater_last : (prefix : List ℕ) (first item : ℕ) → first ≤ item → IsRising (prefix ++ first ∷ []) → IsRising (prefix ++ item ∷ [])
+greater_last [] first item le up = cons_rises item [] (λ y m. absurd m) nil_rises
+greater_last (x ∷ prefix) first item le up = cons_rises x (prefix ++ item ∷ []) (λ y m. elim (Member-append y prefix (item ∷ []) m) [
+  | inl a ↦ first_below x (prefix ++ first ∷ []) up y (Member-append_left y prefix (first ∷ []) a)
+  | inr b ↦ elim b [
+    | inl e ↦ (let less = first_below x (prefix ++ first ∷ []) up first (Member-append_right first prefix (first ∷ []) (inl refl)) in omega (arith, e, less, le))
+    | inr n ↦ absurd n
+  ]
+]) (greater_last prefix first item le (rest_rises x (prefix ++ first ∷ []) up))
+
+-- if the prefix rises with the first of rising items, it has one item more with each of them
+pub extended_at_least : (prefix items : List ℕ) (first : ℕ) → IsRising items → slice_get items 0 ≡ Some first → IsRising (prefix ++ first ∷ []) → AreAtLeast (length prefix + 1) (extend prefix items)
+extended_at_least prefix [] first rises is up = λ k d below. absurd (omega (arith, below))
+extended_at_least prefix (x ∷ items) first rises is up =
+    let same : first ≡ x = (let e : Some first ≡ Some x = sym is in cc) in
+    All-map (IsAtLeast (length prefix + 1)) (λ item. prefix ++ item ∷ []) (x ∷ items)
+    (All-from_recursion (λ item. IsAtLeast (length prefix + 1) (prefix ++ item ∷ [])) (x ∷ items)
+    (All-from_Member (λ item. IsAtLeast (length prefix + 1) (prefix ++ item ∷ [])) (x ∷ items) (λ item m. record {
+      some = prefix ++ item ∷ [];
+      rises = greater_last prefix first item (elim m [ inl e ↦ omega (arith, same, e) | inr n ↦ (let less = first_below x items rises item n in omega (arith, same, less)) ]) up;
+      within = contains-refl (prefix ++ item ∷ []);
+      enough = omega (arith, length_push prefix item);
+    })))
+
+-- ---- sets of used items
+
+item_used : (sets : List (List ℕ)) (first used : List ℕ) → AreUsed (first ∷ sets) used → (item : ℕ) → Member item first → Member item used
+item_used sets first used all item m = Member-from_has used item (all 0 item (omega arith) (has-from_Member first item m))
+
+pub sets_used : (groups : List Group) (used : List ℕ) → AreUsed (prefixes_of groups) used → AreUsed (lists_of groups) used → All (λ set. contains used set ≡ true) (sets_of groups)
+sets_used [] used prefixes lists = λ k d below. absurd (omega (arith, below))
+sets_used (group ∷ groups) used prefixes lists =
+    All-append (λ set. contains used set ≡ true) (extend group.prefix group.items) (sets_of groups)
+    (All-map (λ set. contains used set ≡ true) (λ item. group.prefix ++ item ∷ []) group.items
+    (All-from_recursion (λ item. contains used (group.prefix ++ item ∷ []) ≡ true) group.items
+    (All-from_Member (λ item. contains used (group.prefix ++ item ∷ []) ≡ true) group.items (λ item m.
+    contains_each used (group.prefix ++ item ∷ []) (λ x n. elim (Member-append x group.prefix (item ∷ []) n) [
+      | inl a ↦ item_used (prefixes_of groups) group.prefix used prefixes x a
+      | inr b ↦ elim b [ inl e ↦ subst (λ y. Member y used) e (item_used (lists_of groups) group.items used lists item m) | inr none ↦ absurd none ]
+    ])))))
+    (sets_used groups used (λ k item below. prefixes (suc k) item (omega (arith, below))) (λ k item below. lists (suc k) item (omega (arith, below))))
+
+-- ---- baskets that contain such a set
+
+is_in : (items : List ℕ) (item : ℕ) → list_any (nat_eq item) items ≡ has items item
+is_in [] item = refl
+is_in (x ∷ items) item = (λ i. nat_eq_equiv.symm item x i || is_in items item i)
+
+-- a rising list whose items are in another is no longer than it
+no_longer : (set items : List ℕ) → IsRising set → ((item : ℕ) → Member item set → Member item items) → length set ≤ length items
+no_longer set items up into =
+    length-le_from_is_member nat_eq_equiv set items (rising_distinct set up)
+    (λ item h. is_in items item ∙ has-from_Member items item (into item (Member-from_has set item (sym (is_in set item) ∙ h))))
+
+module _ (used : List ℕ) (least : ℕ) where
+  has_enough : (first : Weighted) (set : List ℕ) → contains used set ≡ true → IsAtLeast least set → contains first.basket set ≡ true → is_needed used least first ≡ true
+  has_enough first set uses is holds =
+      let few = no_longer is.some (filter (has used) first.basket) is.rises (λ item m.
+      let n = has_each set is.some is.within item m in
+      Member-from_filter (has used) item first.basket (has_each first.basket set holds item n) (has-from_Member used item (has_each used set uses item n))) in
+      let enough = is.enough in
+      le-leb least (length (filter (has used) first.basket)) (omega arith)
+
+  one_needed : (set : List ℕ) → contains used set ≡ true → IsAtLeast least set → (first : Weighted) (baskets rest : List Weighted) → support_of rest set ≡ support_of baskets set
+      → (b : Bool) → is_needed used least first ≡ b → support_of (cond b (first ∷ rest) rest) set ≡ support_of (first ∷ baskets) set
+  one_needed set uses is first baskets rest same true e = support-cons first rest set ∙ ap (λ n. weight_at set first + n) same ∙ sym (support-cons first baskets set)
+  one_needed set uses is first baskets rest same false e = elim (cases_Bool (contains first.basket set)) [
+    | inl holds ↦ absurd (true≢false (sym (has_enough first set uses is holds) ∙ e))
+    | inr none ↦ (let zero = ap (λ b. cond b first.weight 0) none in omega (arith, same, zero, support-cons first baskets set))
+  ]
+
+  -- a set of used items has the support among those that are needed that it has among all
+  pub needed_support : (set : List ℕ) → contains used set ≡ true → IsAtLeast least set → (baskets : List Weighted) → support_of (needed used least baskets) set ≡ support_of baskets set
+  needed_support set uses is [] = refl
+  needed_support set uses is (first ∷ baskets) =
+      one_needed set uses is first baskets (needed used least baskets) (needed_support set uses is baskets) (is_needed used least first) refl
+
+  one_weighs : (first : Weighted) (baskets rest : List Weighted) → total_of rest ≤ total_of baskets → (b : Bool) → total_of (cond b (first ∷ rest) rest) ≤ total_of (first ∷ baskets)
+  one_weighs first baskets rest le true = omega (arith, le, support-cons first rest [], support-cons first baskets [])
+  one_weighs first baskets rest le false = omega (arith, le, support-cons first baskets [])
+
+  pub needed_total : (baskets : List Weighted) → total_of (needed used least baskets) ≤ total_of baskets
+  needed_total [] = omega arith
+  needed_total (first ∷ baskets) = one_weighs first baskets (needed used least baskets) (needed_total baskets) (is_needed used least first)
+
+  -- one basket more
+  pub needed_more : (baskets : List Weighted) (i : ℕ) (d : Weighted) → i < length baskets
+      → needed used least (take (i + 1) baskets) ≡ needed used least (take i baskets) ++ cond (is_needed used least (get_or baskets i d)) (get_or baskets i d ∷ []) []
+  needed_more baskets i d below = ap (needed used least) (take_more baskets i d below) ∙ filter-append (is_needed used least) (take i baskets) (get_or baskets i d ∷ [])

@@ -1,0 +1,152 @@
+use Rattle.std.proofs.Common.{◌≡◌, ◌<◌, ◌+◌, ◌-◌, [], ℕ, List, true, get_or, length, take, refl, subst, sym, ap, ◌∙◌, arith}
+use Rattle.std.proofs.lemmas.Bool.{true≢false}
+use Rattle.std.proofs.lemmas.List.{get_or-map, get_or_default, take_all}
+use Rattle.std.proofs.lemmas.List.Sums.{sum_by-take-le}
+use Rattle.basket_sets.specs.Itemset.{contains}
+use Rattle.basket_sets.specs.Support.{support_of, total_of, weight_at}
+use Rattle.mine_supports.specs.BlockCounts.{placed}
+use Rattle.mine_supports.specs.Needed.{IsAtLeast}
+use Rattle.mine_supports.specs.Prefixes.{ArePrefixes}
+use Rattle.mine_supports.specs.Counter.{AreAdded, IsShared}
+use Rattle.mine_supports.specs.Extensions.{extend, groups_of, lists_of, prefixes_of, sets_of}
+use Rattle.mine_supports.specs.UsedItems.{AreUsed}
+use Rattle.mine_supports.proofs.PrefixLemmas.{prefixes_shared}
+use Rattle.mine_supports.proofs.CounterLemmas.{added_more, next_start, next_within, rest_more, some_list}
+use Rattle.mine_supports.proofs.theory.Extensions.{groups_back, groups_long, items_read, lists_long, no_group, prefix_read}
+use Rattle.mine_supports.proofs.NeededLemmas.{needed_support, needed_total, sets_used}
+use Rattle.mine_supports.proofs.PlaceLemmas.{set_used}
+use Rattle.mine_supports.proofs.counter.RowCounter.add_block.Goals as goal
+use Rattle.mine_supports.proofs.counter.RowCounter.add_block.Goals.{After-add-arg-1}
+
+pub of-requires-clause-light : goal.of-requires-clause-light
+of-requires-clause-light c =
+    let some = some_list (sets_of c.self.inside.sets.now) (λ none. true≢false (sym (c.is_empty.ensures.1 none) ∙ c.if-is_empty.false)) in
+    let light = c.requires.light 0 (omega (arith, c.requires.long, ap length c.self.view_is, some)) in
+    omega arith
+
+pub loop-number-init : goal.loop-number-init
+loop-number-init c =
+    let first = get_or c.prefixes-prefixes.result.now 0 [] in
+    record {
+      starts = refl;
+      added = λ k below. absurd (omega (arith, below));
+      rest = λ k from. refl;
+      prefixes = c.in_ok-shared.ensures first;
+    }
+
+below : (c : After-add-arg-1) → c.loop-number.number < length c.self.inside.sets.now
+below c = omega (arith, c.loop-number-test.true, ap length c.lists-items-items.ensures, lists_long c.self.inside.sets.now)
+
+starts : (c : After-add-arg-1) → c.loop-number.start ≡ length (sets_of (take c.loop-number.number c.self.inside.sets.now))
+starts c =
+    c.loop-number.invariant.starts
+    ∙ ap (λ l. length (sets_of (take c.loop-number.number l))) ((λ i. groups_of (c.prefixes-prefixes.ensures i) (c.lists-items-items.ensures i)) ∙ groups_back c.self.inside.sets.now)
+
+list_is : (c : After-add-arg-1) → c.items-item.result ≡ (get_or c.self.inside.sets.now c.loop-number.number no_group).items
+list_is c = items_read c.self.inside.sets.now c.lists-items-items.result.now c.loop-number.number c.items-item.result c.lists-items-items.ensures (below c) c.items-item.is
+
+prefix_is : (c : After-add-arg-1) → c.index-prefixes-number.result ≡ (get_or c.self.inside.sets.now c.loop-number.number no_group).prefix
+prefix_is c = prefix_read c.self.inside.sets.now c.prefixes-prefixes.result.now c.loop-number.number c.index-prefixes-number.result c.prefixes-prefixes.ensures (below c) c.index-prefixes-number.is
+
+pub add-requires-clause-used : goal.add-requires-clause-used
+add-requires-clause-used c =
+    let groups = c.self.inside.sets.now in
+    let number = c.loop-number.number in
+    let used = subst (AreUsed (prefixes_of groups)) (sym c.in_ok-block.ensures.used.0) c.self.invariant.0 in
+    let at = get_or-map (λ group. group.prefix) groups number no_group [] (below c) in
+    subst (λ l. contains c.in_ok-block.block.used.now l ≡ true) (sym (c.items-in-loop-number-2.ensures.items ∙ prefix_is c ∙ sym at))
+    (set_used (prefixes_of groups) c.in_ok-block.block.used.now number used (omega (arith, below c, groups_long groups)))
+
+pub add-requires-clause-items_used : goal.add-requires-clause-items_used
+add-requires-clause-items_used c =
+    let groups = c.self.inside.sets.now in
+    let number = c.loop-number.number in
+    let used = subst (AreUsed (lists_of groups)) (sym c.in_ok-block.ensures.used.0) c.self.invariant.1 in
+    let at = get_or-map (λ group. group.items) groups number no_group [] (below c) in
+    subst (λ l. contains c.in_ok-block.block.used.now l ≡ true) (sym (c.items-in-loop-number-3.ensures.items ∙ list_is c ∙ sym at))
+    (set_used (lists_of groups) c.in_ok-block.block.used.now number used (omega (arith, below c, lists_long groups)))
+
+pub add-requires-clause-prefixes : goal.add-requires-clause-prefixes
+add-requires-clause-prefixes c =
+    let prefixes = c.prefixes-prefixes.result.now in
+    let number = c.loop-number.number in
+    let count = c.shared_items.result in
+    let old = c.loop-number.shared.lists.items in
+    let within : number - 1 < length prefixes = omega (arith, below c, ap length c.prefixes-prefixes.ensures, groups_long c.self.inside.sets.now) in
+    let before = c.items.ensures.items ∙ c.index-prefixes-saturating_sub.is ∙ ap (λ n. get_or prefixes n c.index-prefixes-saturating_sub.result) c.saturating_sub.ensures
+    ∙ get_or_default prefixes (number - 1) c.index-prefixes-saturating_sub.result [] within in
+    let prefix = c.items-in-loop-number.ensures.items ∙ sym c.items-in-loop-number-2.ensures.items in
+    let shared = subst (λ l. IsShared l c.items-in-loop-number-2.result.now count) before (subst (λ l. IsShared c.items.result.now l count) prefix c.shared_items.ensures) in
+    subst (ArePrefixes (placed c.in_ok-block.block) c.items-in-loop-number-2.result.now) (sym c.truncate.ensures)
+    (prefixes_shared (placed c.in_ok-block.block) (get_or prefixes (number - 1) []) c.items-in-loop-number-2.result.now count old shared c.loop-number.invariant.prefixes)
+
+pub add-requires-clause-within : goal.add-requires-clause-within
+add-requires-clause-within c =
+    let within = next_within c.self.inside.sets.now c.loop-number.number c.loop-number.start no_group (below c) (starts c) in
+    omega (arith, within, ap length (c.items-in-loop-number-3.ensures.items ∙ list_is c), c.requires.long, ap length c.self.view_is, c.loop-number.auto.counts)
+
+pub add-requires-clause-light : goal.add-requires-clause-light
+add-requires-clause-light c = λ k inside.
+    let within = next_within c.self.inside.sets.now c.loop-number.number c.loop-number.start no_group (below c) (starts c) in
+    let at : ℕ = c.loop-number.start + k in
+    let long = ap length (c.items-in-loop-number-3.ensures.items ∙ list_is c) in
+    let light = c.requires.light at (omega (arith, within, inside, long, c.requires.long, ap length c.self.view_is)) in
+    let same = c.loop-number.invariant.rest at (omega arith) in
+    let block = c.in_ok-block.block in
+    let few = needed_total block.used.now block.least block.baskets.now in
+    let part = ap total_of c.in_ok-block.ensures.baskets in
+    let le = sum_by-take-le (weight_at []) c.args.baskets.now (length block.baskets.now) in
+    omega (arith, light, same, few, part, le)
+
+pub overflow_add-start : goal.overflow_add-start
+overflow_add-start c =
+    let before = (goal.at.overflow_add-start c).After-add-arg-1 in
+    let within = next_within c.self.inside.sets.now c.loop-number.number c.loop-number.start no_group (below before) (starts before) in
+    record { fits = omega (arith, within, c.len-start.ensures, ap length (list_is before), c.requires.long, ap length c.self.view_is, c.loop-number.auto.counts) }
+
+pub loop-number-preserved : goal.loop-number-preserved
+loop-number-preserved c =
+    let before = (goal.at.loop-number-preserved c).After-add-arg-1 in
+    let groups = c.self.inside.sets.now in
+    let number = c.loop-number.number in
+    let start = c.loop-number.start in
+    let baskets = placed c.in_ok-block.block in
+    let old = c.args.counts.now in
+    let counts = c.loop-number.counts in
+    let new = c.add.new.counts in
+    let here = below before in
+    let prefix = c.items-in-loop-number-2.ensures.items ∙ prefix_is before in
+    let items = c.items-in-loop-number-3.ensures.items ∙ list_is before in
+    let long : start + c.len-start.result ≡ start + length (get_or groups number no_group).items = ap (λ n. start + n) (c.len-start.ensures ∙ ap length (list_is before)) in
+    let same = (λ i. groups_of (c.prefixes-prefixes.ensures i) (c.lists-items-items.ensures i)) ∙ groups_back groups in
+    let now = subst (λ s. AreAdded s baskets start counts new) (λ i. extend (prefix i) (items i)) c.in_ok-add.ensures.supports in
+    let added = subst (λ (sets : List (List ℕ)). (k : ℕ) → k < start → get_or counts k 0 ≡ get_or old k 0 + support_of baskets (get_or sets k [])) (sym c.self.view_is) c.loop-number.invariant.added in
+    record {
+      starts = long ∙ next_start groups number start no_group here (starts before) ∙ ap (λ l. length (sets_of (take (number + 1) l))) (sym same);
+      added = subst (λ (sets : List (List ℕ)). (k : ℕ) → k < start + c.len-start.result → get_or new k 0 ≡ get_or old k 0 + support_of baskets (get_or sets k [])) c.self.view_is
+          (λ k less. added_more groups number start no_group here (starts before) baskets old counts new now c.loop-number.invariant.rest added k (omega (arith, less, long)));
+      rest = λ k from. rest_more groups number start no_group here (starts before) baskets old counts new now c.loop-number.invariant.rest k (omega (arith, from, long));
+      prefixes =
+          let one : number ≡ number + 1 - 1 = omega arith in
+          let at = get_or_default c.prefixes-prefixes.result.now number c.index-prefixes-number.result [] (omega (arith, here, ap length c.prefixes-prefixes.ensures, groups_long groups)) in
+          let read = c.items-in-loop-number-2.ensures.items ∙ c.index-prefixes-number.is ∙ at ∙ ap (λ n. get_or c.prefixes-prefixes.result.now n []) one in
+          subst (λ l. ArePrefixes baskets l c.add.new.prefixes.lists.items) read c.in_ok-add.ensures.prefixes;
+    }
+
+pub returns-clause-added : goal.returns-clause-added
+returns-clause-added c k inside within =
+    let groups = c.self.inside.sets.now in
+    let number = c.loop-number.number in
+    let block = c.in_ok-block.block in
+    let same = (λ i. groups_of (c.prefixes-prefixes.ensures i) (c.lists-items-items.ensures i)) ∙ groups_back groups in
+    let end = take_all number groups (omega (arith, c.loop-number-test.false, ap length c.lists-items-items.ensures, lists_long groups)) in
+    let all = c.loop-number.invariant.starts ∙ ap (λ l. length (sets_of (take number l))) same ∙ ap (λ l. length (sets_of l)) end in
+    let here : k < length (sets_of groups) = omega (arith, inside, ap length c.self.view_is) in
+    let used = c.in_ok-block.ensures.used in
+    let uses = subst (λ u. contains u (get_or (sets_of groups) k []) ≡ true) (sym used.0) (sets_used groups c.self.inside.used c.self.invariant.0 c.self.invariant.1 k [] here) in
+    let is = subst (λ n. IsAtLeast n (get_or (sets_of groups) k [])) (sym used.1) (c.self.invariant.2 k [] here) in
+    let supports = needed_support block.used.now block.least (get_or (sets_of groups) k []) uses is block.baskets.now in
+    c.loop-number.invariant.added k (omega (arith, here, all))
+    ∙ ap (λ n. get_or c.args.counts.now k 0 + n)
+    (ap (λ (l : List (List ℕ)). support_of (placed block) (get_or l k [])) (sym c.self.view_is) ∙ supports
+    ∙ (λ i. support_of (c.in_ok-block.ensures.baskets i) (get_or (c.self.view_is i) k [])))

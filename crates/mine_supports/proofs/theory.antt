@@ -1,0 +1,4 @@
+-- What the proofs of every crate may cite of sets as extensions.
+pub mod Extensions
+pub mod Frequent
+pub mod UsedItems

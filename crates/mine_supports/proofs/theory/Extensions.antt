@@ -1,0 +1,145 @@
+-- Sets as prefixes and the items that extend them.
+use Rattle.std.proofs.Common.{◌≡◌, ◌≢◌, ℕ, zero, suc, ◌+◌, ◌<◌, ◌||◌, Bool, true, false, List, [], ◌∷◌, ◌++◌, length, filter, map, get_or, cond, take, append-nil, append_assoc, refl, Some, None, ◌-◌, sym, ap, ◌∙◌, subst, inl, inr, arith}
+use Rattle.std.specs.Cmp.Lexicographic.{slice_cmp, nat_list_cmp_total}
+use Rattle.std.specs.List.Sorted.{IsStrictlySortedBy}
+use Rattle.std.specs.Ordering.{nat_cmp}
+use Rattle.std.specs.declared.cmp.Ordering.TheVariants.{Less}
+use Rattle.std.proofs.lemmas.Bool.{cases_Bool}
+use Rattle.std.proofs.lemmas.Grind.{flat_map-append}
+use Rattle.std.specs.List.{slice_get}
+use Rattle.std.proofs.lemmas.List.{get_or-map, length-append, length-map, map-append, take_more}
+use Rattle.std.proofs.lemmas.List.Elements.{filter-append}
+use Rattle.std.proofs.lemmas.List.Folds.{list_any-append}
+use Rattle.basket_sets.specs.Itemset.{IsRising, has}
+use Rattle.basket_sets.proofs.theory.Items.{filter-map}
+use Rattle.basket_sets.proofs.theory.Members.{Member, Member-append_left, Member-filter, Member-map, Member-from_map, All-from_Member, first_is_less, rest_is_sorted, not_both_less}
+use Rattle.basket_sets.proofs.theory.Rising.{Member-from_has, cons_rises, first_below, has-from_Member, nil_rises, rest_rises, same_test}
+use Rattle.mine_supports.specs.Extensions.{Group, groups_of, prefixes_of, lists_of, extend, sets_of, has_items, is_some}
+
+-- ---- prefixes and lists
+
+pub prefixes_back : (prefixes lists : List (List ℕ)) → length lists ≡ length prefixes → prefixes_of (groups_of prefixes lists) ≡ prefixes
+prefixes_back [] lists e = refl
+prefixes_back (p ∷ prefixes) [] e = absurd (omega (arith, e))
+prefixes_back (p ∷ prefixes) (l ∷ lists) e = ap (λ r. p ∷ r) (prefixes_back prefixes lists (omega (arith, e)))
+
+pub lists_back : (prefixes lists : List (List ℕ)) → length lists ≡ length prefixes → lists_of (groups_of prefixes lists) ≡ lists
+lists_back [] [] e = refl
+lists_back [] (l ∷ lists) e = absurd (omega (arith, e))
+lists_back (p ∷ prefixes) [] e = absurd (omega (arith, e))
+lists_back (p ∷ prefixes) (l ∷ lists) e = ap (λ r. l ∷ r) (lists_back prefixes lists (omega (arith, e)))
+
+pub groups_back : (groups : List Group) → groups_of (prefixes_of groups) (lists_of groups) ≡ groups
+groups_back [] = refl
+groups_back (group ∷ groups) = ap (λ r. group ∷ r) (groups_back groups)
+
+pub groups_push : (prefixes lists : List (List ℕ)) (prefix items : List ℕ) → length lists ≡ length prefixes
+    → groups_of (prefixes ++ prefix ∷ []) (lists ++ items ∷ []) ≡ groups_of prefixes lists ++ record { prefix = prefix; items = items } ∷ []
+groups_push [] [] prefix items e = refl
+groups_push [] (l ∷ lists) prefix items e = absurd (omega (arith, e))
+groups_push (p ∷ prefixes) [] prefix items e = absurd (omega (arith, e))
+groups_push (p ∷ prefixes) (l ∷ lists) prefix items e = ap (λ r. record { prefix = p; items = l } ∷ r) (groups_push prefixes lists prefix items (omega (arith, e)))
+
+pub sets_push : (groups : List Group) (prefix items : List ℕ) → sets_of (groups ++ record { prefix = prefix; items = items } ∷ []) ≡ sets_of groups ++ extend prefix items
+sets_push groups prefix items =
+    flat_map-append (λ (group : Group). extend group.prefix group.items) groups (record { prefix = prefix; items = items } ∷ [])
+    ∙ ap (λ l. sets_of groups ++ l) (append-nil (extend prefix items))
+
+pub long_push : (prefixes lists : List (List ℕ)) (prefix items : List ℕ) (len : ℕ) → length lists ≡ length prefixes → len ≡ length (sets_of (groups_of prefixes lists))
+    → len + length items ≡ length (sets_of (groups_of (prefixes ++ prefix ∷ []) (lists ++ items ∷ [])))
+long_push prefixes lists prefix items len e is =
+    let all = ap (λ g. length (sets_of g)) (groups_push prefixes lists prefix items e)
+    ∙ ap length (sets_push (groups_of prefixes lists) prefix items)
+    ∙ length-append (sets_of (groups_of prefixes lists)) (extend prefix items) in
+    let more = length-map items (λ item. prefix ++ item ∷ []) in
+    omega (arith, all, more, is)
+
+-- ---- what is kept
+
+filled_step : (prefix items : List ℕ) (rest all : List Group) → sets_of rest ≡ sets_of all → sets_of (cond (is_some items) (record { prefix = prefix; items = items } ∷ rest) rest) ≡ extend prefix items ++ sets_of all
+filled_step prefix [] rest all e = e
+filled_step prefix (x ∷ items) rest all e = ap (λ l. extend prefix (x ∷ items) ++ l) e
+
+-- prefixes that nothing extends have no sets
+pub sets_filled : (groups : List Group) → sets_of (filter has_items groups) ≡ sets_of groups
+sets_filled [] = refl
+sets_filled (group ∷ groups) = filled_step group.prefix group.items (filter has_items groups) groups (sets_filled groups)
+
+abbrev pub passing : (List ℕ → Bool) → Group → Group
+passing passes group = record { prefix = group.prefix; items = filter (λ item. passes (group.prefix ++ item ∷ [])) group.items }
+
+passing_sets : (passes : List ℕ → Bool) (groups : List Group) → sets_of (map (passing passes) groups) ≡ filter passes (sets_of groups)
+passing_sets passes [] = refl
+passing_sets passes (group ∷ groups) =
+    ap (λ l. extend group.prefix (filter (λ item. passes (group.prefix ++ item ∷ [])) group.items) ++ l) (passing_sets passes groups)
+    ∙ ap (λ l. l ++ filter passes (sets_of groups)) (sym (filter-map (λ item. group.prefix ++ item ∷ []) passes group.items))
+    ∙ sym (filter-append passes (extend group.prefix group.items) (sets_of groups))
+
+pub kept_sets : (passes : List ℕ → Bool) (groups : List Group) → sets_of (filter has_items (map (passing passes) groups)) ≡ filter passes (sets_of groups)
+kept_sets passes groups = sets_filled (map (passing passes) groups) ∙ passing_sets passes groups
+
+-- ---- sets, one after another
+
+some_last : (first : List ℕ) (last : ℕ) → is_some (first ++ last ∷ []) ≡ true
+some_last [] last = refl
+some_last (x ∷ first) last = refl
+
+-- one set more
+pub some_more : (sets : List (List ℕ)) (i : ℕ) (set first : List ℕ) (last : ℕ) (before : List (List ℕ)) → i < length sets → set ≡ get_or sets i set → set ≡ first ++ last ∷ [] → before ≡ filter is_some (take i sets)
+    → before ++ (first ++ last ∷ []) ∷ [] ≡ filter is_some (take (i + 1) sets)
+some_more sets i set first last before below is parts same =
+    (λ j. same j ++ cond (sym (some_last first last) j) ((first ++ last ∷ []) ∷ []) [])
+    ∙ sym (filter-append is_some (take i sets) ((first ++ last ∷ []) ∷ []))
+    ∙ ap (λ s. filter is_some (take i sets ++ s ∷ [])) (sym parts ∙ is)
+    ∙ ap (filter is_some) (sym (take_more sets i set below))
+
+pub none_more : (sets : List (List ℕ)) (i : ℕ) (set : List ℕ) (before : List (List ℕ)) → i < length sets → set ≡ get_or sets i set → set ≡ [] → before ≡ filter is_some (take i sets) → before ≡ filter is_some (take (i + 1) sets)
+none_more sets i set before below is none same =
+    same ∙ sym (append-nil (filter is_some (take i sets))) ∙ sym (filter-append is_some (take i sets) ([] ∷ []))
+    ∙ ap (λ s. filter is_some (take i sets ++ s ∷ [])) (sym none ∙ is) ∙ ap (filter is_some) (sym (take_more sets i set below))
+
+-- an item more
+pub item_more : (found : List (List ℕ)) (prefix items : List ℕ) (item : ℕ) → found ++ extend prefix (items ++ item ∷ []) ≡ (found ++ extend prefix items) ++ (prefix ++ item ∷ []) ∷ []
+item_more found prefix items item =
+    ap (λ l. found ++ l) (map-append (λ x. prefix ++ x ∷ []) items (item ∷ [])) ∙ sym (append_assoc found (extend prefix items) ((prefix ++ item ∷ []) ∷ []))
+
+-- an item above the last of rising ones
+pub rises_above : (items : List ℕ) (item : ℕ) → IsRising items → ((last : ℕ) → slice_get items (length items - 1) ≡ Some last → last < item) → IsRising (items ++ item ∷ [])
+rises_above [] item up above = cons_rises item [] (λ y m. absurd m) nil_rises
+rises_above (x ∷ []) item up above = cons_rises x (item ∷ []) (λ y m. elim m [ inl e ↦ (let h = above x refl in omega arith) | inr n ↦ absurd n ]) (cons_rises item [] (λ y m. absurd m) nil_rises)
+rises_above (x ∷ y ∷ items) item up above =
+    let rest = rises_above (y ∷ items) item (rest_rises x (y ∷ items) up) (λ last h. above last (ap (slice_get (x ∷ y ∷ items)) (let e : length (x ∷ y ∷ items) - 1 ≡ suc (length (y ∷ items) - 1) = omega arith in e) ∙ h)) in
+    let less = first_below x (y ∷ items) up y (inl refl) in
+    cons_rises x ((y ∷ items) ++ item ∷ []) (λ z m. elim m [
+      | inl e ↦ (let h = first_below x (y ∷ items) up z (inl e) in h)
+      | inr n ↦ (let h = first_below y (items ++ item ∷ []) rest z n in omega arith)
+    ]) rest
+
+pub above_last : (items : List ℕ) (item last : ℕ) → slice_get items (length items - 1) ≡ Some last → last < item → (other : ℕ) → slice_get items (length items - 1) ≡ Some other → other < item
+above_last items item last is less other e = let same : Some last ≡ Some other = sym is ∙ e in let one : last ≡ other = cc in omega arith
+
+pub above_none : (items : List ℕ) (item : ℕ) → slice_get items (length items - 1) ≡ None → (other : ℕ) → slice_get items (length items - 1) ≡ Some other → other < item
+above_none items item none other e = absurd (let same : None ≡ Some other = sym none ∙ e in cc)
+
+-- ---- a prefix and its items, as they are read
+
+abbrev pub no_group : Group
+no_group = record { prefix = []; items = [] }
+
+pub prefix_read : (groups : List Group) (list : List (List ℕ)) (place : ℕ) (read : List ℕ) → list ≡ prefixes_of groups → place < length groups → read ≡ get_or list place read → read ≡ (get_or groups place no_group).prefix
+prefix_read groups list place read same below is = is ∙ ap (λ l. get_or l place read) same ∙ get_or-map (λ (group : Group). group.prefix) groups place no_group read below
+
+pub items_read : (groups : List Group) (list : List (List ℕ)) (place : ℕ) (read : List ℕ) → list ≡ lists_of groups → place < length groups → read ≡ get_or list place read → read ≡ (get_or groups place no_group).items
+items_read groups list place read same below is = is ∙ ap (λ l. get_or l place read) same ∙ get_or-map (λ (group : Group). group.items) groups place no_group read below
+
+pub groups_long : (groups : List Group) → length (prefixes_of groups) ≡ length groups
+groups_long groups = length-map groups (λ group. group.prefix)
+
+pub lists_long : (groups : List Group) → length (lists_of groups) ≡ length groups
+lists_long groups = length-map groups (λ group. group.items)
+
+-- the front of a rising set rises
+pub front_rises : (front : List ℕ) (last : ℕ) → IsRising (front ++ last ∷ []) → IsRising front
+front_rises [] last up = nil_rises
+front_rises (x ∷ front) last up =
+    cons_rises x front (λ y m. first_below x (front ++ last ∷ []) up y (Member-append_left y front (last ∷ []) m)) (front_rises front last (rest_rises x (front ++ last ∷ []) up))

@@ -1,0 +1,69 @@
+-- Whether an item is among rising ones, and its number.
+use Rattle.std.proofs.Common.{◌≡◌, ◌≢◌, ℕ, ◌<◌, ◌≤◌, ◌+◌, ◌-◌, false, List, [], ◌∷◌, ◌++◌, append-nil, cond, filter, length, get_or, take, inl, inr, ap, subst, sym, ◌∙◌, arith}
+use Rattle.std.proofs.lemmas.Bool.{cases_Bool, cases_eq, cases_lt}
+use Rattle.std.proofs.lemmas.List.{get_or_default, map-append, take_more}
+use Rattle.std.proofs.lemmas.List.Elements.{All-push, filter-append, recursion_from_All}
+use Rattle.std.proofs.lemmas.Map.Keys.{non_decreasing_from_sorted}
+use Rattle.basket_sets.specs.Itemset.{IsRising, has, rising}
+use Rattle.basket_sets.proofs.theory.Members.{Member, Contains-from_Member, Member-filter, Member-from_filter, Member-from_map, Member-map, at_Member}
+use Rattle.basket_sets.proofs.theory.Rising.{Member-from_has, has-from_Member, has_place, same_test}
+use Rattle.basket_sets.proofs.theory.Tests.{rising_at}
+use Rattle.mine_supports.specs.UsedItems.{AreNumbers}
+
+pub nowhere : (items : List ℕ) (item : ℕ) → ((k : ℕ) → k < length items → get_or items k 0 ≢ item) → has items item ≡ false
+nowhere items item none = elim (cases_Bool (has items item)) [
+  | inl e ↦ absurd (let p = Contains-from_Member item items (Member-from_has items item e) in none p.0 p.1 (get_or_default items p.0 0 item p.1 ∙ p.2))
+  | inr e ↦ e
+]
+
+-- an item is missing from rising ones that is above all before a place and below what stands at it
+pub missing : (items : List ℕ) (item place : ℕ) → IsRising items → ((k : ℕ) → k < place → k < length items → get_or items k 0 < item)
+    → (place < length items → item < get_or items place 0) → has items item ≡ false
+missing items item place up below after = nowhere items item (λ k within e. elim (cases_lt k place) [
+  | inl less ↦ let l = below k less within in absurd (omega arith)
+  | inr le ↦ let l = after (omega arith) in let more = non_decreasing_from_sorted items up place k 0 le within in absurd (omega arith)
+])
+
+-- only what stands before the place and at it needs to be looked at
+pub missing_at : (items : List ℕ) (item place : ℕ) → IsRising items → place ≤ length items → (0 < place → get_or items (place - 1) 0 < item)
+    → (place < length items → item < get_or items place 0) → has items item ≡ false
+missing_at items item place up short before after = missing items item place up
+    (λ k low here. let less = before (omega arith) in let le = non_decreasing_from_sorted items up k (place - 1) 0 (omega arith) (omega arith) in omega arith) after
+
+-- an item stands at one place of rising ones
+one_place : (items : List ℕ) (j k : ℕ) → IsRising items → j < length items → k < length items → get_or items j 0 ≡ get_or items k 0 → j ≡ k
+one_place items j k up here there e = elim (cases_lt j k) [
+  | inl less ↦ absurd (let l = rising_at items j k up less there in omega arith)
+  | inr le ↦ elim (cases_eq j k) [ inl same ↦ same | inr differ ↦ absurd (let l = rising_at items k j up (omega arith) here in omega arith) ]
+]
+
+-- the numbers of some items have the number of a used item exactly if these have the item
+pub has_number : (used items numbers : List ℕ) (k : ℕ) → IsRising used → AreNumbers used items numbers → k < length used → has numbers k ≡ has items (get_or used k 0)
+has_number used items numbers k up are within =
+    let item : ℕ = get_or used k 0 in
+    same_test (has numbers k) (has items item)
+    (λ h. has-from_Member items item (Member-filter (has used) item items
+    (subst (Member item) are.named (Member-map (λ n. get_or used n 0) k numbers (Member-from_has numbers k h)))).0)
+    (λ h.
+    let m = Member-from_filter (has used) item items (Member-from_has items item h) (has_place used k within) in
+    let p = Member-from_map (λ n. get_or used n 0) item numbers (subst (Member item) (sym are.named) m) in
+    let below = at_Member (λ n. n < length used) p.0 numbers (recursion_from_All (λ n. n < length used) numbers are.below) p.1 in
+    has-from_Member numbers k (subst (λ n. Member n numbers) (one_place used p.0 k up below within p.2) p.1))
+
+-- one item more
+pub number_more : (used items numbers : List ℕ) (i number : ℕ) → i < length items → number < length used → get_or used number 0 ≡ get_or items i 0
+    → AreNumbers used (take i items) numbers → AreNumbers used (take (i + 1) items) (numbers ++ number ∷ [])
+number_more used items numbers i number here within is are = record {
+  below = All-push (λ n. n < length used) numbers number are.below within;
+  named = map-append (λ n. get_or used n 0) numbers (number ∷ []) ∙ (λ k. are.named k ++ is k ∷ [])
+      ∙ sym (ap (filter (has used)) (take_more items i 0 here) ∙ filter-append (has used) (take i items) (get_or items i 0 ∷ [])
+      ∙ ap (λ b. filter (has used) (take i items) ++ cond b (get_or items i 0 ∷ []) []) (ap (has used) (sym is) ∙ has_place used number within));
+}
+
+pub no_number_more : (used items numbers : List ℕ) (i : ℕ) → i < length items → has used (get_or items i 0) ≡ false → AreNumbers used (take i items) numbers → AreNumbers used (take (i + 1) items) numbers
+no_number_more used items numbers i here none are = record {
+  below = are.below;
+  named = are.named
+      ∙ sym (ap (filter (has used)) (take_more items i 0 here) ∙ filter-append (has used) (take i items) (get_or items i 0 ∷ [])
+      ∙ ap (λ b. filter (has used) (take i items) ++ cond b (get_or items i 0 ∷ []) []) none ∙ append-nil (filter (has used) (take i items)));
+}

@@ -1,0 +1,9 @@
+pub mod BlockCounts
+pub mod Counter
+pub mod Extensions
+pub mod Needed
+pub mod Prefixes
+pub mod Rows
+pub mod Sizes
+pub mod TidWord
+pub mod UsedItems

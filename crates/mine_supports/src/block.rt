@@ -1,0 +1,92 @@
+//! A block of baskets, of which those that sets can be in have places.
+ghost use Rattle.std.specs.Prelude.{◌≡◌, ◌≤◌, [], ℕ, List, IfOk, IsTrue, length, take};
+ghost use Rattle.basket_sets.specs.Database.{MOST_WEIGHT};
+ghost use Rattle.basket_sets.specs.Itemset.{has};
+ghost use Rattle.basket_sets.specs.Support.{total_of};
+ghost use Rattle.mine_supports.specs.Needed.{needed};
+ghost use Rattle.mine_supports.specs.TidWord.{ArePlacesOf, IsRowOf};
+ghost use Rattle.mine_supports.specs.Prefixes.{ArePrefixes};
+ghost use Rattle.mine_supports.specs.Rows.{AreRows};
+
+use crate::prefixes::Prefixes;
+use crate::rows::Rows;
+use crate::tid_words::{TidWord, WORD, add_place};
+use crate::used_items::UsedItems;
+use basket_sets::Weighted;
+use std::alloc::{AllocError, Global};
+
+/// Baskets, of which those with enough used items have a place, and the row of each item that is used.
+#[derive(Drop)]
+pub struct Block<'a> {
+    pub alloc: Global,
+    pub baskets: &'a [Weighted],
+    pub used: &'a UsedItems,
+    pub least: usize,
+    rows: Rows,
+    places: Vec<TidWord>,
+    ghost rows_of: { AreRows used.now (needed used.now least baskets.now) rows },
+    ghost places_of: { ArePlacesOf (needed used.now least baskets.now) [] places.items },
+    ghost light: { total_of (needed used.now least baskets.now) ≤ MOST_WEIGHT },
+}
+
+impl<'a> Block<'a> {
+    /// The block of the first of some baskets: it has this many places at most. A basket with fewer used items than
+    /// `least` has none, since it contains no set of so many.
+    pub fn of(
+        alloc: Global,
+        used: &'a UsedItems,
+        least: usize,
+        baskets: &'a [Weighted],
+        most: usize,
+    ) -> Result<Self, AllocError>
+        requires most { 1 ≤ most }
+        requires light { total_of baskets.now ≤ MOST_WEIGHT }
+        ensures baskets { IfOk result (λ block. block.baskets.now ≡ take (length block.baskets.now) baskets.now) }
+        ensures some { IfOk result (λ block. 1 ≤ length baskets.now → 1 ≤ length block.baskets.now) }
+        ensures used { IfOk result (λ block. (block.used.now ≡ used.now) × (block.least ≡ least)) }
+    {
+        let mut rows = Rows::with_room(alloc, used, most.min(baskets.len()))?;
+        let (mut places, mut numbers) = (Vec::new(alloc), Vec::new(alloc));
+        let (mut read, mut len, mut start) = (0, 0, 0);
+        while read < baskets.len() && len < most {
+            let basket = &baskets[read];
+            used.put_numbers(basket.basket.items(), &mut numbers)?;
+            if numbers.len() >= least {
+                if len % WORD == 0 {
+                    start = places.len();
+                }
+                rows.push(len, &numbers);
+                add_place(&mut places, start, len, basket.weight)?;
+                len += 1;
+            }
+            read += 1;
+        }
+        Ok(Block {
+            alloc,
+            baskets: &baskets[..read],
+            used,
+            least,
+            rows,
+            places,
+        })
+    }
+
+    /// The prefix without items, from which those of sets are found.
+    pub fn prefixes(&self) -> Result<Prefixes, AllocError>
+        ensures { IfOk result (λ prefixes. (items : List ℕ) → ArePrefixes (needed self.now.used.now self.now.least self.now.baskets.now) items prefixes.lists.items) }
+    {
+        Prefixes::of(self.alloc, self.places.to_vec(self.alloc)?)
+    }
+
+    /// The row of an item.
+    #[inline]
+    pub fn row(&self, item: u32) -> &[u64]
+        requires { IsTrue (has self.now.used.now item) }
+        ensures { IsRowOf (needed self.now.used.now self.now.least self.now.baskets.now) item result.now }
+    {
+        let Some(number) = self.used.number(item) else {
+            unreachable!()
+        };
+        self.rows.row(number)
+    }
+}

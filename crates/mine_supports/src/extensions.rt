@@ -1,0 +1,167 @@
+//! Sets as prefixes and the items that extend them.
+ghost use Rattle.std.specs.Prelude.{◌≡◌, ◌++◌, ◌∷◌, ◌↔◌, [], IfOk, IsTrue, OnOk, filter, length};
+ghost use Rattle.basket_sets.specs.Itemset.{IsRising};
+ghost use Rattle.mine_supports.specs.Extensions.{extend, is_some, lists_of, prefixes_of, sets_of};
+ghost use Rattle.mine_supports.specs.Needed.{AreAtLeast};
+
+use basket_sets::Itemset;
+use std::alloc::{AllocError, Global};
+use std::marker::Model;
+
+/// Sets, each as all of its items except the last, which are its prefix, and the last. Sets in a row that share their
+/// prefix have it once.
+#[derive(Debug, Drop)]
+pub struct Extensions {
+    prefixes: Vec<Itemset>,
+    /// For each prefix the items that extend it.
+    lists: Vec<Itemset>,
+    /// The number of sets.
+    len: usize,
+}
+
+impl Model for Extensions {
+    ghost use Rattle.std.specs.Prelude.{◌≡◌, List, length};
+    ghost use Rattle.mine_supports.specs.Extensions.{Group, groups_of, sets_of};
+
+    ghost Value = { List Group };
+
+    ghost view = { λ extensions. groups_of extensions.prefixes.items extensions.lists.items };
+
+    ghost invariant = { λ extensions. (length extensions.lists.items ≡ length extensions.prefixes.items)
+        × (extensions.len ≡ length (sets_of (groups_of extensions.prefixes.items extensions.lists.items))) };
+}
+
+impl Extensions {
+    /// No sets.
+    pub fn new(alloc: Global) -> Self
+        ensures { result ≡ [] }
+    {
+        Extensions {
+            prefixes: Vec::new(alloc),
+            lists: Vec::new(alloc),
+            len: 0,
+        }
+    }
+
+    /// The sets, except those without items. Sets that share their prefix and have rising last items are best given in a
+    /// row, as in report order.
+    pub fn of_sets(alloc: Global, sets: &[Itemset]) -> Result<Self, AllocError>
+        ensures { IfOk result (λ extensions. sets_of extensions ≡ filter is_some sets.now) }
+    {
+        let mut found = Extensions::new(alloc);
+        let mut prefix: &[u32] = &[];
+        let mut items = Vec::new(alloc);
+        for set in sets {
+            if let Some((last, first)) = set.items().split_last() {
+                if first != prefix || !rises(&items, *last) {
+                    found = found.with_items(alloc, prefix, &items)?;
+                    prefix = first;
+                    items.clear();
+                }
+                items.push(*last)?;
+            }
+        }
+        found.with_items(alloc, prefix, &items)
+    }
+
+    /// The sets, and then those of one more prefix.
+    pub fn with_items(
+        self,
+        alloc: Global,
+        prefix: &[u32],
+        items: &[u32],
+    ) -> Result<Self, AllocError>
+        requires prefix { IsRising prefix.now }
+        requires items { IsRising items.now }
+        ensures { IfOk result (λ more. more ≡ self ++ record { prefix = prefix.now; items = items.now } ∷ []) }
+    {
+        let Extensions {
+            mut prefixes,
+            mut lists,
+            len,
+        } = self;
+        let Some(len) = len.checked_add(items.len()) else {
+            return Err(AllocError);
+        };
+        prefixes.push(Itemset::from_items(alloc, prefix)?)?;
+        lists.push(Itemset::from_items(alloc, items)?)?;
+        Ok(Extensions {
+            prefixes,
+            lists,
+            len,
+        })
+    }
+
+    /// The number of sets.
+    pub fn len(&self) -> usize
+        ensures { result ≡ length (sets_of self.now) }
+    {
+        self.len
+    }
+
+    pub fn is_empty(&self) -> bool
+        ensures { IsTrue result ↔ (sets_of self.now ≡ []) }
+    {
+        self.len == 0
+    }
+
+    /// A number of items that each of the sets has at least.
+    pub fn least_items(&self) -> usize
+        ensures { AreAtLeast result (sets_of self.now) }
+    {
+        let mut least = usize::MAX;
+        for (number, items) in self.lists.iter().enumerate() {
+            least = least.min(least_of(self.prefixes[number].items(), items.items()));
+        }
+        least
+    }
+
+    /// The prefixes.
+    pub fn prefixes(&self) -> &[Itemset]
+        ensures { result.now ≡ prefixes_of self.now }
+    {
+        &self.prefixes
+    }
+
+    /// For each prefix the items that extend it.
+    pub fn lists(&self) -> &[Itemset]
+        ensures { result.now ≡ lists_of self.now }
+    {
+        &self.lists
+    }
+}
+
+/// Whether an item can be added to rising ones.
+fn rises(items: &[u32], item: u32) -> bool
+    requires { IsRising items.now }
+    ensures { IsTrue result → IsRising (items.now ++ item ∷ []) }
+{
+    match items.last() {
+        Some(last) => *last < item,
+        None => true,
+    }
+}
+
+/// A number of items that a prefix has at least with any of the items that extend it.
+fn least_of(prefix: &[u32], items: &[u32]) -> usize
+    requires prefix { IsRising prefix.now }
+    requires items { IsRising items.now }
+    ensures { AreAtLeast result (extend prefix.now items.now) }
+{
+    if let Some(first) = items.first() {
+        if rises(prefix, *first) {
+            return prefix.len() + 1;
+        }
+    }
+    prefix.len()
+}
+
+/// Makes a set of a prefix and one item more. The room of its items is used again.
+pub fn put_extended(set: &mut Vec<u32>, prefix: &[u32], item: u32) -> Result<(), AllocError>
+    ensures { OnOk result (set.new.items ≡ prefix.now ++ item ∷ []) }
+{
+    set.clear();
+    set.extend_from_slice(prefix)?;
+    set.push(item)?;
+    Ok(())
+}

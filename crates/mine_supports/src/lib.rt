@@ -1,0 +1,20 @@
+//! The supports of given sets, counted by rows of bits.
+//!
+//! Sets are kept as `extensions`: prefixes, and the items that extend them. `shard` counts them by a
+//! `counter`: in each `block` of baskets the `used_items` have `rows` of bits, and the `tid_words` of
+//! the baskets that contain a set are found from those of its `prefixes` (`block_counts`).
+#![tactic(auto)]
+
+mod block;
+mod block_counts;
+mod counter;
+mod extensions;
+mod prefixes;
+mod rows;
+mod shard;
+mod tid_words;
+mod used_items;
+
+pub use counter::RowCounter;
+pub use extensions::{Extensions, put_extended};
+pub use shard::{count_extensions, count_shard};
