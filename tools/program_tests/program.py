@@ -11,6 +11,7 @@ from pathlib import Path
 ROOT = Path(__file__).parents[2]
 PROGRAM = os.environ.get("BASKET", str(ROOT / "crates/basket_cli/out/basket_cli"))
 SECONDS = 120
+MINERS = ("apriori", "eclat", "eclat-diff", "eclat-bits", "fpgrowth")
 
 
 @dataclass(frozen=True)
