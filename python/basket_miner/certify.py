@@ -139,7 +139,7 @@ class Report:
     def weight(self, cover: int) -> int:
         if time.monotonic() > self.until:
             raise TimeoutError
-        return sum((cover & self.rows[~bit]).bit_count() << bit for bit in self.bits)
+        return sum((cover & self.rows[~b]).bit_count() << b for b in self.bits if cover)
 
     def count(self, items: Itemset) -> int:
         return self.known.get(items) or self.weight(self.cover(items))
