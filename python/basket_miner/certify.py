@@ -10,6 +10,7 @@ import re
 import time
 from collections import Counter
 from collections.abc import Iterator
+from contextlib import suppress
 from fractions import Fraction
 from functools import reduce
 from itertools import chain, combinations, groupby, islice
@@ -29,7 +30,7 @@ _MOST_NUMBER, _MOST_WEIGHT, _MOST_DRAWN = 2**32 - 1, 2**40 - 1, 1_000
 
 
 class Question(NamedTuple):
-    """What is asked of which baskets, by the keywords of the package and the values of the command line."""
+    """The keywords of `certify`: what is asked of which baskets, with the values of the command line."""
 
     ask: str
     minimum: str
@@ -59,9 +60,8 @@ def _share(text: str) -> Fraction:
 
 def _lines(text: str) -> Iterator[Basket]:
     """The baskets of FIMI text, each with its weight."""
-    line_of = re.compile(r"[ \t\r]*(?:([0-9]+)x)?([0-9 \t\r]*)")
     for place, line in enumerate(text.split("\n"), 1):
-        if not (found := line_of.fullmatch(line)):
+        if not (found := re.fullmatch(r"[ \t\r]*(?:([0-9]+)x)?([0-9 \t\r]*)", line)):
             raise ValueError(f"line {place} is no basket")
         weight = _number(found[1] or "1", _MOST_NUMBER, 1)
         if items := {_number(word, _MOST_NUMBER) for word in found[2].split()}:
@@ -90,13 +90,11 @@ def _baskets(text: str, question: Question) -> tuple[list[Basket], list[str]]:
     baskets: dict[str, Basket] = {}
     records = islice(_records(text, SEPARATORS[question.sep]), question.header, None)
     for place, (_, fields) in enumerate(records):
-        # This fails if a field is not UTF-8.
-        "".join(fields).encode()
+        "".join(fields).encode()  # which fails if a field is not UTF-8
         names = [field.strip(" \t") for field in fields]
         key, weight = str(place), 1
         if question.form == "single":
-            # This fails if there are fewer than two fields.
-            key, name, *_ = names
+            key, name, *_ = names  # which fails if there are fewer
             names = [name]
         elif question.weighted:
             weight = _number(names.pop(0), _MOST_NUMBER, 1)
@@ -162,8 +160,7 @@ class Report:
             if self.ask == "rules":
                 yield from chain.from_iterable(map(self.rules, level))
             elif self.ask in ("closed", "maximal"):
-                # Supersets with one item more decide.
-                covered = {
+                covered = {  # supersets with one item more decide
                     part
                     for items, count in level.items()
                     for part in combinations(items, len(items) - 1)
@@ -186,6 +183,8 @@ class Report:
     def text(self, sides: Sides) -> str:
         """A line with its figures, which are those of the baskets."""
         count = self.count(tuple(sorted(chain(*sides))))
+        if count < self.least:
+            raise ValueError(f"{count} is below the minimum")
         figures = [str(count)]
         if len(sides) == 2:
             confidence = Fraction(count, self.count(sides[0]))
@@ -217,8 +216,10 @@ class Report:
         lines = [line for line, _ in _records(rest, self.separator or "\0")]
         drawn = random.sample(lines, min(len(lines), _MOST_DRAWN))
         for line in drawn:
-            if self.text(self.read(line)) != line:
-                raise WrongReport(f"{line!r} has other figures")
+            with suppress(ValueError, LookupError, ArithmeticError):
+                if self.text(self.read(line)) == line:
+                    continue
+            raise WrongReport(f"{line!r} should not be there")
         return f"of {len(lines)} more, {len(drawn)} were drawn and have right figures"
 
 
@@ -236,8 +237,7 @@ def certify(
     if not is_known or (asked.ask == "rules") != bool(asked.confidence):
         raise ValueError(f"{asked} is not a question")
     right = Report(_text(baskets).removeprefix("\ufeff"), asked)
-    right.until = time.monotonic() + seconds
-    place = lines = 0
+    right.until, place, lines = time.monotonic() + seconds, 0, 0
     try:
         for line in map(right.text, right.sides()):
             if not shown.startswith(line, place):
