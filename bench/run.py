@@ -199,7 +199,10 @@ def main() -> None:
         if given.frames:
             found += bench.frames(given.frames)
     made = f"{machine()}; {datetime.date.today()}; {commit}; {output('rt', 'version')}."
-    how = f"Least processor time and most memory of {RUNS} runs in turn."
+    how = (
+        f"Least processor time and most memory of {RUNS} runs in turn. The tables were measured one "
+        "after another, so compare figures of one table, not of two."
+    )
     head = ["# Results", "", f"{made} {how}", BESIDE if given.beside else ""]
     text = "\n".join([*head, *found, ""])
     (HERE / "RESULTS.md").write_text(text, encoding="utf-8")

@@ -39,11 +39,13 @@ of util-linux.
 The program has the package's version, or a later one of the same major version.
 
 `tidy` makes a row for each item, `recommend` says what to offer to baskets by rules, `explore` writes a
-page that shows rules in a browser, `basket_miner.frequent_patterns` has the calls of mlxtend, and
-`basket_miner.cluster` asks parts of the baskets on a Dask cluster.
+page that shows rules in a browser, `certify` checks a report of the program against its baskets by other
+code, `basket_miner.frequent_patterns` has the calls of mlxtend, and `basket_miner.cluster` asks parts of
+the baskets on a Dask cluster.
 
 All errors are of the family `BasketError`, except that a keyword that a call doesn't take is a
-`TypeError`, as in all of Python. Some have advice as a note, which a traceback shows below the
+`TypeError`, as in all of Python, and that `certify` raises a `ValueError`, which is a `WrongReport` if
+the report is wrong. Some have advice as a note, which a traceback shows below the
 message; `TooManySets.limit` and `InputError.line` are the numbers that the message has.
 """
 
@@ -65,6 +67,7 @@ from ._recommend import recommend
 from ._rules import count, rules
 from ._tidy import tidy
 from ._version import __version__
+from .certify import WrongReport, certify
 
 __all__ = [
     "BasketError",
@@ -76,8 +79,10 @@ __all__ = [
     "ProgramMissing",
     "TooManySets",
     "UsageError",
+    "WrongReport",
     "__version__",
     "baskets",
+    "certify",
     "closed",
     "count",
     "explore",

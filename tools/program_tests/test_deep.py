@@ -6,9 +6,8 @@ import tempfile
 import unittest
 
 from .inputs import Baskets, fimi
-from .program import Run, run
+from .program import MINERS, Run, run
 from .test_counted import NO_SUBSET
-from .test_miners import MINERS
 
 STACK = 1 << 18
 ITEMS = 70_000

@@ -12,7 +12,7 @@ from package import lost_links
 from .program import ROOT, run, run_script
 
 COMMANDS = ("items", "sets", "closed", "maximal", "rules", "count")
-DOCUMENTS = ("README.md", "man/basket.1")
+DOCUMENTS = ("README.md", "docs/FAQ.md", "man/basket.1")
 COMPLETIONS = (
     "completions/basket.bash",
     "completions/_basket",
@@ -102,10 +102,14 @@ class Documents(unittest.TestCase):
         quoted = [
             line.strip() for line in theorem.splitlines() if line.startswith("    ")
         ]
-        self.assertGreater(len(quoted), 10)
-        source = text_of("crates/basket/src/engine.rt") + text_of(
-            "crates/basket/specs/Outcome.antt"
+        self.assertGreater(len(quoted), 20)
+        places = (
+            "basket/src/engine.rt",
+            "basket/specs/Outcome.antt",
+            "basket/specs/Count.antt",
+            "basket_main/src/program.rt",
         )
+        source = "\n".join(text_of(f"crates/{place}") for place in places)
         stated = {line.strip() for line in source.splitlines()}
         self.assertEqual([line for line in quoted if line and line not in stated], [])
 

@@ -13,9 +13,8 @@ from collections import Counter
 from fractions import Fraction
 
 from . import inputs
-from .program import Run, run
+from .program import MINERS, Run, run
 
-MINERS = ("apriori", "eclat", "eclat-diff", "eclat-bits", "fpgrowth")
 INPUTS = {
     "shop": inputs.shop,
     "dense": inputs.dense,

@@ -11,7 +11,7 @@ from pathlib import Path
 from typing import ClassVar
 
 from . import inputs
-from .program import PROGRAM, ROOT, SECONDS, Run
+from .program import MINERS, PROGRAM, ROOT, SECONDS, Run
 from .test_miners import ANSWERS, summed
 from .test_reports import NINE_BASKETS, SETS
 
@@ -19,8 +19,6 @@ COMPILER = shutil.which("cc")
 OUT_OF_MEMORY = Run(b"", "basket: out of memory\n", 6)
 # Faults of the file of `--sets` begin so.
 OUT_IN_THE_SETS = Run(b"", "basket: in the sets: out of memory\n", 6)
-
-MINERS = ("apriori", "eclat", "eclat-diff", "eclat-bits", "fpgrowth")
 
 # Three baskets as each form has them, and of them the sets that `count` is asked for.
 FORMS = {

@@ -3,7 +3,7 @@
 import itertools
 import unittest
 
-from .program import run
+from .program import MINERS, run
 
 NINE_BASKETS = b"1 2 5\n2 4\n2 3\n1 2 4\n1 3\n2 3\n1 3\n1 2 3 5\n1 2 3\n"
 WEIGHTED = b"1 2 5\n2 4\n2x 2 3\n1x 1 2 4\n02x1 3\n1 2 3 5\n1 2 3\n"
@@ -276,9 +276,8 @@ class Reports(unittest.TestCase):
     def test_the_report_is_the_same_by_each_miner_and_any_number_of_workers(
         self,
     ) -> None:
-        miners = ("apriori", "eclat", "eclat-diff", "eclat-bits", "fpgrowth")
         for (words, status, wanted), miner, workers, pieces in itertools.product(
-            SHARED, miners, ("1", "2", "7"), ("1", "2", "16")
+            SHARED, MINERS, ("1", "2", "7"), ("1", "2", "16")
         ):
             with self.subTest(words=words, miner=miner, workers=workers, pieces=pieces):
                 more = ["--miner", miner, "--workers", workers, "--pieces", pieces]

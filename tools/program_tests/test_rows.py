@@ -12,7 +12,7 @@ from collections import Counter
 from functools import partial
 
 from . import inputs
-from .program import PROGRAM, SECONDS, run
+from .program import MINERS, PROGRAM, SECONDS, run
 from .test_reports import (
     CLOSED,
     ITEMS,
@@ -25,7 +25,6 @@ from .test_reports import (
     WEIGHTED,
 )
 
-MINERS = ("apriori", "eclat", "eclat-diff", "eclat-bits", "fpgrowth")
 WORKERS = ("1", "2", "7")
 FOUR_BASKETS = b"1 2 3\n1 3\n1 2\n1 2\n"
 FOUR_BASKETS_SETS = "1 (4)|2 (3)|3 (2)|1 2 (3)|1 3 (2)|2 3 (1)|1 2 3 (1)|"
