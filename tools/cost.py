@@ -18,7 +18,7 @@ def free_memory() -> int:
     return 0
 
 
-def minutes(seconds: float) -> str:
+def clock(seconds: float) -> str:
     whole, rest = divmod(round(seconds), 60)
     return f"{whole}:{rest:02}"
 
@@ -43,6 +43,6 @@ class Cost:
     def __str__(self) -> str:
         used = self._processor_seconds() - self._before
         return (
-            f"{minutes(self.seconds())} minutes by the clock, {used:,.0f} processor seconds, "
+            f"{clock(self.seconds())} by the clock, {used:,.0f} processor seconds, "
             f"{processors()} processors, {self._memory / 1e9:.0f} GB of memory free at the start"
         )

@@ -25,6 +25,7 @@ DOCUMENTS = (
     "NOTICE",
     "docs/*.md",
     "docs/pictures/*.png",
+    "bench/COST.md",
     "bench/RESULTS.md",
     "examples/*",
     "python/README.md",

@@ -21,7 +21,7 @@ from collections.abc import Iterator
 from pathlib import Path
 
 import kit
-from cost import Cost, free_memory, minutes, processors
+from cost import Cost, clock, free_memory, processors
 from crates import built, copy_to, is_program, listed, needed
 
 # What the checker says of a crate begins and ends so. A crate that an earlier run proved has no more than its end.
@@ -119,7 +119,7 @@ def prove(names: list[str], tree: Path) -> Report:
             if name := report.take(line):
                 done = len(report.proved) + len(report.kept)
                 say(
-                    f"{name}: proved, {done} of {len(names)} after {minutes(cost.seconds())}"
+                    f"{name}: proved, {done} of {len(names)} after {clock(cost.seconds())}"
                 )
     except subprocess.CalledProcessError:
         say(f"Not proved. What the checker said:\n{report.text()}")

@@ -1,6 +1,7 @@
 """README, manual page, completions and change log say what the program does."""
 
 import contextlib
+import itertools
 import re
 import subprocess
 import tempfile
@@ -192,6 +193,14 @@ class Documents(unittest.TestCase):
     def test_the_program_of_the_library_page_is_the_one_that_runs(self) -> None:
         shown_there = re.findall(r"(?s)```rust\n(.*?)```", text_of("docs/LIBRARY.md"))
         self.assertEqual(shown_there, [text_of("crates/basket_example/src/main.rt")])
+
+    def test_no_page_but_one_says_how_long_a_build_takes(self) -> None:
+        pages = [*map(ROOT.glob, ("*.md", "Makefile", "tools/*.py", "man/*"))]
+        others = [path for path in ROOT.glob("docs/*.md") if path.stem != "GUIDE"]
+        for path in [*itertools.chain(*pages), *others]:
+            told = re.findall(r"\b(?:\w+) (?:minutes?|hours?)\b", text_of(str(path)))
+            with self.subTest(page=path.name):
+                self.assertEqual(told, [])
 
     def test_each_link_between_documents_leads_to_a_file_that_is_packaged(self) -> None:
         with contextlib.chdir(ROOT):
