@@ -1,9 +1,11 @@
 """What the tools say where something failed."""
 
+import contextlib
 import tempfile
 import unittest
 from pathlib import Path
 
+from edits import Edit
 from package import links_of
 from prove import Report
 
@@ -63,3 +65,20 @@ class Tools(unittest.TestCase):
                 links_of(str(page)),
                 [f"{folder}/a.md", f"{above}/b.png", f"{folder}/h.png"],
             )
+
+    def test_an_edit_is_applied_only_where_its_text_stands_once(self) -> None:
+        rows = {
+            "let a = 1;": None,
+            "let b = 2;": "its text stands not once in its file: let b = 2;",
+            "let c = 3;": "its text stands not once in its file: let c = 3;",
+        }
+        with tempfile.TemporaryDirectory() as folder, contextlib.chdir(folder):
+            source = Path("crates/one/src/lib.rt")
+            source.parent.mkdir(parents=True)
+            source.write_text("let a = 1;\nlet b = 2;\nlet b = 2;\n", encoding="utf-8")
+            for text, wanted in rows.items():
+                edit = Path("crates/one/other.edit")
+                lines = f"file: src/lib.rt\nold: {text}\nnew: let a = 0;\n"
+                edit.write_text(lines, encoding="utf-8")
+                with self.subTest(text=text):
+                    self.assertEqual(Edit("one", edit).fault(), wanted)

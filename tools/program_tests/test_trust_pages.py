@@ -8,7 +8,7 @@ from .program import ROOT
 
 CRATES = ROOT / "crates"
 # What the theorem is stated in: `run` cites words of both files.
-ROOTS = (("basket", "Outcome"), ("basket", "Engine"))
+ROOTS = (("basket_outcome", "Outcome"), ("basket", "Engine"))
 
 SpecFile = tuple[str, str]
 
