@@ -3,6 +3,7 @@ ghost use Rattle.std.specs.Prelude.{◌≡◌, ◌<◌, ◌++◌, [], ◌∷◌,
 ghost use Rattle.basket_lists.specs.Packed.{Coding, IsKept, kept};
 
 use crate::counted_sets::CountedSets;
+use crate::counted_sets::push::{push_elsewhere, push_word};
 use crate::packed::Packed;
 use crate::plain::PlainSets;
 use std::alloc::{AllocError, Global};
@@ -69,11 +70,12 @@ pub fn append_word(
         → OnOk result (map (kept coding plain.new) words.new.items ≡ map (kept coding plain.old) words.old.items ++ kept coding other_plain.now other ∷ []) }
 {
     match other.place() {
-        None => Ok(words.push(other)?),
-        Some(place) => {
-            let word = Packed::elsewhere(plain.len());
-            plain.push(other_plain.items(place), other_plain.count(place))?;
-            Ok(words.push(word)?)
-        }
+        None => push_word(words, other),
+        Some(place) => push_elsewhere(
+            words,
+            plain,
+            other_plain.items(place),
+            other_plain.count(place),
+        ),
     }
 }
