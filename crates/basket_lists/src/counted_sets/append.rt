@@ -17,11 +17,17 @@ impl CountedSets {
     pub fn append(&mut self, alloc: Global, other: CountedSets) -> Result<(), AllocError>
         ensures { OnOk result (self.new ≡ self.old ++ other) }
     {
+        self.append_all(alloc, &other)
+    }
+
+    fn append_all(&mut self, alloc: Global, other: &CountedSets) -> Result<(), AllocError>
+        ensures { OnOk result (self.new ≡ self.old ++ other.now) }
+    {
         let few = self.known.len() / ITEMS_COMPARED;
         if other.len() >= few && self.known.is_same(&other.known) {
             return append_words(&mut self.words, &mut self.plain, &other.words, &other.plain);
         }
-        self.append_each(alloc, &other)
+        self.append_each(alloc, other)
     }
 
     /// Adds the sets of another list one by one.
