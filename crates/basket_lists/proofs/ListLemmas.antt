@@ -4,7 +4,7 @@ use Rattle.std.specs.Prelude.{All}
 use Rattle.std.proofs.lemmas.Bool.{cases_lt, false_from_ne_true, lt-ltb, ltb-true}
 use Rattle.std.proofs.lemmas.List.{get_or-map, get_or_append_left, length-append, map-append, take-append-le, take_all}
 use Rattle.std.specs.List.{AllByRecursion}
-use Rattle.std.proofs.lemmas.List.Elements.{All-push, recursion_from_All}
+use Rattle.std.proofs.lemmas.List.Elements.{recursion_from_All}
 use Rattle.std.specs.List.Sorted.{IsPermutation}
 use Rattle.std.proofs.lemmas.List.Sorted.{All-permutation, IsPermutation-map, length_permutation}
 use Rattle.std.proofs.Math.Seq.{get_or-append_seam}
@@ -29,6 +29,13 @@ kept_elsewhere coding plain packed place is =
 -- a set of a word rises
 pub packed_rises : (coding : Coding) (packed : Packed) → IsCoding coding → IsPacked coding packed → IsRising (unpacked coding packed).set
 packed_rises coding packed is set = items_rise coding.items _ is.rises set.code.rises (λ place m. set.code.below place (has-from_Member _ place m))
+
+module _ (coding : Coding) (plain : List Counted) (packed : Packed) (is : IsPacked coding packed) where
+  pub packed_is_kept : IsKept coding plain packed
+  packed_is_kept = record { small = omega (arith, is.here); here = λ less. is; elsewhere = λ above. absurd (omega (arith, is.here, above)) }
+
+  pub packed_pushed : (words : List Packed) → map (kept coding plain) (words ++ packed ∷ []) ≡ map (kept coding plain) words ++ unpacked coding packed ∷ []
+  packed_pushed words = map-append (kept coding plain) words (packed ∷ []) ∙ ap (λ c. map (kept coding plain) words ++ c ∷ []) (kept_here coding plain packed is.here)
 
 -- ---- more sets elsewhere
 
@@ -59,12 +66,12 @@ module _ (coding : Coding) (plain more : List Counted) where
 -- a set that is added elsewhere
 module _ (coding : Coding) (plain : List Counted) (words : List Packed) (one : Counted) (word : Packed) (all : All (IsKept coding plain) words)
     (at : word.word ≡ 2 ^ 127 + length plain) (few : length plain < 2 ^ 63) where
-  pub words_pushed : All (IsKept coding (plain ++ one ∷ [])) (words ++ word ∷ [])
-  words_pushed = All-push (IsKept coding (plain ++ one ∷ [])) words word (words_kept coding plain (one ∷ []) words all) (record {
+  pub word_pushed : IsKept coding (plain ++ one ∷ []) word
+  word_pushed = record {
     small = omega (arith, at, few);
     here = λ less. absurd (omega (arith, at, less));
     elsewhere = λ above. omega (arith, at, length-append plain (one ∷ []));
-  })
+  }
 
   pub sets_pushed : map (kept coding (plain ++ one ∷ [])) (words ++ word ∷ []) ≡ map (kept coding plain) words ++ one ∷ []
   sets_pushed =

@@ -1,5 +1,6 @@
 //! The items that sets are known to have.
 ghost use Rattle.std.specs.Prelude.{◌≡◌, ◌<◌, ◌≤◌, ◌-◌, ◌^◌, ◌%◌, [], IfOk, IfSome, IsTrue, length, map, slice_index_or, take};
+ghost use Rattle.std.specs.Arc.{arc_slice_items};
 ghost use Rattle.basket_lists.specs.Packed.{IsCoding, IsPacked, code_of, number_of, size_of, unpacked};
 ghost use Rattle.basket_sets.specs.Itemset.{IsRising};
 
@@ -41,29 +42,34 @@ impl Model for KnownItems {
 }
 
 /// The items in rising order, or none if one comes twice.
-fn rising_items(alloc: Global, items: &[u32]) -> Result<Vec<u32>, AllocError>
-    ensures { IfOk result (λ rising. IsRising rising.items) }
+fn rising_items(alloc: Global, items: &[u32]) -> Result<ArcSlice<u32>, AllocError>
+    ensures { IfOk result (λ rising. IsRising (arc_slice_items rising)) }
 {
     let mut items = items.to_vec(alloc)?;
     items.sort_unstable();
-    if is_rising(&items) {
-        return Ok(items);
+    if !is_rising(&items) {
+        items.clear();
     }
-    Ok(Vec::new(alloc))
+    ArcSlice::from_vec(items)
 }
 
 /// The places of items, each in the slot of its lowest bits. There are at least twice as many slots as
 /// items.
-fn slots_of(alloc: Global, items: &[u32]) -> Result<Vec<usize>, AllocError> {
+fn slots_of(alloc: Global, items: &[u32]) -> Result<ArcSlice<usize>, AllocError> {
     let count = items.len().saturating_mul(2).checked_next_power_of_two();
     let mut slots = vec![in alloc; 0usize; count.unwrap_or(1)]?;
+    put_places(&mut slots, items);
+    ArcSlice::from_vec(slots)
+}
+
+/// Puts the place of each item into the slot of its lowest bits.
+fn put_places(slots: &mut [usize], items: &[u32]) {
     for place in 0..items.len() {
         let slot = items[place] as usize & slots.len().saturating_sub(1);
         if slot < slots.len() {
             slots[slot] = place;
         }
     }
-    Ok(slots)
 }
 
 /// How many bits a number takes, at least one.
@@ -90,11 +96,12 @@ impl KnownItems {
         ensures { IfOk result IsCoding }
     {
         let items = rising_items(alloc, items)?;
+        let slots = slots_of(alloc, &items)?;
         let count_bits = bits_of(most);
         let item_bits = bits_of(items.len().saturating_sub(1) as u64);
         Ok(KnownItems {
-            slots: ArcSlice::from_vec(slots_of(alloc, &items)?)?,
-            items: ArcSlice::from_vec(items)?,
+            items,
+            slots,
             item_bits,
             most: ((SIZE_AT - count_bits) / item_bits).min(MOST_ITEMS as u32),
             count_bits,

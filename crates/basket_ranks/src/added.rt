@@ -24,21 +24,22 @@ pub fn add_counts(
         ours.split_first(),
         theirs.split_first(),
     ) {
-        match first.0.cmp(&other.0) {
+        let entry = match first.0.cmp(&other.0) {
             Ordering::Less => {
-                counts.push(*first)?;
                 ours = rest;
+                *first
             }
             Ordering::Equal => {
-                counts.push((first.0, first.1 + other.1))?;
                 ours = rest;
                 theirs = others;
+                (first.0, first.1 + other.1)
             }
             Ordering::Greater => {
-                counts.push(*other)?;
                 theirs = others;
+                *other
             }
-        }
+        };
+        counts.push(entry)?;
     }
     counts.extend_from_slice(ours)?;
     counts.extend_from_slice(theirs)?;

@@ -1,4 +1,4 @@
-use Rattle.std.specs.Prelude.{◌≡◌, ℕ, zero, suc, Bool, false, IsTrue, ◌<◌, List, [], ◌∷◌, ◌++◌, ◌==◌, decimal, length, nat_lt, slice_index, take, if◌then◌else◌}
+use Rattle.std.specs.Prelude.{ℕ, zero, suc, Bool, IsTrue, ◌<◌, List, [], ◌∷◌, ◌++◌, ◌==◌, decimal, nat_lt, if◌then◌else◌}
 use Rattle.std.specs.List.{flat_map, list_any, list_all}
 use Rattle.std.specs.List.Sorted.{IsStrictlySortedBy}
 use Rattle.std.specs.Ordering.{nat_cmp}

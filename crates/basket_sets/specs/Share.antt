@@ -35,9 +35,12 @@ text_before byte text = before_first (λ other. other == byte) text
 abbrev pub text_after : ℕ → List ℕ → List ℕ
 text_after byte text = after_first (λ other. other == byte) text
 
--- the share that a text writes: `2/9` as digits, a slash and digits, or `22%` as digits and a percent sign
+-- the share that a text writes as a percentage: `22%` as digits and a percent sign
+abbrev pub percentage_of : List ℕ → Option (ℕ × ℕ)
+percentage_of text = if has_byte PERCENT text && length (text_after PERCENT text) == 0 then ratio_of (number_of GREATEST_PART (text_before PERCENT text)) (Some 100) else None
+
+-- the share that a text writes: `2/9` as digits, a slash and digits, or a percentage
 abbrev pub share_of : List ℕ → Option (ℕ × ℕ)
 share_of text =
     if has_byte SLASH text then ratio_of (number_of GREATEST_PART (text_before SLASH text)) (number_of GREATEST_PART (text_after SLASH text))
-    else (if has_byte PERCENT text && length (text_after PERCENT text) == 0 then ratio_of (number_of GREATEST_PART (text_before PERCENT text)) (Some 100)
-    else None)
+    else percentage_of text

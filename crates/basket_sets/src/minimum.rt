@@ -8,7 +8,7 @@ use crate::share::{Share, parse_share};
 const MAX_COUNT: u64 = 1_099_511_627_775;
 
 /// The least support that is asked for (Agrawal and Srikant 1994).
-#[derive(Clone, Copy, Debug, PartialEq, Eq, Hash)]
+#[derive(Clone, Copy, Debug, PartialEq, Eq)]
 pub enum Minimum {
     /// At least this weight.
     Count(u64),

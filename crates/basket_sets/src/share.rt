@@ -1,13 +1,13 @@
 //! Shares of a whole.
 ghost use Rattle.std.specs.Prelude.{◌≡◌, ◌≤◌, Some};
-ghost use Rattle.basket_sets.specs.Share.{ratio_of, share_of};
+ghost use Rattle.basket_sets.specs.Share.{percentage_of, ratio_of, share_of};
 ghost use Rattle.basket_sets.specs.Number.{number_of};
 
 use crate::number::parse_number;
 use std::marker::Model;
 
 /// A fraction of a whole, from 0 to 1: a numerator and a denominator.
-#[derive(Clone, Copy, Debug, PartialEq, Eq, Hash)]
+#[derive(Clone, Copy, Debug, PartialEq, Eq)]
 pub struct Share {
     numerator: u32,
     denominator: u32,
@@ -59,15 +59,20 @@ impl Share {
 pub fn parse_share(text: &str) -> Option<Share>
     ensures { result ≡ share_of text.now }
 {
-    if let Some((numerator, denominator)) = text.split_once('/') {
-        return Share::new(part(numerator)?, part(denominator)?);
+    match text.split_once('/') {
+        Some((numerator, denominator)) => Share::new(part(numerator)?, part(denominator)?),
+        None => percentage(text),
     }
+}
+
+fn percentage(text: &str) -> Option<Share>
+    ensures { result ≡ percentage_of text.now }
+{
     let (percent, rest) = text.split_once('%')?;
-    if rest.is_empty() {
-        Share::new(part(percent)?, 100)
-    } else {
-        None
+    if !rest.is_empty() {
+        return None;
     }
+    Share::new(part(percent)?, 100)
 }
 
 fn part(text: &str) -> Option<u32>

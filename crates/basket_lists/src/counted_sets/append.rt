@@ -3,6 +3,7 @@ ghost use Rattle.std.specs.Prelude.{◌≡◌, ◌<◌, ◌++◌, [], ◌∷◌,
 ghost use Rattle.basket_lists.specs.Packed.{Coding, IsKept, kept};
 
 use crate::counted_sets::CountedSets;
+use crate::counted_sets::push::{push_elsewhere, push_word};
 use crate::packed::Packed;
 use crate::plain::PlainSets;
 use std::alloc::{AllocError, Global};
@@ -16,11 +17,17 @@ impl CountedSets {
     pub fn append(&mut self, alloc: Global, other: CountedSets) -> Result<(), AllocError>
         ensures { OnOk result (self.new ≡ self.old ++ other) }
     {
+        self.append_all(alloc, &other)
+    }
+
+    fn append_all(&mut self, alloc: Global, other: &CountedSets) -> Result<(), AllocError>
+        ensures { OnOk result (self.new ≡ self.old ++ other.now) }
+    {
         let few = self.known.len() / ITEMS_COMPARED;
         if other.len() >= few && self.known.is_same(&other.known) {
             return append_words(&mut self.words, &mut self.plain, &other.words, &other.plain);
         }
-        self.append_each(alloc, &other)
+        self.append_each(alloc, other)
     }
 
     /// Adds the sets of another list one by one.
@@ -69,11 +76,12 @@ pub fn append_word(
         → OnOk result (map (kept coding plain.new) words.new.items ≡ map (kept coding plain.old) words.old.items ++ kept coding other_plain.now other ∷ []) }
 {
     match other.place() {
-        None => Ok(words.push(other)?),
-        Some(place) => {
-            let word = Packed::elsewhere(plain.len());
-            plain.push(other_plain.items(place), other_plain.count(place))?;
-            Ok(words.push(word)?)
-        }
+        None => push_word(words, other),
+        Some(place) => push_elsewhere(
+            words,
+            plain,
+            other_plain.items(place),
+            other_plain.count(place),
+        ),
     }
 }

@@ -1,9 +1,9 @@
-use Rattle.std.proofs.Common.{◌≡◌, ◌++◌, [], inl, inr, ◌⊎◌, ap, ◌∙◌, sym, subst, arith}
+use Rattle.std.proofs.Common.{◌≡◌, ℕ, ◌+◌, List, ◌++◌, [], ◌∷◌, Bor, inl, inr, ◌⊎◌, ap, ◌∙◌, sym, subst, arith}
 use Rattle.std.proofs.lemmas.List.{nil_from_length}
 use Rattle.basket_ranks.specs.Added.{items_of_counts, added_counts}
-use Rattle.basket_ranks.proofs.theory.Added.{leaves_less, leaves_greater, leaves_equal, numbers_fit, none_left, added_rise}
+use Rattle.basket_ranks.proofs.theory.Added.{Leaves, leaves_less, leaves_greater, leaves_equal, numbers_fit, none_left, added_rise}
 use Rattle.basket_sets.specs.Itemset.{IsRising}
-use Rattle.basket_ranks.proofs.added.add_counts.Goals.{in_default, in_default-2}
+use Rattle.basket_ranks.proofs.added.add_counts.Goals.{in-Less, in-Equal, in-Greater, in_default, in_default-2}
 use Rattle.basket_ranks.proofs.added.add_counts.Goals as goal
 
 pub loop-first-init : goal.loop-first-init
@@ -14,28 +14,33 @@ loop-first-init c = record {
   added = ap (λ l. l ++ added_counts c.args.a.now c.args.b.now) c.in_ok-counts.ensures.items;
 }
 
-pub overflow_add-first : goal.overflow_add-first
-overflow_add-first c =
+pub overflow_add-entry : goal.overflow_add-entry
+overflow_add-entry c =
     let s = c.in-Some-Some in
     let fit = numbers_fit c.loop-first.counts.items c.loop-first.ours.now c.loop-first.theirs.now _ s.rest.now s.others.now s.first.now s.other.now c.loop-first.counts.items s.ensures.cases.0 s.ensures'.cases.0 c.loop-first.invariant c.in-Equal.ensures in omega arith
-
-pub loop-first-preserved-in_ok-push-in-Less : goal.loop-first-preserved-in_ok-push-in-Less
-loop-first-preserved-in_ok-push-in-Less c =
-    let s = c.in-Some-Some in
-    leaves_less c.loop-first.counts.items c.loop-first.ours.now c.loop-first.theirs.now _ s.rest.now s.others.now s.first.now s.other.now c.push.new.self.items
-    s.ensures.cases.0 s.ensures'.cases.0 c.loop-first.invariant c.in_ok-push-in-Less.ensures.items c.in-Less.ensures
-
-pub loop-first-preserved-in_ok-push-in-Equal : goal.loop-first-preserved-in_ok-push-in-Equal
-loop-first-preserved-in_ok-push-in-Equal c =
-    let s = c.in-Some-Some in
-    leaves_equal c.loop-first.counts.items c.loop-first.ours.now c.loop-first.theirs.now _ s.rest.now s.others.now s.first.now s.other.now c.push-in-Equal.new.self.items
-    s.ensures.cases.0 s.ensures'.cases.0 c.loop-first.invariant c.in_ok-push-in-Equal.ensures.items c.in-Equal.ensures
 
 pub loop-first-preserved : goal.loop-first-preserved
 loop-first-preserved c =
     let s = c.in-Some-Some in
-    leaves_greater c.loop-first.counts.items c.loop-first.ours.now c.loop-first.theirs.now _ s.rest.now s.others.now s.first.now s.other.now c.push-in-Greater.new.self.items
-    s.ensures.cases.0 s.ensures'.cases.0 c.loop-first.invariant c.in_ok-push-in-Greater.ensures.items c.in-Greater.ensures
+    let counts = c.loop-first.counts.items in
+    let now = c.push.new.self.items in
+    let whole = added_counts c.args.a.now c.args.b.now in
+    let left : (entry : ℕ × ℕ) (ours theirs : Bor (List (ℕ × ℕ))) → c.match-cmp.entry ≡ entry → c.match-cmp.ours ≡ ours → c.match-cmp.theirs ≡ theirs
+    → (now ≡ counts ++ entry ∷ [] → Leaves now ours.now theirs.now whole) → Leaves now c.match-cmp.ours.now c.match-cmp.theirs.now whole =
+    λ entry ours theirs e a b leaves.
+    subst (λ l. Leaves now l.now c.match-cmp.theirs.now whole) (sym a) (subst (λ l. Leaves now ours.now l.now whole) (sym b)
+    (leaves (c.in_ok-push.ensures.items ∙ ap (λ x. counts ++ x ∷ []) e))) in
+    elim c.match-cmp.branch [
+      | in-Less w ↦ left s.first.now s.rest c.loop-first.theirs w.entry-is w.ours-is w.theirs-is (λ is.
+          leaves_less counts c.loop-first.ours.now c.loop-first.theirs.now whole s.rest.now s.others.now s.first.now s.other.now now
+          s.ensures.cases.0 s.ensures'.cases.0 c.loop-first.invariant is w.in-Less.ensures)
+      | in-Equal w ↦ left (s.first.now.0, s.first.now.1 + s.other.now.1) s.rest s.others w.entry-is w.ours-is w.theirs-is (λ is.
+          leaves_equal counts c.loop-first.ours.now c.loop-first.theirs.now whole s.rest.now s.others.now s.first.now s.other.now now
+          s.ensures.cases.0 s.ensures'.cases.0 c.loop-first.invariant is w.in-Equal.ensures)
+      | in-Greater w ↦ left s.other.now c.loop-first.ours s.others w.entry-is w.ours-is w.theirs-is (λ is.
+          leaves_greater counts c.loop-first.ours.now c.loop-first.theirs.now whole s.rest.now s.others.now s.first.now s.other.now now
+          s.ensures.cases.0 s.ensures'.cases.0 c.loop-first.invariant is w.in-Greater.ensures)
+    ]
 
 pub returns-clause-counts : goal.returns-clause-counts
 returns-clause-counts c =

@@ -1,0 +1,7 @@
+use Rattle.basket_lists.proofs.ListLemmas.{packed_is_kept}
+use Rattle.basket_lists.proofs.counted_sets.CountedSets.push_set.Goals as goal
+
+pub invariant_of-self : goal.invariant_of-self
+invariant_of-self c =
+    let known = c.self.inside.known in
+    let plain = c.self.inside.plain in (c.self.invariant.0, c.push_word.ensures.kept known plain c.self.invariant.1 (packed_is_kept known plain c.in-Some.packed c.in-Some.ensures.packed))
