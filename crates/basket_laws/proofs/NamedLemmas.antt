@@ -7,7 +7,7 @@ use Rattle.basket_parts.specs.Laws.{CombiningKeepsCounts, CombiningKeepsFrequent
 use Rattle.basket_sets.specs.declared.weighted.Weighted.{Weighted}
 use Rattle.basket_sets.specs.Database.{MOST_WEIGHT}
 use Rattle.basket_sets.specs.Support.{total_of}
-use Rattle.basket_laws.specs.Names.{NamedPartsAnswerAsTheWhole, all_records, named_parts, names_of_parts, of_named_counts_at}
+use Rattle.basket_laws.specs.Names.{NamedPartsAnswerAsTheWhole, named_parts, names_of_parts, of_named_counts_at}
 use Rattle.basket_laws.proofs.NameLemmas.{named_parts_are_parts}
 use Rattle.basket_laws.proofs.OutcomeLemmas.{answers_by_names}
 

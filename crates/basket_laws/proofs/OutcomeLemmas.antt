@@ -24,7 +24,6 @@ use Rattle.basket_read.specs.declared.fault.ReadFault.TheVariants.{Heavy, NoTota
 use Rattle.basket_read.specs.Fimi.{MOST_BYTES}
 use Rattle.basket_read.specs.Fault.{result_and_then}
 use Rattle.basket_report.specs.Report.{report_of, rules_report_of}
-use Rattle.basket_report.specs.Style.{Numbered}
 use Rattle.basket_rules.proofs.theory.Condensed.{list_decides_closed, list_decides_maximal}
 use Rattle.basket_rules.proofs.theory.Rules.{list_decides_rules}
 use Rattle.basket_sets.specs.declared.counted.Counted.{Counted}

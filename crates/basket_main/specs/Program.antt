@@ -1,5 +1,5 @@
 -- What a program does with the words of its command line.
-use Rattle.std.specs.Prelude.{◌≡◌, ◌≢◌, ℕ, Bool, true, false, List, [], ◌∷◌, ◌++◌, Option, Some, None, Ok, Err, string_bytes, ⊤}
+use Rattle.std.specs.Prelude.{◌≡◌, ◌≢◌, ℕ, Bool, true, List, [], ◌∷◌, ◌++◌, Option, Some, None, Ok, Err, string_bytes, ⊤}
 use Rattle.std.specs.Io.KnownBytes.{Appends, Keeps}
 use Rattle.basket.specs.Count.{IsCountFault, WritesCounts, WritesCountsPrefix}
 use Rattle.basket.specs.Engine.{IsReportFault, WritesPrefix, WritesReport}

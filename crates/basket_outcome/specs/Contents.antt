@@ -1,5 +1,5 @@
 -- What an input says, by its layout, whatever is asked of it.
-use Rattle.std.specs.Prelude.{◌≡◌, ℕ, List, [], map, false, Option, Some, None, IfSome, Result, Ok, Err, if◌then◌else◌}
+use Rattle.std.specs.Prelude.{ℕ, List, [], map, false, Option, Some, None, Result, Ok, if◌then◌else◌}
 use Rattle.basket_counts.specs.Counts.{counts_of, sets_of_bytes}
 use Rattle.basket_csv.specs.Counts.{named_counts_of}
 use Rattle.basket_csv.specs.Csv.{baskets_of_csv, pairs_of_csv}

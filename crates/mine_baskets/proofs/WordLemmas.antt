@@ -16,12 +16,12 @@ use Rattle.basket_sets.specs.Itemset.{IsRising, contains, has}
 use Rattle.basket_sets.proofs.theory.Members.{Member, Member-filter, Member-from_filter}
 use Rattle.basket_sets.proofs.theory.Rising.{Member-from_has, has-from_Member, same_rising}
 use Rattle.basket_sets.proofs.theory.Ranges.{Member-into_range, Member-range, filtered_range_rises}
-use Rattle.basket_sets.proofs.theory.Tests.{or_false}
+use Rattle.basket_sets.proofs.theory.Tests.{cond_sum, or_false}
 use Rattle.mine_baskets.proofs.MergedLemmas.{other_weights}
 use Rattle.mine_baskets.specs.declared.words.Word.{Word}
 use Rattle.mine_baskets.specs.ListBaskets.{AreRankBaskets, HaveSameWeights, IsRankBasket, weight_where}
 use Rattle.mine_baskets.specs.Words.{AreInOrder, EndsBy, has_rank, rank_bits, ranks_in, word_place, word_places}
-use Rattle.mine_baskets.proofs.theory.Weights.{cond_sum, word_sum}
+use Rattle.mine_baskets.proofs.theory.Weights.{word_sum}
 use Rattle.mine_baskets.proofs.theory.Bits.{has_either, one_rank}
 use Rattle.mine_baskets.specs.declared.words.TheConstants.{WORD_RANKS}
 

@@ -16,7 +16,7 @@ use Rattle.basket_lists.specs.CountedSets.{set_at}
 use Rattle.basket_lists.proofs.theory.Places.{set_added, set_kept}
 use Rattle.basket_sets.specs.Itemset.{with_item}
 use Rattle.basket_sets.proofs.theory.Rising.{Member-from_has, has_place}
-use Rattle.mine_search.specs.Node.{Node, child, is_met, kept, sets_at, work_at}
+use Rattle.mine_search.specs.Node.{Node, child, is_met, kept, sets_at}
 use Rattle.mine_search.specs.Search.{Adds, AreTooMany, FindsAll, GoesOn, IsDone, IsNode, IsOf, Reached, TellsAtMost, found_at}
 use Rattle.mine_search.specs.Walk.{kept_below}
 use Rattle.mine_search.proofs.theory.Walk.{branch, branch_work, kept_before, kept_lower, kept_with, sets_are_branches, work_is_branches}

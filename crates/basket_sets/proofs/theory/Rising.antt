@@ -16,7 +16,7 @@ use Rattle.std.proofs.lemmas.List.Folds.{list_all_at}
 use Rattle.std.proofs.lemmas.List.Kept.{Contains-dedup_nat, Contains-from_dedup}
 use Rattle.std.proofs.lemmas.List.Sorted.{searched, Contains-permutation, IsPermutation-sym}
 use Rattle.std.proofs.lemmas.Map.Keys.{IsDistinct-from_apart, apart_from_distinct, non_decreasing_from_sorted, sorted_from_strictly_increasing, below_from_sorted, IsStrictlyIncreasing-dedup}
-use Rattle.basket_sets.proofs.theory.Members.{Member, All-from_Member, first_is_less, rest_is_sorted, same_members, Member-from_Contains, Contains-from_Member}
+use Rattle.basket_sets.proofs.theory.Members.{Member, Member-append_left, All-from_Member, first_is_less, rest_is_sorted, same_members, Member-from_Contains, Contains-from_Member}
 
 -- ---- the order of numbers
 
@@ -362,3 +362,9 @@ pub found_nowhere : (items : List ℕ) (item place : ℕ) → IsRising items →
 found_nowhere items item place up is k below e =
     let s = searched items item (Err place) is (rises_by_places items up) in
     elim (cases_lt k place) [ inl less ↦ (let b = s.1 k less in omega arith) | inr more ↦ (let b = s.2 k more below in omega arith) ]
+
+-- a rising list without its last item rises
+pub front_rises : (front : List ℕ) (last : ℕ) → IsRising (front ++ last ∷ []) → IsRising front
+front_rises [] last up = nil_rises
+front_rises (x ∷ front) last up =
+    cons_rises x front (λ y m. first_below x (front ++ last ∷ []) up y (Member-append_left y front (last ∷ []) m)) (front_rises front last (rest_rises x (front ++ last ∷ []) up))

@@ -1,5 +1,5 @@
 -- Tests of all members of a list, and what stands at a place.
-use Rattle.std.proofs.Common.{◌≡◌, ℕ, ◌<◌, Bool, true, false, ◌||◌, List, [], ◌∷◌, length, get_or, eqb, refl, sym, ap, ◌∙◌, inl, inr, arith, zero, suc}
+use Rattle.std.proofs.Common.{◌≡◌, ℕ, ◌+◌, ◌<◌, Bool, true, false, ◌||◌, List, [], ◌∷◌, length, get_or, cond, eqb, refl, sym, ap, ◌∙◌, inl, inr, arith, zero, suc}
 use Rattle.std.specs.List.{list_all}
 use Rattle.std.proofs.lemmas.Bool.{and_from, and_parts, cases_Bool, eqb-true}
 use Rattle.basket_sets.specs.Counts.{AllBelow}
@@ -26,6 +26,16 @@ or_false false = refl
 
 pub apart_eqb : (x y : ℕ) → (x ≡ y → ⊥) → eqb x y ≡ false
 apart_eqb x y differ = elim (cases_Bool (eqb x y)) [ inl e ↦ absurd (differ (eqb-true x y e)) | inr e ↦ e ]
+
+-- ---- a number if a test holds
+
+pub cond_sum : (a : Bool) (m n : ℕ) → cond a m 0 + cond a n 0 ≡ cond a (m + n) 0
+cond_sum true m n = refl
+cond_sum false m n = refl
+
+pub same_cond : (a : Bool) (n : ℕ) → cond a n n ≡ n
+same_cond true n = refl
+same_cond false n = refl
 
 -- ---- what stands at a place
 

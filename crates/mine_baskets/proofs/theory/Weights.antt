@@ -1,5 +1,5 @@
 -- Weights of baskets.
-use Rattle.std.proofs.Common.{true, false, ◌++◌, ◌≡◌, ℕ, ◌+◌, Bool, List, [], ◌∷◌, map, cond, refl, sym, ap, ◌∙◌}
+use Rattle.std.proofs.Common.{◌++◌, ◌≡◌, ℕ, ◌+◌, Bool, List, [], ◌∷◌, map, cond, refl, sym, ap, ◌∙◌}
 use Rattle.std.proofs.lemmas.List.{map-append}
 use Rattle.std.proofs.lemmas.List.Sums.{sum_by-append, sum_by-cons}
 use Rattle.std.specs.List.{sum_by}
@@ -9,14 +9,6 @@ use Rattle.basket_sets.specs.Database.{weighted}
 use Rattle.mine_baskets.specs.declared.words.Word.{Word}
 use Rattle.mine_baskets.specs.ListBaskets.{HaveSameWeights, weight_where}
 use Rattle.mine_baskets.specs.Words.{word_place, word_places}
-
-pub cond_sum : (a : Bool) (m n : ℕ) → cond a m 0 + cond a n 0 ≡ cond a (m + n) 0
-cond_sum true m n = refl
-cond_sum false m n = refl
-
-pub same_cond : (a : Bool) (n : ℕ) → cond a n n ≡ n
-same_cond true n = refl
-same_cond false n = refl
 
 pub changed_weight : (test : List ℕ → Bool) (f : List ℕ → List ℕ) (places : List Weighted)
     → weight_where test (map (λ (place : Weighted). weighted (f place.basket) place.weight) places) ≡ weight_where (λ basket. test (f basket)) places

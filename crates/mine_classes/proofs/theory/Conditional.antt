@@ -10,18 +10,10 @@ use Rattle.basket_sets.specs.Support.{weight_at, support_of}
 use Rattle.basket_sets.proofs.theory.Members.{Member-filter, Member-from_filter}
 use Rattle.basket_sets.proofs.theory.Rising.{has_each, contains_each}
 use Rattle.basket_sets.proofs.theory.Support.{support-append, support-cons, support_falls}
-use Rattle.basket_sets.proofs.theory.Tests.{all_of, each_of}
+use Rattle.basket_sets.proofs.theory.Tests.{all_of, cond_sum, each_of, same_cond}
 use Rattle.mine_classes.specs.Conditional.{is_kept, kept_place, ConditionalSupports}
 
 -- ---- tests
-
-cond_sum : (a : Bool) (m n : ℕ) → cond a m 0 + cond a n 0 ≡ cond a (m + n) 0
-cond_sum true m n = refl
-cond_sum false m n = refl
-
-same_cond : (a : Bool) (n : ℕ) → cond a n n ≡ n
-same_cond true n = refl
-same_cond false n = refl
 
 pub same_tests : (a b : Bool) → (a ≡ true → b ≡ true) → (b ≡ true → a ≡ true) → a ≡ b
 same_tests true b f g = sym (f refl)

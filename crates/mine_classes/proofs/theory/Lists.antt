@@ -1,4 +1,4 @@
--- Lists of sets without equal ones, and sets without their greatest item.
+-- Lists of sets without equal ones.
 use Rattle.std.proofs.Common.{◌≡◌, ◌≢◌, ℕ, Bool, false, List, [], ◌∷◌, ◌++◌, refl, inl, inr}
 use Rattle.std.specs.Prelude.{nat_eq}
 use Rattle.std.specs.Cmp.Lexicographic.{pointwise, bytes_decides}
@@ -21,9 +21,3 @@ distinct-append R (x ∷ xs) ys a b across = (
       (λ y m. elim (Member-append y xs ys m) [ inl n ↦ at_Member (λ z. R x z ≡ false) y xs a.0 n | inr n ↦ across x y (inl refl) n ]),
   distinct-append R xs ys a.1 b (λ u v m n. across u v (inr m) n),
 )
-
--- the front of a rising set rises
-pub front_rises : (front : List ℕ) (last : ℕ) → IsRising (front ++ last ∷ []) → IsRising front
-front_rises [] last up = nil_rises
-front_rises (x ∷ front) last up =
-    cons_rises x front (λ y m. first_below x (front ++ last ∷ []) up y (Member-append_left y front (last ∷ []) m)) (front_rises front last (rest_rises x (front ++ last ∷ []) up))

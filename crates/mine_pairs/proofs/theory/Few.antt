@@ -4,6 +4,7 @@ use Rattle.std.specs.List.{AllByRecursion, filter, flat_map, range_with_len}
 use Rattle.std.specs.Ordering.{nat_cmp}
 use Rattle.std.proofs.lemmas.List.Kept.{IsStrictlySortedBy-filter}
 use Rattle.std.proofs.lemmas.List.Sums.{sum_by-cons}
+use Rattle.basket_sets.proofs.theory.Tests.{cond_sum, same_cond}
 use Rattle.basket_ranks.specs.Codes.{decoded, decoded_place}
 use Rattle.basket_sets.specs.declared.weighted.Weighted.{Weighted}
 use Rattle.basket_sets.specs.Database.{weighted}
@@ -13,7 +14,7 @@ use Rattle.basket_sets.proofs.theory.Members.{Member, Member-filter}
 use Rattle.basket_sets.proofs.theory.Rising.{contains-refl, contains_each, first_below}
 use Rattle.basket_sets.proofs.theory.Support.{support-cons, support_falls}
 use Rattle.mine_baskets.specs.ListBaskets.{HaveSameWeights, weight_where}
-use Rattle.mine_baskets.proofs.theory.Weights.{changed_weight, cond_sum, same_cond}
+use Rattle.mine_baskets.proofs.theory.Weights.{changed_weight}
 use Rattle.mine_classes.specs.Conditional.{conditional, is_kept, kept_place}
 use Rattle.mine_pairs.specs.Pairs.{first_support, kept_ranks, pairs_of}
 use Rattle.mine_classes.proofs.theory.Conditional.{conditional_supports}

@@ -1,18 +1,16 @@
 -- Sums by rank.
-use Rattle.std.proofs.Common.{◌≡◌, ℕ, ◌+◌, ◌<◌, ◌≤◌, Bool, true, false, ◌||◌, List, [], ◌∷◌, ◌++◌, length, take, get_or, set, cond, eqb, ltb, refl, sym, ap, ◌∙◌, subst, inl, inr, arith, add-zero}
+use Rattle.std.proofs.Common.{◌≡◌, ℕ, ◌+◌, ◌<◌, ◌≤◌, Bool, true, false, ◌||◌, List, [], ◌∷◌, ◌++◌, length, take, get_or, set, cond, eqb, refl, sym, ap, ◌∙◌, subst, inl, inr, arith, add-zero}
 use Rattle.std.specs.Prelude.{replicate}
 use Rattle.std.specs.List.{filter}
 use mir.Val.{bool_byte}
-use Rattle.std.proofs.lemmas.Bool.{cases_Bool, cases_eq, cases_lt, eq-eqb, ltb-true, true≢false}
+use Rattle.std.proofs.lemmas.Bool.{cases_Bool, cases_eq, cases_lt, eq-eqb, true≢false}
 use Rattle.std.proofs.lemmas.List.{ext_get_or, get_or-replicate, get_or-set_same, get_or-set_other, length-replicate, length-set, take-set, take_more_set}
-use Rattle.std.proofs.lemmas.List.Folds.{list_any_more}
 use Rattle.basket_sets.specs.Counts.{AllBelow}
 use Rattle.basket_sets.specs.Itemset.{IsRising, has, rising}
-use Rattle.basket_sets.proofs.theory.Members.{Member, Member-append, Member-append_left, Member-append_right, Member-filter}
+use Rattle.basket_sets.proofs.theory.Members.{Member-append, Member-append_left, Member-append_right, Member-filter}
 use Rattle.basket_sets.proofs.theory.Rising.{Member-from_has, has-from_Member, has_more, not_before, rising_distinct, Member-rising}
 use Rattle.basket_sets.proofs.theory.Tests.{apart_eqb, or_false, or_true}
 use Rattle.mine_pairs.specs.Sums.{AreSums, WithBasket}
-use Rattle.mine_pairs.proofs.RunStepLemmas.{front_is}
 
 -- ---- a basket's ranks, one after another
 

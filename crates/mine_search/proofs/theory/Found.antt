@@ -8,8 +8,8 @@ use Rattle.basket_sets.specs.Frequent.{IsNonemptySet}
 use Rattle.mine_classes.specs.Classes.{ends_in}
 use Rattle.basket_sets.specs.Itemset.{IsRising}
 use Rattle.basket_sets.proofs.theory.Members.{Member, All-from_Member, Member-append, Member-append_left, Member-append_right}
-use Rattle.basket_sets.proofs.theory.Rising.{nil_rises, cons_rises, first_below, rest_rises}
-use Rattle.mine_classes.proofs.theory.Lists.{apart, distinct-append, front_rises}
+use Rattle.basket_sets.proofs.theory.Rising.{cons_rises, first_below, front_rises, nil_rises, rest_rises}
+use Rattle.mine_classes.proofs.theory.Lists.{apart, distinct-append}
 use Rattle.mine_search.specs.Walk.{sets_below}
 
 -- the last of a list

@@ -1,19 +1,12 @@
 -- Sets as prefixes and the items that extend them.
-use Rattle.std.proofs.Common.{◌≡◌, ◌≢◌, ℕ, zero, suc, ◌+◌, ◌<◌, ◌||◌, Bool, true, false, List, [], ◌∷◌, ◌++◌, length, filter, map, get_or, cond, take, append-nil, append_assoc, refl, Some, None, ◌-◌, sym, ap, ◌∙◌, subst, inl, inr, arith}
-use Rattle.std.specs.Cmp.Lexicographic.{slice_cmp, nat_list_cmp_total}
-use Rattle.std.specs.List.Sorted.{IsStrictlySortedBy}
-use Rattle.std.specs.Ordering.{nat_cmp}
-use Rattle.std.specs.declared.cmp.Ordering.TheVariants.{Less}
-use Rattle.std.proofs.lemmas.Bool.{cases_Bool}
+use Rattle.std.proofs.Common.{◌≡◌, ℕ, suc, ◌+◌, ◌<◌, Bool, true, List, [], ◌∷◌, ◌++◌, length, filter, map, get_or, cond, take, append-nil, append_assoc, refl, Some, None, ◌-◌, sym, ap, ◌∙◌, inl, inr, arith}
 use Rattle.std.proofs.lemmas.Grind.{flat_map-append}
 use Rattle.std.specs.List.{slice_get}
 use Rattle.std.proofs.lemmas.List.{get_or-map, length-append, length-map, map-append, take_more}
 use Rattle.std.proofs.lemmas.List.Elements.{filter-append}
-use Rattle.std.proofs.lemmas.List.Folds.{list_any-append}
-use Rattle.basket_sets.specs.Itemset.{IsRising, has}
+use Rattle.basket_sets.specs.Itemset.{IsRising}
 use Rattle.basket_sets.proofs.theory.Items.{filter-map}
-use Rattle.basket_sets.proofs.theory.Members.{Member, Member-append_left, Member-filter, Member-map, Member-from_map, All-from_Member, first_is_less, rest_is_sorted, not_both_less}
-use Rattle.basket_sets.proofs.theory.Rising.{Member-from_has, cons_rises, first_below, has-from_Member, nil_rises, rest_rises, same_test}
+use Rattle.basket_sets.proofs.theory.Rising.{cons_rises, first_below, nil_rises, rest_rises}
 use Rattle.mine_supports.specs.Extensions.{Group, groups_of, prefixes_of, lists_of, extend, sets_of, has_items, is_some}
 
 -- ---- prefixes and lists
@@ -137,9 +130,3 @@ groups_long groups = length-map groups (λ group. group.prefix)
 
 pub lists_long : (groups : List Group) → length (lists_of groups) ≡ length groups
 lists_long groups = length-map groups (λ group. group.items)
-
--- the front of a rising set rises
-pub front_rises : (front : List ℕ) (last : ℕ) → IsRising (front ++ last ∷ []) → IsRising front
-front_rises [] last up = nil_rises
-front_rises (x ∷ front) last up =
-    cons_rises x front (λ y m. first_below x (front ++ last ∷ []) up y (Member-append_left y front (last ∷ []) m)) (front_rises front last (rest_rises x (front ++ last ∷ []) up))

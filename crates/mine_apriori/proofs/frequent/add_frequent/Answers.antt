@@ -11,7 +11,7 @@ use Rattle.mine_supports.proofs.theory.Extensions.{items_read, lists_long, no_gr
 use Rattle.mine_supports.proofs.theory.Frequent.{counts_first, counts_rest, counts_within, found_next, group_rises, kept_none, kept_some}
 use Rattle.mine_apriori.proofs.JoinStepLemmas.{none_if, some_if}
 use Rattle.mine_apriori.proofs.frequent.add_frequent.Goals as goal
-use Rattle.mine_apriori.proofs.frequent.add_frequent.Goals.{After-len, After-add_extensions-arg-1, then-not-is_empty+in_ok-level, else-not-is_empty}
+use Rattle.mine_apriori.proofs.frequent.add_frequent.Goals.{After-len, then-not-is_empty+in_ok-level, else-not-is_empty}
 
 below : (c : After-len) → c.loop-number.number < length c.args.sets.now
 below c = omega (arith, c.loop-number-test.true, ap length c.lists-items-items.ensures, lists_long c.args.sets.now)

@@ -2,11 +2,11 @@ use Rattle.std.proofs.Common.{◌≡◌, ℕ, zero, suc, ◌+◌, ◌^◌, ◌�
 use Rattle.std.proofs.lemmas.Bool.{ltb-false}
 use Rattle.std.proofs.lemmas.List.Sums.{sum_by-append, sum_by-cons}
 use Rattle.std.proofs.lemmas.List.{map-append}
+use Rattle.basket_sets.proofs.theory.Tests.{same_cond}
 use Rattle.basket_sets.specs.declared.weighted.Weighted.{Weighted}
 use Rattle.mine_baskets.specs.declared.words.Word.{Word}
 use Rattle.mine_baskets.specs.ListBaskets.{RankBaskets, weight_where}
 use Rattle.mine_baskets.specs.Words.{AreInOrder, ranks_in, word_place, word_places}
-use Rattle.mine_baskets.proofs.theory.Weights.{same_cond}
 use Rattle.mine_baskets.proofs.word_baskets.WordBaskets.of_one_rank.Goals as goal
 
 module _ (test : List ℕ → Bool) (count : ℕ) where

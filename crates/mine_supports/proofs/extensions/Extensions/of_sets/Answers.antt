@@ -5,12 +5,11 @@ use Rattle.std.proofs.lemmas.Bool.{not-false}
 use Rattle.std.proofs.lemmas.List.{nil_from_length, take_all}
 use Rattle.std.proofs.lemmas.Result.{IfOk-weaker}
 use Rattle.basket_sets.specs.Itemset.{IsRising}
-use Rattle.basket_sets.proofs.theory.Rising.{cons_rises, nil_rises}
+use Rattle.basket_sets.proofs.theory.Rising.{cons_rises, front_rises, nil_rises}
 use Rattle.mine_supports.specs.Extensions.{extend, is_some, sets_of}
-use Rattle.mine_supports.proofs.theory.Extensions.{front_rises}
 use Rattle.mine_supports.proofs.theory.Extensions.{item_more, none_more, sets_push, some_more}
 use Rattle.mine_supports.proofs.extensions.Extensions.of_sets.Goals as goal
-use Rattle.mine_supports.proofs.extensions.Extensions.of_sets.Goals.{in-Some+in_ok-push, then-ne+in_ok-found, then-ne-via-then-ne, then-ne-via-else-ne+then-not-rises, else-ne+else-not-rises, in_default}
+use Rattle.mine_supports.proofs.extensions.Extensions.of_sets.Goals.{in-Some+in_ok-push, then-ne+in_ok-found, else-ne+else-not-rises, in_default}
 
 pub loop-set-init : goal.loop-set-init
 loop-set-init c = record {
