@@ -11,7 +11,7 @@ from package import lost_links
 
 from .program import ROOT, run, run_script
 
-COMMANDS = ("items", "sets", "closed", "maximal", "rules", "count")
+COMMANDS = ("items", "sets", "closed", "maximal", "rules", "count", "look")
 DOCUMENTS = ("README.md", "man/basket.1")
 COMPLETIONS = (
     "completions/basket.bash",
