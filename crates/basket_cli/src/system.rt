@@ -31,6 +31,8 @@ pub fn open(rt: &HostRuntime, path: Option<&str>) -> io::Result<Opened> {
 impl<'a> Inputs for SystemInputs<'a> {
     type Input = StdSource<Kept<'a, Opened>>;
 
+    type Sets = StdSource<Kept<'a, Opened>>;
+
     ghost bytes = { λ _ _. None };
 
     ghost opened = { λ _. None };
@@ -38,6 +40,10 @@ impl<'a> Inputs for SystemInputs<'a> {
     fn open(&mut self, origin: &Origin) -> io::Result<StdSource<Kept<'a, Opened>>> {
         let opened = open(self.rt, origin.path())?;
         Ok(StdSource::new(Kept::new(opened, self.code)))
+    }
+
+    fn open_sets(&mut self, origin: &Origin) -> io::Result<StdSource<Kept<'a, Opened>>> {
+        self.open(origin)
     }
 }
 
