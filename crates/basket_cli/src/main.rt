@@ -3,17 +3,14 @@
 #![tactic(auto)]
 
 mod advice;
-mod again;
-mod fault_advice;
 mod glance;
 mod kept;
-mod location;
 mod streams;
 mod system;
-mod words_advice;
 
-use advice::{Seen, advise};
+use advice::advise;
 use basket::{PlanFault, StdSink};
+use basket_advice::Told;
 use basket_look::look_of;
 use basket_main::{perform, refuse};
 use glance::look;
@@ -78,19 +75,11 @@ fn mine<R: RandomSource + Threads + Sync>(rt: &HostRuntime, threads: &R, words: 
     let mut output = StdSink::new(&mut kept);
     let mut errors = StandardError { rt };
     let alloc = rt.alloc();
-    let ending = perform(
-        threads,
-        alloc,
-        words,
-        &mut inputs,
-        &mut output,
-        &mut errors,
-    );
-    let seen = Seen {
-        words,
+    let ending = perform(threads, alloc, words, &mut inputs, &mut output, &mut errors);
+    let told = Told {
         code: code.get(),
         has_lines: kept.is_used(),
     };
-    advise(rt, threads, &ending, &seen);
+    advise(rt, &ending, words, told);
     ending.status()
 }
