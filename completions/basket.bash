@@ -12,10 +12,11 @@ _basket() {
             values="--min --form --sep --header --weight --miner --limit --workers --pieces --help"
             [ "${COMP_WORDS[1]}" = rules ] && values="$values --conf"
             ;;
+        look) values="--help" ;;
         count) values="--sets --form --sep --header --weight --workers --pieces --help" ;;
-        help) values="items sets closed maximal rules count" ;;
+        help) values="items sets closed maximal rules count look" ;;
         esac
-        [ "$COMP_CWORD" = 1 ] && values="items sets closed maximal rules count help --help --version"
+        [ "$COMP_CWORD" = 1 ] && values="items sets closed maximal rules count look help --help --version"
         ;;
     esac
     mapfile -t COMPREPLY < <(compgen -W "$values" -- "$word")

@@ -1,8 +1,9 @@
 # Completion of basket for fish.
 set -l reports items sets closed maximal rules
 set -l commands $reports count
-complete -c basket -n "not __fish_seen_subcommand_from $commands" -f
-complete -c basket -n "not __fish_seen_subcommand_from $commands" -l version -d 'print the version'
+set -l words $commands look
+complete -c basket -n "not __fish_seen_subcommand_from $words" -f
+complete -c basket -n "not __fish_seen_subcommand_from $words" -l version -d 'print the version'
 complete -c basket -l help -d 'print help'
 complete -c basket -n __fish_use_subcommand -a items -d 'the items that are in enough baskets'
 complete -c basket -n __fish_use_subcommand -a sets -d 'the sets of items that are in enough baskets'
@@ -10,8 +11,9 @@ complete -c basket -n __fish_use_subcommand -a closed -d 'the frequent sets of w
 complete -c basket -n __fish_use_subcommand -a maximal -d 'the frequent sets of which no larger set is frequent'
 complete -c basket -n __fish_use_subcommand -a rules -d 'the rules that hold often enough'
 complete -c basket -n __fish_use_subcommand -a help -d 'the help of a command'
-complete -c basket -n '__fish_seen_subcommand_from help' -x -a "$commands"
+complete -c basket -n '__fish_seen_subcommand_from help' -x -a "$words"
 complete -c basket -n __fish_use_subcommand -a count -d 'the counts of sets that you give'
+complete -c basket -n __fish_use_subcommand -a look -d 'what a file is, and the command that mines it'
 set -l after "__fish_seen_subcommand_from $reports"
 complete -c basket -n $after -l min -x -d 'the least count of a set'
 complete -c basket -n '__fish_seen_subcommand_from rules' -l conf -x -d 'the least confidence of a rule'

@@ -7,7 +7,7 @@ import tempfile
 import unittest
 from pathlib import Path
 
-from .program import PROGRAM, ROOT, SECONDS, run
+from .program import PROGRAM, ROOT, SECONDS, run, run_script
 
 SETS = ["sets", "--min", "2"]
 SHOP = str(ROOT / "examples/shop.dat")
@@ -38,6 +38,11 @@ def said_at_terminal(words: list[str], given: bytes = b"") -> list[str]:
     return said.decode().splitlines()
 
 
+def look_at(file: str) -> str:
+    """The line of advice that points to a file with a plain name."""
+    return f"hint: `basket look {file}` says what is in the file"
+
+
 class Advice(unittest.TestCase):
     """A line that begins with `hint: ` after a fault, or after a report that may surprise."""
 
@@ -46,6 +51,16 @@ class Advice(unittest.TestCase):
         rows: tuple[tuple[list[str], str], ...] = (
             (["sets", "--min", "0.2"], f"{least}; 0.2 is 20% or 1/5"),
             (["sets", "--min=.005"], f"{least}; .005 is 1/200"),
+            (["sets", "--min", "0,2"], f"{least}; 0,2 is 20% or 1/5"),
+            (["sets", "--min", "20.5%"], f"{least}; 20.5% is 41/200"),
+            (["sets", "--min", "1,000"], least),
+            (["sets", "--min", "0"], f"{least}; a count is at least 1"),
+            (
+                ["sets", "--min", "1099511627776"],
+                f"{least}; a count is at most 1099511627775",
+            ),
+            (["sets", "--min", "120%"], f"{least}; a share is at most 100%"),
+            (["sets", "--min", "3/2"], f"{least}; a share is at most 100%"),
             (["sets", "--min", "20 %"], least),
             (["sets", "--min", "-5"], least),
             ([*SETS, "--conf", "1/2"], "only `rules` takes --conf"),
@@ -57,6 +72,17 @@ class Advice(unittest.TestCase):
                 ["rules", "--min", "1", "--conf", "0.6"],
                 "--conf takes a share, as 60% or 2/3; 0.6 is 60% or 3/5",
             ),
+            (
+                ["rules", "--min", "1", "--conf", "60"],
+                "--conf takes a share, as 60% or 2/3; a number alone is no share: "
+                "write a % behind it",
+            ),
+            (["sets", "--support", "2"], "--min is the least support"),
+            (
+                [*SETS, "--delimiter", ";"],
+                "--sep says what separates fields: comma, semicolon, tab or pipe",
+            ),
+            ([*SETS[:2], "20", "%", "a.dat"], "a percentage is one word, as 20%"),
             (
                 [*SETS, "a.dat", "b.dat"],
                 "there is one input file: concatenate FIMI files (cat A B | basket ..), "
@@ -75,13 +101,26 @@ class Advice(unittest.TestCase):
         self.assertEqual(
             said[1:],
             [
-                f"hint: {RECEIPTS} has `r` there; names? try --form baskets or --form single"
+                f"hint: {RECEIPTS} has `r` there; names? try --form baskets or --form single",
+                look_at(RECEIPTS),
             ],
         )
         self.assertEqual(
             said_at_terminal(SETS, b"1 -2\n")[1:],
             ["hint: standard input has `-` there"],
         )
+
+    def test_a_file_with_an_odd_name_is_quoted_in_the_command_that_looks_at_it(
+        self,
+    ) -> None:
+        with tempfile.TemporaryDirectory() as folder:
+            odd = Path(folder, "it's a file")
+            odd.write_bytes(b"1 -\n")
+            said = said_at_terminal([*SETS, str(odd)])
+            command = said[-1].split("`")[1]
+            ended = run_script(command, Path(folder))
+        self.assertEqual(command, f"basket look '{folder}/it'\\''s a file'")
+        self.assertEqual((ended.said, ended.status), ("", 0))
 
     def test_faults_of_the_system_get_its_reason_and_limits_what_to_raise(self) -> None:
         self.assertEqual(
@@ -93,55 +132,76 @@ class Advice(unittest.TestCase):
             ["hint: raise --min, or raise --limit"],
         )
 
-    def test_a_counted_input_with_a_gap_gets_the_set_and_its_subset(self) -> None:
-        rows = (
-            ("counts", b"1 (5)\n1 2 (3)\n", "the set {1, 2} needs its subset {2}"),
-            (
-                "csv-counts",
-                b"5,milk\n3,milk,tea\n",
-                "the set {milk, tea} needs its subset {tea}",
-            ),
-        )
-        for form, content, text in rows:
-            with self.subTest(form=form), tempfile.TemporaryDirectory() as folder:
-                given = Path(folder, "given")
-                given.write_bytes(content)
-                words = ["closed", "--min", "2", "--form", form, str(given)]
-                self.assertEqual(
-                    said_at_terminal(words)[1:],
-                    [f"hint: in {given}, {text}, with no lower count"],
-                )
-                asked = Path(folder, "asked")
-                asked.write_bytes(b"7\n" if form == "counts" else b"0,milk\n0,jam\n")
-                words = ["count", "--sets", str(asked), "--form", form, str(given)]
-                self.assertIn("of set 0", said_at_terminal(words)[0])
+    def test_a_counted_input_with_a_gap_gets_what_each_set_needs(self) -> None:
+        with tempfile.TemporaryDirectory() as folder:
+            given, asked = Path(folder, "given"), Path(folder, "asked")
+            given.write_bytes(b"1 (5)\n1 2 (3)\n")
+            asked.write_bytes(b"1\n7\n")
+            words = ["closed", "--min", "2", "--form", "counts", str(given)]
+            self.assertEqual(
+                said_at_terminal(words)[1:],
+                [
+                    f"hint: in {given}; each set needs its subsets of one item less, "
+                    "with counts that are no lower",
+                    look_at(str(given)),
+                ],
+            )
+            words = ["count", "--sets", str(asked), "--form", "counts", str(given)]
+            self.assertEqual(
+                said_at_terminal(words)[1:],
+                [f"hint: {given} has no count of all baskets, as (15) or, in CSV, 15"],
+            )
+            given.write_bytes(b"(5)\n1 (5)\n")
+            self.assertEqual(
+                said_at_terminal(words)[1:],
+                [
+                    f"hint: {given} has no line for the set that is number 2 of those in {asked}"
+                ],
+            )
 
-    def test_an_empty_report_says_how_many_baskets_there_are(self) -> None:
+    def test_an_empty_report_says_what_nothing_met_and_how_to_see_the_file(
+        self,
+    ) -> None:
         self.assertEqual(
             said_at_terminal(["sets", "--min", "20", SHOP]),
-            [f"hint: no set meets --min in the 15 baskets of {SHOP}"],
+            [f"hint: no set meets --min in {SHOP}", look_at(SHOP)],
         )
-        self.assertEqual(
-            said_at_terminal(["rules", "--min", "20", "--conf", "1/2"], b"1\n"),
-            ["hint: no rule meets --min and --conf in standard input"],
+        rows = (
+            (["rules", "--min", "20", "--conf", "1/2"], "standard input"),
+            (["rules", "--min", "20", "--conf", "1/2", "/dev/stdin"], "/dev/stdin"),
         )
-        self.assertEqual(
-            said_at_terminal([*SETS, "/dev/null"]), ["hint: /dev/null has no basket"]
-        )
+        for words, name in rows:
+            with self.subTest(words=words):
+                self.assertEqual(
+                    said_at_terminal(words, b"1\n"),
+                    [f"hint: no rule meets --min and --conf in {name}"],
+                )
 
-    def test_options_without_effect_and_a_likely_header_are_named(self) -> None:
+    def test_a_run_over_a_named_pipe_ends(self) -> None:
+        rows: tuple[tuple[list[str], bytes, str], ...] = (
+            (["sets", "--min", "5"], b"1 2\n", "hint: no set meets --min in "),
+            (["sets", "--min", "1", "--form", "baskets"], b"milk\n", ""),
+            (["sets", "--min", "1"], b"milk\n", "basket: line 1: byte 0x6D"),
+        )
+        for words, given, text in rows:
+            with self.subTest(words=words), tempfile.TemporaryDirectory() as folder:
+                pipe = Path(folder, "pipe")
+                os.mkfifo(pipe)
+                with subprocess.Popen(
+                    ["sh", "-c", f"cat > {pipe}"], stdin=subprocess.PIPE
+                ) as writer:
+                    assert writer.stdin
+                    writer.stdin.write(given)
+                    writer.stdin.close()
+                    said = said_at_terminal([*words, str(pipe)])
+                self.assertTrue("".join(said).startswith(text), said)
+
+    def test_options_without_effect_are_named(self) -> None:
         self.assertEqual(
             said_at_terminal([*SETS, "--header", "--weight", SHOP]),
             [
                 "hint: --header has no effect with --form fimi",
                 "hint: --weight has no effect with --form fimi",
-            ],
-        )
-        self.assertEqual(
-            said_at_terminal([*SETS, "--form", "single", RECEIPTS]),
-            [
-                f"hint: in {RECEIPTS}, no other record near the first has its names; "
-                "if it is a header, add --header"
             ],
         )
         self.assertEqual(

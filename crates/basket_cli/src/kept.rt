@@ -27,6 +27,8 @@ impl<'a, T> Kept<'a, T> {
 }
 
 impl<R: Read> Read for Kept<'_, R> {
+    ghost remaining = { λ kept. R.remaining kept.stream };
+
     fn read(&mut self, buf: &mut [u8]) -> io::Result<usize> {
         match self.stream.read(buf) {
             Ok(count) => Ok(count),
@@ -39,6 +41,8 @@ impl<R: Read> Read for Kept<'_, R> {
 }
 
 impl<W: Write> Write for Kept<'_, W> {
+    ghost contents = { λ kept. W.contents kept.stream };
+
     fn write(&mut self, buf: &[u8]) -> io::Result<usize> {
         match self.stream.write(buf) {
             Ok(count) => {

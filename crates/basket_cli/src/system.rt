@@ -4,9 +4,10 @@ ghost use Rattle.std.specs.Prelude.{None};
 use crate::kept::Kept;
 use basket::{Origin, StdSource};
 use basket_main::{Ending, ErrorStream, Inputs};
+use either::Either;
 use std::cell::Cell;
 use std::fs::File;
-use std::io::{self, Read, Stdin};
+use std::io::{self, Stdin};
 
 /// The system's files and its standard input.
 #[derive(Drop)]
@@ -17,34 +18,32 @@ pub struct SystemInputs<'a> {
 }
 
 /// A file or standard input.
-#[derive(Drop)]
-pub enum Opened {
-    File(File),
-    Standard(Stdin),
-}
+pub type Opened = Either<File, Stdin>;
 
-impl Read for Opened {
-    fn read(&mut self, buf: &mut [u8]) -> io::Result<usize> {
-        match self {
-            Opened::File(file) => file.read(buf),
-            Opened::Standard(stdin) => stdin.read(buf),
-        }
+/// Opens a file, or standard input if there is no path.
+pub fn open(rt: &HostRuntime, path: Option<&str>) -> io::Result<Opened> {
+    match path {
+        Some(path) => Ok(Either::Left(File::open(rt, path)?)),
+        None => Ok(Either::Right(rt.stdin())),
     }
 }
 
 impl<'a> Inputs for SystemInputs<'a> {
     type Input = StdSource<Kept<'a, Opened>>;
 
+    type Sets = StdSource<Kept<'a, Opened>>;
+
     ghost bytes = { λ _ _. None };
 
     ghost opened = { λ _. None };
 
     fn open(&mut self, origin: &Origin) -> io::Result<StdSource<Kept<'a, Opened>>> {
-        let opened = match origin.path() {
-            Some(path) => Opened::File(File::open(self.rt, path)?),
-            None => Opened::Standard(self.rt.stdin()),
-        };
+        let opened = open(self.rt, origin.path())?;
         Ok(StdSource::new(Kept::new(opened, self.code)))
+    }
+
+    fn open_sets(&mut self, origin: &Origin) -> io::Result<StdSource<Kept<'a, Opened>>> {
+        self.open(origin)
     }
 }
 

@@ -12,13 +12,10 @@ use Rattle.basket_plan.specs.declared.invocation.Invocation.{Invocation}
 use Rattle.basket_plan.specs.declared.invocation.Task.{Task}
 use Rattle.basket_plan.specs.declared.invocation.Task.TheVariants.{Report, Count}
 use Rattle.basket_report.specs.Bytes.{TakesPrefix}
-use Rattle.basket_main.specs.Log.{Grows}
+use Rattle.std.specs.IoError.{error_kind}
+use Rattle.basket_main.specs.Log.{Grows, Opening, Origin, openings_of}
 use Rattle.basket_main.specs.declared.ending.Ending.{Ending}
 use Rattle.basket_main.specs.declared.ending.Ending.TheVariants.{Refused, Unanswered, NotOpened, Ran}
-
--- where bytes come from: the path of a file, or none for standard input
-abbrev pub Origin : Type 0
-Origin = Option (List ℕ)
 
 -- ---- what is opened
 
@@ -30,12 +27,13 @@ origins_for (Count plan sets) input = input ∷ sets ∷ []
 abbrev pub origins_of : Invocation → List Origin
 origins_of invocation = origins_for invocation.task invocation.input
 
--- what the words ask for was run, and its inputs were opened; or these were opened up to one that can't be; or the words ask for nothing that can be run, and nothing was opened
-abbrev pub Follows : List (List ℕ) → Ending → Option (List Origin) → Option (List Origin) → Type 0
-Follows words (Ran invocation ran) before after = (invocation_of_words words ≡ Some invocation) × Grows before after (origins_of invocation)
+-- what the words ask for was run, and its inputs were opened; or these were opened up to one that was refused with this error; or the words ask for nothing that can be run, and nothing was to be opened
+abbrev pub Follows : List (List ℕ) → Ending → Option (List Opening) → Option (List Opening) → Type 0
+Follows words (Ran invocation ran) before after = (invocation_of_words words ≡ Some invocation) × Grows before after (openings_of (origins_of invocation))
 Follows words (NotOpened origin error) before after =
     (invocation : Invocation) × (first others : List Origin)
-    × (invocation_of_words words ≡ Some invocation) × (origins_of invocation ≡ first ++ origin ∷ others) × Grows before after (first ++ origin ∷ [])
+    × (invocation_of_words words ≡ Some invocation) × (origins_of invocation ≡ first ++ origin ∷ others)
+    × Grows before after (openings_of first ++ (origin, Some (error_kind error)) ∷ [])
 Follows words (Refused fault) before after =
     (fault ≢ Memory → (invocation_of_words words ≡ None) × (asks_help words ≡ is_help fault)) × Grows before after []
 Follows words (Unanswered text) before after = (invocation_of_words words ≡ None) × (asks_help words ≡ true) × Grows before after []
@@ -68,13 +66,14 @@ Writes bytes _ flushed before after = Keeps before after
 
 -- ---- the fault of a run
 
--- the fault of a task is the one of its outcome; `left` and `has_failed` say of a reader what it has left and whether it failed
-abbrev pub IsTaskFault : {S : Type 0} → (S → Option (List ℕ)) → (S → Bool) → (Origin → Option (List ℕ)) → Task → Origin → RunFault → Type 0
-IsTaskFault {S} left has_failed bytes (Report plan) input fault = (reader : S) × IsReportFault plan.question (bytes input) (left reader) (has_failed reader) fault
-IsTaskFault {S} left has_failed bytes (Count plan sets) input fault =
-    (lists reader : S) × IsCountFault plan.layout (bytes sets) (has_failed lists) (bytes input) (left reader) (has_failed reader) fault
+-- the fault of a task is the one of its outcome; `left` and `has_failed` say of a reader of the input what it has left and whether it failed, and `sets_failed` of one of the sets whether it failed
+abbrev pub IsTaskFault : {S L : Type 0} → (S → Option (List ℕ)) → (S → Bool) → (L → Bool) → (Origin → Option (List ℕ)) → Task → Origin → RunFault → Type 0
+IsTaskFault {S} {L} left has_failed sets_failed bytes (Report plan) input fault =
+    (reader : S) × IsReportFault plan.question (bytes input) (left reader) (has_failed reader) fault
+IsTaskFault {S} {L} left has_failed sets_failed bytes (Count plan sets) input fault =
+    (lists : L) × (reader : S) × IsCountFault plan.layout (bytes sets) (sets_failed lists) (bytes input) (left reader) (has_failed reader) fault
 
 -- what was run has its fault
-abbrev pub HasFault : {S : Type 0} → (S → Option (List ℕ)) → (S → Bool) → (Origin → Option (List ℕ)) → Ending → Type 0
-HasFault left has_failed bytes (Ran invocation (Err fault)) = IsTaskFault left has_failed bytes invocation.task invocation.input fault
-HasFault left has_failed bytes _ = ⊤
+abbrev pub HasFault : {S L : Type 0} → (S → Option (List ℕ)) → (S → Bool) → (L → Bool) → (Origin → Option (List ℕ)) → Ending → Type 0
+HasFault left has_failed sets_failed bytes (Ran invocation (Err fault)) = IsTaskFault left has_failed sets_failed bytes invocation.task invocation.input fault
+HasFault left has_failed sets_failed bytes _ = ⊤

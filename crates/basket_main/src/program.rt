@@ -6,7 +6,9 @@ ghost use Rattle.basket_plan.specs.Command.{invocation_of_words};
 
 use crate::ending::Ending;
 use crate::streams::{ErrorStream, Inputs};
-use basket::{Invocation, PlanFault, Sink, Task, invocation_of, run, run_count};
+use basket::{
+    CountPlan, Invocation, Origin, Plan, PlanFault, Sink, Task, invocation_of, run, run_count,
+};
 use basket_report::write_bytes;
 use std::alloc::Global;
 use std::random::RandomSource;
@@ -26,7 +28,7 @@ pub fn perform<R: RandomSource + Threads + Sync, I: Inputs, W: Sink, E: ErrorStr
     ensures asked { Follows (map (λ word. word.now) words.now) result (I.opened inputs.old) (I.opened inputs.new) }
     ensures written { Writes (I.bytes inputs.old) result (W.ends_in_flush output.new) (W.taken output.old) (W.taken output.new) }
     ensures failed { W.has_failed output.new ≡ is_cut_off result }
-    ensures fault { HasFault I.Input.left I.Input.has_failed (I.bytes inputs.old) result }
+    ensures fault { HasFault I.Input.left I.Input.has_failed I.Sets.has_failed (I.bytes inputs.old) result }
     ensures explained { Grows (E.explained errors.old) (E.explained errors.new) (explanation_of result) }
 {
     let ending = obey(rt, alloc, words, inputs, output);
@@ -69,7 +71,7 @@ fn obey<R: RandomSource + Threads + Sync, I: Inputs, W: Sink>(
     ensures asked { Follows (map (λ word. word.now) words.now) result (I.opened inputs.old) (I.opened inputs.new) }
     ensures written { Writes (I.bytes inputs.old) result (W.ends_in_flush output.new) (W.taken output.old) (W.taken output.new) }
     ensures failed { W.has_failed output.new ≡ is_cut_off result }
-    ensures fault { HasFault I.Input.left I.Input.has_failed (I.bytes inputs.old) result }
+    ensures fault { HasFault I.Input.left I.Input.has_failed I.Sets.has_failed (I.bytes inputs.old) result }
 {
     match invocation_of(alloc, words) {
         Ok(invocation) => carry_out(rt, alloc, invocation, inputs, output),
@@ -106,42 +108,74 @@ fn carry_out<R: RandomSource + Threads + Sync, I: Inputs, W: Sink>(
     ensures asked { (words : List (List ℕ)) → invocation_of_words words ≡ Some invocation → Follows words result (I.opened inputs.old) (I.opened inputs.new) }
     ensures written { Writes (I.bytes inputs.old) result (W.ends_in_flush output.new) (W.taken output.old) (W.taken output.new) }
     ensures failed { W.has_failed output.new ≡ is_cut_off result }
-    ensures fault { HasFault I.Input.left I.Input.has_failed (I.bytes inputs.old) result }
+    ensures fault { HasFault I.Input.left I.Input.has_failed I.Sets.has_failed (I.bytes inputs.old) result }
 {
-    let Invocation {
-        task,
-        input: origin,
-    } = invocation;
-    let mut input = match inputs.open(&origin) {
-        Ok(input) => input,
-        Err(error) => return Ending::NotOpened(origin, error),
-    };
+    let Invocation { task, input } = invocation;
     match task {
-        Task::Report(plan) => {
-            let ran = run(rt, alloc, &plan, &mut input, output);
-            let task = Task::Report(plan);
-            Ending::Ran(
-                Invocation {
-                    task,
-                    input: origin,
-                },
-                ran,
-            )
-        }
+        Task::Report(plan) => report(rt, alloc, plan, input, inputs, output),
         Task::Count(plan, sets) => {
-            let mut lists = match inputs.open(&sets) {
-                Ok(lists) => lists,
-                Err(error) => return Ending::NotOpened(sets, error),
-            };
-            let ran = run_count(rt, alloc, &plan, &mut lists, &mut input, output);
-            let task = Task::Count(plan, sets);
-            Ending::Ran(
-                Invocation {
-                    task,
-                    input: origin,
-                },
-                ran,
-            )
+            let counting = Counting { plan, sets, input };
+            count(rt, alloc, counting, inputs, output)
         }
     }
+}
+
+/// Opens the input, and writes a report of it.
+fn report<R: RandomSource + Threads + Sync, I: Inputs, W: Sink>(
+    rt: &R,
+    alloc: Global,
+    plan: Plan,
+    input: Origin,
+    inputs: &mut I,
+    output: &mut W,
+) -> Ending
+    requires { W.has_failed output.old ≡ false }
+    ensures asked { (words : List (List ℕ)) → invocation_of_words words ≡ Some (record { task = Task.Report plan; input = input }) → Follows words result (I.opened inputs.old) (I.opened inputs.new) }
+    ensures written { Writes (I.bytes inputs.old) result (W.ends_in_flush output.new) (W.taken output.old) (W.taken output.new) }
+    ensures failed { W.has_failed output.new ≡ is_cut_off result }
+    ensures fault { HasFault I.Input.left I.Input.has_failed I.Sets.has_failed (I.bytes inputs.old) result }
+{
+    let mut reader = match inputs.open(&input) {
+        Ok(reader) => reader,
+        Err(error) => return Ending::NotOpened(input, error),
+    };
+    let ran = run(rt, alloc, &plan, &mut reader, output);
+    let task = Task::Report(plan);
+    Ending::Ran(Invocation { task, input }, ran)
+}
+
+/// What is to be counted: how, and where the sets and the input come from.
+#[derive(Drop)]
+struct Counting {
+    plan: CountPlan,
+    sets: Origin,
+    input: Origin,
+}
+
+/// Opens the input and the sets, and counts these.
+fn count<R: RandomSource + Threads + Sync, I: Inputs, W: Sink>(
+    rt: &R,
+    alloc: Global,
+    counting: Counting,
+    inputs: &mut I,
+    output: &mut W,
+) -> Ending
+    requires { W.has_failed output.old ≡ false }
+    ensures asked { (words : List (List ℕ)) → invocation_of_words words ≡ Some (record { task = Task.Count counting.plan counting.sets; input = counting.input }) → Follows words result (I.opened inputs.old) (I.opened inputs.new) }
+    ensures written { Writes (I.bytes inputs.old) result (W.ends_in_flush output.new) (W.taken output.old) (W.taken output.new) }
+    ensures failed { W.has_failed output.new ≡ is_cut_off result }
+    ensures fault { HasFault I.Input.left I.Input.has_failed I.Sets.has_failed (I.bytes inputs.old) result }
+{
+    let Counting { plan, sets, input } = counting;
+    let mut reader = match inputs.open(&input) {
+        Ok(reader) => reader,
+        Err(error) => return Ending::NotOpened(input, error),
+    };
+    let mut lists = match inputs.open_sets(&sets) {
+        Ok(lists) => lists,
+        Err(error) => return Ending::NotOpened(sets, error),
+    };
+    let ran = run_count(rt, alloc, &plan, &mut lists, &mut reader, output);
+    let task = Task::Count(plan, sets);
+    Ending::Ran(Invocation { task, input }, ran)
 }

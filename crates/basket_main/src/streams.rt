@@ -1,6 +1,6 @@
 //! What a program opens, and where it says why it ends.
 ghost use Rattle.std.specs.Prelude.{◌≡◌, [], ◌∷◌, false, IfOk, List, Option, ℕ};
-ghost use Rattle.basket_main.specs.Log.{Grows};
+ghost use Rattle.basket_main.specs.Log.{Grows, Opening, refusal_of};
 ghost use Rattle.basket_main.specs.declared.ending.Ending.{Ending as End};
 
 use crate::ending::Ending;
@@ -11,17 +11,27 @@ use std::io;
 pub trait Inputs {
     type Input: Source + Drop;
 
+    // The sets that are counted have readers of their own, so that a fault of one reader can't be
+    // told of the other.
+    type Sets: Source + Drop;
+
     // The bytes of each origin, or nothing if they are not reported.
     ghost bytes: { Self → Option (List ℕ) → Option (List ℕ) };
 
-    // What was to be opened, in this order, or nothing if that is not reported.
-    ghost opened: { Self → Option (List (Option (List ℕ))) };
+    // What was to be opened, in this order, and what came of it, or nothing if that is not reported.
+    ghost opened: { Self → Option (List Opening) };
 
     fn open(&mut self, origin: &Origin) -> io::Result<Self::Input>
         ensures fresh { IfOk result (λ input. Self.Input.has_failed input ≡ false) }
         ensures left { IfOk result (λ input. Self.Input.left input ≡ bytes self.old origin.now) }
         ensures same { (other : Option (List ℕ)) → bytes self.new other ≡ bytes self.old other }
-        ensures opened { Grows (opened self.old) (opened self.new) (origin.now ∷ []) };
+        ensures opened { Grows (opened self.old) (opened self.new) ((origin.now, refusal_of result) ∷ []) };
+
+    fn open_sets(&mut self, origin: &Origin) -> io::Result<Self::Sets>
+        ensures fresh { IfOk result (λ sets. Self.Sets.has_failed sets ≡ false) }
+        ensures left { IfOk result (λ sets. Self.Sets.left sets ≡ bytes self.old origin.now) }
+        ensures same { (other : Option (List ℕ)) → bytes self.new other ≡ bytes self.old other }
+        ensures opened { Grows (opened self.old) (opened self.new) ((origin.now, refusal_of result) ∷ []) };
 }
 
 /// Standard error.

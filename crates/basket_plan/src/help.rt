@@ -32,6 +32,7 @@ Commands:
   maximal  Lists those of these sets of which no larger set is in enough baskets
   rules    Lists the rules between sets of items that hold often enough
   count    Counts the baskets that have each of the sets that you give
+  look     Says what a file is, and which command mines it: `basket look FILE`
 
 Options:
   -h, --help     Print help; `basket help COMMAND` prints the help of a command

@@ -19,6 +19,8 @@ struct Shelf<'a> {
 impl<'a> Inputs for Shelf<'a> {
     type Input = SliceSource<'a>;
 
+    type Sets = SliceSource<'a>;
+
     ghost bytes = { λ s origin. Some (option_map_or (λ path. if bytes_eq path (codes "sets") then s.sets.now else s.baskets.now) origin s.standard.now) };
 
     ghost opened = { λ _. None };
@@ -33,6 +35,10 @@ impl<'a> Inputs for Shelf<'a> {
             Some("too large") => Err(io::Error::from(io::ErrorKind::OutOfMemory)),
             Some(_) => Err(io::Error::new(io::ErrorKind::NotFound, "no such file")),
         }
+    }
+
+    fn open_sets(&mut self, origin: &Origin) -> io::Result<SliceSource<'a>> {
+        self.open(origin)
     }
 }
 

@@ -1,0 +1,25 @@
+//! What a file is, by its first bytes: how its text is written, which form it has, and the command
+//! that mines it. What is recognised is a guess: of these functions no more is proved than that
+//! they are safe and end.
+#![tactic(auto)]
+
+mod column;
+mod command;
+mod csv_text;
+mod encoding;
+mod filter;
+mod foreign;
+mod lines;
+mod number_text;
+mod quotes;
+mod report;
+mod sample;
+mod separator;
+mod shape;
+mod shown;
+mod table;
+mod words;
+
+pub use command::ShellWord;
+pub use report::{MOST_BYTES, looked};
+pub use words::{HELP, Look, look_of};
