@@ -78,13 +78,15 @@ def baskets(data: Data, **keywords: Unpack[BasketsOptions]) -> Baskets:
 
     `total` is what all baskets weigh together, also those without an item and those that were
     left out before: supports, minimums and lifts are then shares of it. A question raises
-    `DataError` if the baskets that it sees weigh more.
+    `DataError` if the baskets that it sees weigh more. Prepared baskets keep their total, unless
+    another is given.
     """
     total = keywords.get("total")
     is_whole = isinstance(total, numbers.Integral) and not isinstance(total, bool)
     if total is not None and (not is_whole or total < 1):
         raise DataError(f"total is a number from 1 on, not {total!r}")
-    return replace(read(data, keywords), total=total)
+    made = read(data, keywords)
+    return made if total is None else replace(made, total=int(total))
 
 
 def _refuse_others(layout: Layout, allowed: str, what: str) -> None:
