@@ -17,7 +17,16 @@ from ._data import Data, read
 from ._errors import DataError, FileError
 from ._files import kept, state_of
 from ._keywords import CountOptions, Run, SetsOptions, Work, filled
-from ._minimum import exact_minimum, least_count
+from ._minimum import (
+    Confidence,
+    Minimum,
+    confidence_word,
+    exact_minimum,
+    is_short,
+    least_count,
+    minimum_of,
+    word_of,
+)
 from ._program import run
 from ._report import rules_frame, sets_frame
 
@@ -34,33 +43,36 @@ def words_of(options: Mapping[str, object]) -> list[str]:
 
 
 def asked(
-    command: str, data: Data, words: list[str], options: SetsOptions
+    command: str,
+    data: Data,
+    minimum: Minimum,
+    options: SetsOptions,
+    confidence: Confidence | None = None,
 ) -> pd.DataFrame:
     """The frame of the report of a command over the caller's data."""
-    baskets = read(data, options)
-    run_so = filled(Run, options)
-    if baskets.total is not None:
-        words = [f"--min={_least(words[0], baskets.total)}", *words[1:]]
-    command_line = [command, *words, *words_of(options), *baskets.words]
+    least = minimum_of(minimum)
+    words = [] if confidence is None else [f"--conf={confidence_word(confidence)}"]
+    words += words_of(options)
+    run_so, baskets = filled(Run, options), read(data, options)
     with kept(baskets.source) as source:
         before = state_of(source)
+        weight = None if is_short(least) else _weight_of(baskets, source)
+        whole = weight if baskets.total is None else baskets.total
+        if whole is not None and not isinstance(least, str):
+            least = least_count(least, whole)
+        command_line = [command, f"--min={word_of(least)}", *words, *baskets.words]
         report = run(command_line, source, progress=run_so["progress"])
-        weight = _weight_of(baskets, source)
+        weight = _weight_of(baskets, source) if weight is None else weight
         if state_of(source) != before:
             raise FileError(f"{source!s} was changed while it was read")
+    whole = baskets.whole(weight)
     if command == "rules":
         frame = rules_frame(report, baskets, weight, exact=run_so["exact"])
     else:
-        whole = baskets.whole(weight)
         frame = sets_frame(report, baskets, whole, exact=run_so["exact"])
     # Whoever draws the frame sees below which count it has nothing.
-    frame.attrs["minimum"] = _least(words[0], weight)
+    frame.attrs["minimum"] = least_count(exact_minimum(least), whole)
     return frame
-
-
-def _least(word: str, weight: int) -> int:
-    """The least count that meets the minimum of a word of the program in baskets of a weight."""
-    return least_count(exact_minimum(word.removeprefix("--min=")), weight)
 
 
 def _weight_of(baskets: Baskets, source: bytes | Path) -> int:

@@ -7,7 +7,7 @@ import pandas as pd
 from ._calls import asked
 from ._data import Data
 from ._keywords import SetsOptions, with_keywords
-from ._minimum import Minimum, minimum_word
+from ._minimum import Minimum
 
 
 @with_keywords
@@ -18,7 +18,7 @@ def items(
 
     Takes and returns what `sets` does; `miner` and `limit` have no effect.
     """
-    return asked("items", data, ["--min=" + minimum_word(minimum)], keywords)
+    return asked("items", data, minimum, keywords)
 
 
 @with_keywords
@@ -35,7 +35,7 @@ def sets(data: Data, minimum: Minimum, **keywords: Unpack[SetsOptions]) -> pd.Da
 
     Agrawal and Srikant, Fast algorithms for mining association rules, 1994.
     """
-    return asked("sets", data, ["--min=" + minimum_word(minimum)], keywords)
+    return asked("sets", data, minimum, keywords)
 
 
 @with_keywords
@@ -50,7 +50,7 @@ def closed(
     Pasquier, Bastide, Taouil and Lakhal, Discovering frequent closed itemsets for association
     rules, 1999.
     """
-    return asked("closed", data, ["--min=" + minimum_word(minimum)], keywords)
+    return asked("closed", data, minimum, keywords)
 
 
 @with_keywords
@@ -63,4 +63,4 @@ def maximal(
 
     Bayardo, Efficiently mining long patterns from databases, 1998.
     """
-    return asked("maximal", data, ["--min=" + minimum_word(minimum)], keywords)
+    return asked("maximal", data, minimum, keywords)

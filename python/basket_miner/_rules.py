@@ -9,7 +9,7 @@ from ._calls import asked, counted
 from ._data import Data
 from ._frames import column_of
 from ._keywords import CountOptions, SetsOptions, with_keywords
-from ._minimum import Confidence, Minimum, confidence_word, minimum_word
+from ._minimum import Confidence, Minimum
 
 
 @with_keywords
@@ -34,8 +34,7 @@ def rules(
 
     Agrawal and Srikant, 1994; the lift is the interest of Brin, Motwani, Ullman and Tsur, 1997.
     """
-    words = ["--min=" + minimum_word(minimum), "--conf=" + confidence_word(confidence)]
-    return asked("rules", data, words, keywords)
+    return asked("rules", data, minimum, keywords, confidence)
 
 
 @with_keywords

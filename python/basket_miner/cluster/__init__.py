@@ -30,6 +30,8 @@ handle: it runs the lost steps again. If a question is interrupted or fails, its
 program end, on all workers.
 """
 
+from collections.abc import Sequence
+from fractions import Fraction
 from typing import Any, Unpack
 
 import pandas as pd
@@ -38,7 +40,15 @@ from distributed import Client
 from .._baskets import Baskets
 from .._calls import words_of
 from .._keywords import PartOptions, PrepareOptions, Run, filled, with_keywords
-from .._minimum import Confidence, Minimum, confidence_word, minimum_word
+from .._minimum import (
+    Confidence,
+    Minimum,
+    confidence_word,
+    is_short,
+    least_count,
+    minimum_of,
+    word_of,
+)
 from .._report import rules_frame, sets_frame
 from ._parts import Parts, prepared
 from ._passes import answered
@@ -113,7 +123,7 @@ def sets(
         BasketError: as `prepare` and `report` do; `TooManySets` above the limit, which is that of
             the whole.
     """
-    return _frame(["sets", "--min=" + minimum_word(minimum)], parts, client, keywords)
+    return _frame("sets", minimum, parts, client, keywords)
 
 
 @with_keywords
@@ -125,7 +135,7 @@ def closed(
     **keywords: Unpack[PartOptions],
 ) -> pd.DataFrame:
     """The closed itemsets over all parts, as `basket_miner.closed`; arguments as in `sets`."""
-    return _frame(["closed", "--min=" + minimum_word(minimum)], parts, client, keywords)
+    return _frame("closed", minimum, parts, client, keywords)
 
 
 @with_keywords
@@ -137,8 +147,7 @@ def maximal(
     **keywords: Unpack[PartOptions],
 ) -> pd.DataFrame:
     """The maximal itemsets over all parts, as `basket_miner.maximal`; arguments as in `sets`."""
-    words = ["maximal", "--min=" + minimum_word(minimum)]
-    return _frame(words, parts, client, keywords)
+    return _frame("maximal", minimum, parts, client, keywords)
 
 
 @with_keywords
@@ -151,19 +160,31 @@ def rules(
     **keywords: Unpack[PartOptions],
 ) -> pd.DataFrame:
     """The rules over all parts, as `basket_miner.rules`; other arguments as in `sets`."""
-    words = ["rules", "--min=" + minimum_word(minimum)]
-    words += ["--conf=" + confidence_word(confidence)]
-    return _frame(words, parts, client, keywords)
+    words = ["--conf=" + confidence_word(confidence)]
+    return _frame("rules", minimum, parts, client, keywords, words)
 
 
 def _frame(
-    words: list[str], parts: Any, client: Client | None, options: PartOptions
+    command: str,
+    minimum: Minimum,
+    parts: Any,
+    client: Client | None,
+    options: PartOptions,
+    words: Sequence[str] = (),
 ) -> pd.DataFrame:
+    least = minimum_of(minimum)
     asked, run_so = client_of(client), filled(Run, options)
     ready = prepared(parts, asked, options, run_so["progress"])
-    question = question_of([*words, *words_of(options)])
-    answer = answered(asked, ready, question, run_so["progress"])
+    if isinstance(least, Fraction) and not is_short(least):
+        least = least_count(least, _weight_of(asked, ready))
+    given = [command, f"--min={word_of(least)}", *words, *words_of(options)]
+    answer = answered(asked, ready, question_of(given), run_so["progress"])
     baskets = Baskets(b"", labels=ready.labels, separator=ready.separator)
-    if question.command == "rules":
+    if command == "rules":
         return rules_frame(answer.report, baskets, answer.total, exact=run_so["exact"])
     return sets_frame(answer.report, baskets, answer.total, exact=run_so["exact"])
+
+
+def _weight_of(client: Client, parts: Parts) -> int:
+    """What all baskets weigh together, as each question finds out."""
+    return answered(client, parts, question_of(["items", "--min=1/1"])).total
