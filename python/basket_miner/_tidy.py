@@ -2,6 +2,7 @@
 
 import pandas as pd
 
+from ._columns import labels_column
 from ._frames import column_of
 
 _SIDES = {"antecedents": "antecedent", "consequents": "consequent"}
@@ -27,7 +28,7 @@ def tidy(frame: pd.DataFrame) -> pd.DataFrame:
     places = [row for row, _, _ in rows]
     items = [item for _, _, item in rows]
     found = frame.drop(columns=[*sides]).iloc[places].reset_index(drop=True)
-    found.insert(0, "item", pd.Series(items, dtype=None if items else object))
+    found.insert(0, "item", labels_column(items))
     if not is_sets:
         found.insert(0, "side", [side for _, side, _ in rows])
     found.insert(0, "set" if is_sets else "rule", frame.index[places])

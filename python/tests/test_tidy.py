@@ -1,6 +1,7 @@
 """A row for each item says what a row for each itemset or rule does."""
 
 import sqlite3
+from typing import Any
 
 import pandas as pd
 import pytest
@@ -46,6 +47,24 @@ def test_numbers_stay_numbers_and_no_row_keeps_the_columns() -> None:
     assert tidy(sets([[7], [7]], 2))["item"].dtype == "int64"
     found = tidy(rules(BASKETS, 3, 0.9))
     assert found.empty and list(found.columns)[:3] == ["rule", "side", "item"]
+
+
+@pytest.mark.parametrize(
+    "labels",
+    [
+        [1, 2.5],
+        [2**53 + 1, 2.5],
+        [2**63, -1],
+        ["2026-01-01", pd.Timestamp("2026-01-01")],
+        ["1", pd.Timedelta(1)],
+        [1, "1", ("a", 1)],
+    ],
+)
+def test_labels_of_several_types_stay_as_they_are(labels: list[Any]) -> None:
+    found = tidy(sets([labels], 1)[: len(labels)])["item"].tolist()
+    assert [(label, type(label)) for label in found] == [
+        (label, type(label)) for label in labels
+    ]
 
 
 def test_other_frames_are_refused() -> None:
