@@ -38,7 +38,7 @@ def long_frame(
         return long_frame(kept, basket, item, weight, drop)
     weights = None
     if weight is not None:
-        weights = _weights_by_place(places, checked_weights(_plain(columns[2])), weight)
+        weights = _weights_by_place(places, checked_weights(plain(columns[2])), weight)
     if (places[1:] < places[:-1]).any():
         places, numbers = grouped(places, numbers)
     return baskets_of(places, numbers, items.tolist(), weights)
@@ -50,18 +50,31 @@ def wide_frame(frame: pd.DataFrame, weight: Hashable | None, drop: bool) -> Bask
     if weight is not None:
         column = column_of(frame, weight)
         _refuse_gaps([_there(column)], [weight], False)
-        weights = checked_weights(_plain(column))
+        weights = checked_weights(plain(column))
         frame = frame.drop(columns=[weight])
+    return baskets_of(*wide_pairs(frame, drop), weights)
+
+
+def wide_pairs(frame: pd.DataFrame, drop: bool) -> tuple[Array, Array, Labels]:
+    """For each true value of such a frame the places of its row and its column, by rows, and the
+    labels of the columns."""
     labels = distinct(frame.columns.tolist(), "column")
     if not labels:
         raise DataError("the frame has no column of an item")
     if (table := _table(frame, drop)) is not None:
         rows, columns = np.nonzero(table)
-        return baskets_of(rows, columns, labels, weights)
+        return rows, columns, labels
     trues = [_trues(frame.iloc[:, at], drop) for at in range(len(labels))]
     numbers = np.repeat(np.arange(len(labels)), [len(places) for places in trues])
     places, numbers = grouped(np.concatenate(trues), numbers)
-    return baskets_of(places, numbers, labels, weights)
+    return places, numbers, labels
+
+
+def without_drop(fault: DataError, hint: str) -> DataError:
+    """A fault of a frame, for a call that has no `missing=`: what else helps against gaps."""
+    said = str(fault)
+    is_gap = said.endswith(DROP_HINT)
+    return DataError(said.removesuffix(DROP_HINT) + (hint if is_gap else ""))
 
 
 def _table(frame: pd.DataFrame, drop: bool) -> Array | None:
@@ -189,7 +202,7 @@ def _refuse_gaps(
             )
 
 
-def _plain(column: pd.Series) -> Array:
+def plain(column: pd.Series) -> Array:
     """The values of a column without missing ones, by a type of numpy."""
     values: Array = column.to_numpy()
     return np.array(values.tolist(), dtype=None) if values.dtype == object else values

@@ -12,7 +12,7 @@ import pandas as pd
 from ._baskets import Baskets
 from ._data import read
 from ._errors import DataError, InputError
-from ._frames import DROP_HINT, LONG_HINT, column_of
+from ._frames import LONG_HINT, column_of, without_drop
 from ._keywords import Miner
 from ._measures import MEASURES
 from ._program import run
@@ -61,9 +61,8 @@ def _baskets(df: pd.DataFrame) -> Baskets:
     try:
         return read(df, {})
     except DataError as fault:
-        said = str(fault).removesuffix(DROP_HINT).removesuffix(LONG_HINT)
-        hint = "; fill them with False first" if str(fault).endswith(DROP_HINT) else ""
-        raise DataError(f"{said}{hint}") from None
+        said = str(without_drop(fault, "; fill them with False first"))
+        raise DataError(said.removesuffix(LONG_HINT)) from None
 
 
 def _least(min_support: float, transactions: int) -> int:
