@@ -4,6 +4,7 @@ import io
 import itertools
 import warnings
 from collections.abc import Hashable, Iterable, Iterator, Mapping
+from numbers import Real
 from typing import Any
 
 import numpy as np
@@ -88,7 +89,9 @@ def _refuse_truths(places: Array, numbers: Array, labels: list[Hashable]) -> Non
         raise DataError(
             f"all items of the baskets are true or false: {labels}; {_MATRIX_HINT}"
         )
-    are_bits = len(labels) in (1, 2) and all(label in (0, 1) for label in labels)
+    are_bits = len(labels) in (1, 2) and all(
+        isinstance(label, Real) and label in (0, 1) for label in labels
+    )
     if are_bits and len(np.unique(2 * places + numbers)) < len(places):
         raise DataError(
             f"all items of the baskets are 0 or 1, and a basket has one of them twice; {_MATRIX_HINT}"

@@ -1,5 +1,7 @@
 """What is refused, with the exception's type and what it says."""
 
+import io
+import warnings
 from collections.abc import Callable, Iterator
 from pathlib import Path
 from typing import Any
@@ -32,6 +34,7 @@ def test_a_missing_item_is_refused_or_dropped_and_never_a_name(gone: Any) -> Non
     assert found["itemsets"].tolist() == [frozenset(["tea"]), frozenset(["jam"])]
     assert found["support"].tolist() == [0.5, 0.5]
     refused("a basket has a missing item", [["tea", gone], ["jam"]])
+    refused("a basket has a missing item", [[gone, 1], [1]])
     found = miner.sets([["tea", gone], ["jam"], [gone]], 1, missing="drop")
     assert found["itemsets"].tolist() == [frozenset(["tea"]), frozenset(["jam"])]
     assert found["support"].tolist() == [0.5, 0.5]
@@ -152,10 +155,35 @@ class Exchanged(Columns):
         ("items of the baskets are true or false: .True, False.; a table", Columns()),
         ("items of the baskets are true or false: .True.; a table", [[np.bool_(True)]]),
         ("iterables of hashable items: 'bool'", [True, False]),
+        ("items of the baskets are 0 or 1, .* a table of", [[0, 1, 0], [1, 1, 1]]),
+        ("items of the baskets are 0 or 1, .* a table of", [[1.0, 1.0], [1.0, 1.0]]),
+        ("recarray is not an iterable of baskets", ROWS.dropna().to_records()),
+        ("not the row .*rec", [*ROWS.dropna().to_records()]),
+        ("not the row Pandas.*a table is given", ROWS.dropna().itertuples()),
+        ("a path is a str", b"shop.dat"),
+        ("a file is given by its path", io.StringIO("1 2")),
+        ("lists, by .agg", ROWS.groupby("receipt")["product"]),
     ],
 )
 def test_what_is_no_iterable_of_baskets_is_refused(said: str, data: object) -> None:
     refused(said, data)
+
+
+@pytest.mark.parametrize("kind", [tuple, list])
+def test_rows_of_an_id_and_an_item_bring_a_warning(kind: Callable[..., Any]) -> None:
+    rows = [*map(kind, [(1, "tea"), (1, "jam"), (2, "tea")])]
+    with pytest.warns(UserWarning, match=r"as \[1, 'tea'\], .* basket= and item="):
+        miner.sets(rows, 1)
+
+
+@pytest.mark.parametrize(
+    "baskets",
+    [[["tea", "jam"]], [["tea", "jam"], ["jam", "tea"]], [[0, 1], [1, 0]], [[0], [1]]],
+)
+def test_baskets_of_two_items_bring_none(baskets: Any) -> None:
+    with warnings.catch_warnings():
+        warnings.simplefilter("error")
+        assert len(miner.sets(baskets, 1)) > 1
 
 
 def test_items_without_a_hash_are_refused() -> None:
