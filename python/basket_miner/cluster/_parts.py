@@ -14,15 +14,15 @@ from dask.base import is_dask_collection
 from dask.delayed import Delayed, delayed
 from distributed import Client, Future
 
+from .._baskets import Labels
 from .._data import SEPARATOR_WORDS, read
 from .._errors import DataError
 from .._frames import place_of
 from .._keywords import Layout, PartLayout, changed, filled
+from ._labels import joined, packed, unpacked
 from ._tasks import awaited, tree
 from ._texts import (
     KEY,
-    Labels,
-    joined,
     labels_of,
     labels_of_rows,
     no_rows,
@@ -148,10 +148,10 @@ def _baskets(
         for part in _futures(parts, client)
     ]
     found = [client.submit(labels_of, part, pure=False) for part in read_so]
-    labels = _all_labels(found, client, progress)
-    numbering = client.submit(same, labels, pure=False)
+    content = _all_labels(found, client, progress)
+    numbering = client.submit(same, content, pure=False)
     texts = [client.submit(text_of, part, numbering, pure=False) for part in read_so]
-    return Parts(texts, labels)
+    return Parts(texts, unpacked(content))
 
 
 def _frame(frame: Any, client: Client, layout: Layout, progress: bool) -> Parts:
@@ -168,24 +168,23 @@ def _frame(frame: Any, client: Client, layout: Layout, progress: bool) -> Parts:
         client.submit(labels_of_rows, part, layout, pure=False)
         for part in client.compute(kept.to_delayed())
     ]
-    labels = _all_labels(found, client, progress)
-    numbering = client.submit(same, labels, pure=False)
-    meta = numbered_rows(frame._meta, [], layout)
+    content = _all_labels(found, client, progress)
+    numbering = client.submit(same, content, pure=False)
+    meta = numbered_rows(frame._meta, packed([]), layout)
     # The shuffle for several machines, by tasks, which the engine can repeat.
     with client.as_current(), dask.config.set(shuffle="tasks"):
         rows = kept.map_partitions(numbered_rows, numbering, layout, meta=meta)
         whole = rows.shuffle(KEY).to_delayed()
-    return Parts(
-        client.compute([delayed(text_of_rows)(part) for part in whole]), labels
-    )
+    texts = client.compute([delayed(text_of_rows)(part) for part in whole])
+    return Parts(texts, unpacked(content))
 
 
-def _all_labels(parts: list[Future], client: Client, progress: bool) -> Labels:
-    """All of the labels of parts, by first appearance over the parts in their order.
+def _all_labels(parts: list[Future], client: Client, progress: bool) -> bytes:
+    """All of the labels of parts, packed, by first appearance over the parts in their order.
 
     The client has them, and a task whose words they are gives them to the workers. So they stay
     the same whatever is lost: the order of a set differs from process to process.
     """
     submit = partial(client.submit, pure=False)
-    labels: Labels = awaited(tree(submit, joined, parts), progress)
-    return labels
+    content: bytes = awaited(tree(submit, joined, parts), progress)
+    return content

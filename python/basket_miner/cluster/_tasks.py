@@ -5,6 +5,7 @@ import contextlib
 import uuid
 from collections.abc import Callable, Iterator
 from dataclasses import dataclass, field
+from functools import partial
 from importlib import import_module
 from typing import Any
 
@@ -25,9 +26,11 @@ class Tasks:
     name: str = field(default_factory=lambda: uuid.uuid4().hex)
 
     def submit(self, task: Callable[..., Any], *given: Any) -> Future:
-        """The future of a task."""
+        """The future of a task, which the engine shows by the task's name."""
+        made_of = task.func if isinstance(task, partial) else task
+        key = f"basket_{made_of.__name__.strip('_')}-{uuid.uuid4().hex}"
         words = (working_for, self.name, task, *given)
-        future: Future = self.client.submit(*words, pure=False)
+        future: Future = self.client.submit(*words, key=key)
         return future
 
     @contextlib.contextmanager
