@@ -2,7 +2,6 @@
 
 import csv
 import io
-import numbers
 import os
 import tempfile
 from collections.abc import Hashable, Iterable, Mapping
@@ -25,6 +24,7 @@ from ._minimum import (
     is_short,
     least_count,
     minimum_of,
+    whole_of,
     word_of,
 )
 from ._program import run
@@ -129,8 +129,9 @@ def _as_numbers(baskets: Baskets, sets: list[list[Hashable]]) -> tuple[Baskets, 
     if baskets.labels is None:
         for itemset in sets:
             for item in itemset:
-                is_whole = isinstance(item, numbers.Integral)
-                if not is_whole or isinstance(item, bool) or item not in _ITEMS:
+                # A range is quick to ask for Python's own numbers alone.
+                whole = whole_of(item)
+                if whole is None or whole not in _ITEMS:
                     raise DataError(f"an item of a FIMI file is a number, not {item!r}")
         return baskets, b"".join(b"%s\n" % _joined(itemset) for itemset in sets)
     numbering = {label: number for number, label in enumerate(baskets.labels)}

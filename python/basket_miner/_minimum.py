@@ -45,7 +45,7 @@ def minimum_of(minimum: Minimum) -> int | Fraction | str:
     if isinstance(minimum, str):
         found = _of_text(minimum)
         return minimum if found is None else found
-    count = _whole(minimum)
+    count = whole_of(minimum)
     if count is None:
         return _checked_share(minimum, "minimum")
     if not 1 <= count <= MOST_COUNT:
@@ -91,7 +91,7 @@ def confidence_word(confidence: Confidence) -> str:
         if not isinstance(found, Fraction):
             return confidence
         return word_of(_from_above(found))
-    whole = _whole(confidence)
+    whole = whole_of(confidence)
     share = confidence if whole is None else Fraction(whole)
     return word_of(_from_above(_checked_share(share, "confidence")))
 
@@ -143,7 +143,7 @@ def _from_above(share: Fraction) -> Fraction:
     return Fraction(1 + a * bottom, b * bottom)
 
 
-def _whole(value: object) -> int | None:
+def whole_of(value: object) -> int | None:
     """The number that an `int` of Python or numpy is. True and false are none."""
     is_whole = isinstance(value, numbers.Integral) and not isinstance(value, bool)
     return int(value) if is_whole else None  # type: ignore[call-overload]
