@@ -56,8 +56,9 @@ def rules(frame: pd.DataFrame, axes: Axes | None = None, most: int = 5) -> Axes:
     demand(frame, "support", "confidence", "lift")
     axes = axes_of(axes, 7.0, 4.5)
     is_few = len(frame) <= _MOST_EDGED
+    scale = scale_of(frame["lift"])
     style = {
-        "norm": scale_of(frame["lift"]),
+        "norm": scale,
         "cmap": COLOURS,
         "edgecolors": "black" if is_few else "grey",
         "linewidths": 1.0 if is_few else 0.3,
@@ -71,7 +72,9 @@ def rules(frame: pd.DataFrame, axes: Axes | None = None, most: int = 5) -> Axes:
     for part, mark, label, size in reversed(kinds):
         places = 100 * part["support"], 100 * part["confidence"]
         area = size if is_few else size / 4
-        dots = axes.scatter(*places, c=part["lift"], marker=mark, s=area, **style)
+        # Matplotlib looks for a finite value.
+        lifts = part["lift"].clip(upper=scale.vmax)
+        dots = axes.scatter(*places, c=lifts, marker=mark, s=area, **style)
     if is_low.any() and not is_low.all():
         own = {"color": "lightgrey", "markeredgecolor": "black", "linestyle": "none"}
         axes.legend(
