@@ -33,8 +33,8 @@ is refused.
 
 `help(sets)` has all keywords. Those of the program's work, as `miner` and `workers`, change time and
 memory, and no report. The floats of a frame are those nearest to the exact values. An interrupt
-ends the program, and so does the end of Python, however it comes, on Linux with the tool `setpriv`
-of util-linux.
+ends the program, and so do `timeout=`, a task that is cancelled while it waits for `to_thread(sets,
+data, ..)`, and the end of Python, however it comes, on Linux with the tool `setpriv` of util-linux.
 
 The program has the package's version, or a later one of the same major version.
 
@@ -49,6 +49,7 @@ message; `TooManySets.limit` and `InputError.line` are the numbers that the mess
 
 from ._baskets import Baskets
 from ._data import baskets
+from ._ending import to_thread
 from ._errors import (
     BasketError,
     DataError,
@@ -56,6 +57,7 @@ from ._errors import (
     InputError,
     OutOfMemory,
     ProgramMissing,
+    TimedOut,
     TooManySets,
     UsageError,
 )
@@ -74,6 +76,7 @@ __all__ = [
     "InputError",
     "OutOfMemory",
     "ProgramMissing",
+    "TimedOut",
     "TooManySets",
     "UsageError",
     "__version__",
@@ -87,4 +90,5 @@ __all__ = [
     "rules",
     "sets",
     "tidy",
+    "to_thread",
 ]

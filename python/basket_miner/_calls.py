@@ -13,6 +13,7 @@ import pandas as pd
 
 from ._baskets import Baskets
 from ._data import Data, read
+from ._ending import end_of
 from ._errors import DataError, FileError
 from ._files import kept, state_of
 from ._keywords import CountOptions, Run, SetsOptions, Work, filled
@@ -53,16 +54,17 @@ def asked(
     least = minimum_of(minimum)
     words = [] if confidence is None else [f"--conf={confidence_word(confidence)}"]
     words += words_of(options)
-    run_so, baskets = filled(Run, options), read(data, options)
+    run_so, until = filled(Run, options), end_of(options.get("timeout"))
+    baskets = read(data, options)
     with kept(baskets.source) as source:
         before = state_of(source)
-        weight = None if is_short(least) else _weight_of(baskets, source)
+        weight = None if is_short(least) else _weight_of(baskets, source, until)
         whole = weight if baskets.total is None else baskets.total
         if whole is not None and not isinstance(least, str):
             least = least_count(least, whole)
         command_line = [command, f"--min={word_of(least)}", *words, *baskets.words]
-        report = run(command_line, source, progress=run_so["progress"])
-        weight = _weight_of(baskets, source) if weight is None else weight
+        report = run(command_line, source, progress=run_so["progress"], until=until)
+        weight = _weight_of(baskets, source, until) if weight is None else weight
         if state_of(source) != before:
             raise FileError(f"{source!s} was changed while it was read")
     whole = baskets.whole(weight)
@@ -75,7 +77,7 @@ def asked(
     return frame
 
 
-def _weight_of(baskets: Baskets, source: bytes | Path) -> int:
+def _weight_of(baskets: Baskets, source: bytes | Path, until: float | None) -> int:
     """What all baskets weigh together: known, or counted by the program.
 
     The program counts the empty set, which each basket has.
@@ -83,15 +85,15 @@ def _weight_of(baskets: Baskets, source: bytes | Path) -> int:
     if baskets.weight is not None:
         return baskets.weight
     words = ["count", f"--sets={os.devnull}", *baskets.words]
-    return int(run(words, source).strip(b"()\n"))
+    return int(run(words, source, until=until).strip(b"()\n"))
 
 
 def counted(
     data: Data, sets: Iterable[Iterable[Hashable]], options: CountOptions
 ) -> pd.DataFrame:
     """The frame of what the program counts of some sets over the caller's data."""
+    run_so, until = filled(Run, options), end_of(options.get("timeout"))
     baskets = read(data, options)
-    run_so = filled(Run, options)
     given = [_itemset(itemset) for itemset in sets]
     if baskets.separator is None:
         baskets, text = _as_numbers(baskets, given)
@@ -102,7 +104,7 @@ def counted(
         file.flush()
         words = ["count", f"--sets={file.name}", *words_of(options), *baskets.words]
         with kept(baskets.source) as source:
-            report = run(words, source, progress=run_so["progress"])
+            report = run(words, source, progress=run_so["progress"], until=until)
     if baskets.total is not None:
         # The first line is the empty set.
         first, _, others = report.partition(b"\n")

@@ -64,6 +64,10 @@ class OutOfMemory(BasketError):
     status = 6
 
 
+class TimedOut(BasketError, TimeoutError):
+    """The time of `timeout=` was over, and the program was ended."""
+
+
 class ProgramMissing(BasketError):
     """There is no program to run. The message says how to get it."""
 

@@ -108,6 +108,12 @@ class Run(TypedDict, total=False):
         bool,
         Keyword(False, "shows what runs, in a terminal or a notebook."),
     ]
+    timeout: Annotated[
+        float | None,
+        Keyword(
+            None, "after so many seconds the program is ended, and TimedOut raised."
+        ),
+    ]
 
 
 class Work(Run, total=False):

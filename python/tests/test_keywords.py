@@ -12,7 +12,7 @@ from basket_miner import cluster, plot
 
 FRAME: Any = {"basket": None, "item": None, "weight": None, "missing": "refuse"}
 FILE: Any = {"form": None, "sep": None, "header": False, "weighted": False}
-RUN: Any = {"workers": 1, "exact": False, "progress": False}
+RUN: Any = {"workers": 1, "exact": False, "progress": False, "timeout": None}
 WORK: Any = {**RUN, "miner": None, "limit": None}
 PART: Any = {**FRAME, **FILE}
 LAYOUT: Any = {**PART, "names": None}

@@ -43,7 +43,7 @@ def test_an_int_is_a_count_and_a_fraction_a_share() -> None:
     whole: Any = np.int64(3)
     assert minimum_word(whole) == "3"
     assert minimum_word(Fraction(2, 6)) == "1/3"
-    assert minimum_word("5%") == "5%"
+    assert minimum_word("5%") == "1/20"
 
 
 def test_zero_and_one_are_shares_as_a_confidence() -> None:

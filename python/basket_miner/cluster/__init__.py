@@ -39,6 +39,7 @@ from distributed import Client
 
 from .._baskets import Baskets
 from .._calls import words_of
+from .._ending import end_of
 from .._keywords import PartOptions, PrepareOptions, Run, filled, with_keywords
 from .._minimum import (
     Confidence,
@@ -172,19 +173,16 @@ def _frame(
     options: PartOptions,
     words: Sequence[str] = (),
 ) -> pd.DataFrame:
-    least = minimum_of(minimum)
+    least, until = minimum_of(minimum), end_of(options.get("timeout"))
     asked, run_so = client_of(client), filled(Run, options)
     ready = prepared(parts, asked, options, run_so["progress"])
     if isinstance(least, Fraction) and not is_short(least):
-        least = least_count(least, _weight_of(asked, ready))
+        # What all baskets weigh together, as each question finds out.
+        weighing = question_of(["items", "--min=1/1"])
+        least = least_count(least, answered(asked, ready, weighing, until=until).total)
     given = [command, f"--min={word_of(least)}", *words, *words_of(options)]
-    answer = answered(asked, ready, question_of(given), run_so["progress"])
+    answer = answered(asked, ready, question_of(given), run_so["progress"], until)
     baskets = Baskets(b"", labels=ready.labels, separator=ready.separator)
     if command == "rules":
         return rules_frame(answer.report, baskets, answer.total, exact=run_so["exact"])
     return sets_frame(answer.report, baskets, answer.total, exact=run_so["exact"])
-
-
-def _weight_of(client: Client, parts: Parts) -> int:
-    """What all baskets weigh together, as each question finds out."""
-    return answered(client, parts, question_of(["items", "--min=1/1"])).total
