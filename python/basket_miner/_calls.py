@@ -7,16 +7,16 @@ import tempfile
 from collections.abc import Hashable, Iterable, Mapping
 from dataclasses import replace
 from pathlib import Path
-from typing import Any
+from typing import Any, get_args
 
 import pandas as pd
 
 from ._baskets import Baskets
 from ._data import Data, read
 from ._ending import end_of
-from ._errors import DataError, FileError
+from ._errors import DataError, FileError, UsageError
 from ._files import kept, state_of
-from ._keywords import CountOptions, Run, SetsOptions, Work, filled
+from ._keywords import CountOptions, Miner, Run, SetsOptions, Work, filled
 from ._minimum import (
     Confidence,
     Minimum,
@@ -37,6 +37,16 @@ _ITEMS = range(2**32)
 def words_of(options: Mapping[str, object]) -> list[str]:
     """The options of the program that say how it works."""
     work = filled(Work, options)
+    for name, most in (("workers", 64), ("limit", 2**32 - 1)):
+        value = work[name]  # type: ignore[literal-required]
+        whole = whole_of(value)
+        if value is not None and (whole is None or not 1 <= whole <= most):
+            raise UsageError(
+                f"{name} is a whole number from 1 to {most}, not {value!r}"
+            )
+    if work["miner"] not in (None, *get_args(Miner)):
+        miners = ", ".join(get_args(Miner))
+        raise UsageError(f"miner is one of {miners}, not {work['miner']!r}")
     words = [f"--workers={work['workers']}"]
     words += [] if work["miner"] is None else [f"--miner={work['miner']}"]
     words += [] if work["limit"] is None else [f"--limit={work['limit']}"]

@@ -11,10 +11,11 @@ import pandas as pd
 
 from ._baskets import Baskets
 from ._errors import DataError
-from ._frames import long_frame, matrix, wide_frame
+from ._frames import long_frame, matrix
 from ._keywords import BasketsOptions, Layout, changed, filled, with_keywords
 from ._lists import listed
 from ._tables import frame_of, is_table
+from ._wide_frames import wide_frame
 
 # A data frame or another table, a sparse matrix, an iterable of iterables of labels, a path, or `Baskets`.
 Data = Any
@@ -100,6 +101,11 @@ def _refuse_no_path(path: str | os.PathLike[str]) -> None:
         )
     if "\0" in os.fspath(path):
         raise DataError("a path has no zero byte")
+    if "\n" in os.fspath(path):
+        raise DataError(
+            f"a path of a file is given, and {os.fspath(path)[:30]!r}.. is text of several lines: "
+            "write it to a file, or give a list of baskets"
+        )
 
 
 def _file(path: Path, layout: Layout) -> Baskets:

@@ -14,6 +14,7 @@ from ._baskets import Array, Baskets
 from ._data import read
 from ._errors import DataError, InputError
 from ._frames import LONG_HINT, column_of, without_drop
+from ._given_sets import itemsets_of
 from ._keywords import Miner
 from ._measures import MEASURES
 from ._minimum import MOST_COUNT
@@ -100,7 +101,7 @@ def counted(
 ) -> tuple[Baskets, dict[frozenset[Any], int]]:
     """The itemsets with their counts, as the program takes them and by themselves."""
     counts = _counts(column_of(df, "support"), transactions)
-    itemsets = [frozenset(itemset) for itemset in df["itemsets"]]
+    itemsets = itemsets_of(df, "itemsets")
     by_itemset = dict(zip(itemsets, counts.astype(np.int64).tolist()))
     if len(by_itemset) != len(itemsets) or frozenset() in by_itemset:
         raise DataError("the frame has an itemset twice, or one without an item")
@@ -144,9 +145,9 @@ def rules_report(words: list[str], baskets: Baskets) -> bytes:
 def by_support(df: pd.DataFrame, least: float, figures: list[str]) -> pd.DataFrame:
     """The rules of all itemsets of a support, which is all that is known of them."""
     rows = [
-        (frozenset(left), frozenset(itemset).difference(left), support)
+        (frozenset(left), itemset.difference(left), support)
         for itemset, support in zip(
-            column_of(df, "itemsets"), column_of(df, "support").astype(float)
+            itemsets_of(df, "itemsets"), column_of(df, "support").astype(float)
         )
         if support >= least
         for size in range(len(itemset) - 1, 0, -1)

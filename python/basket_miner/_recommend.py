@@ -17,11 +17,13 @@ from ._baskets import Baskets
 from ._columns import labels_column
 from ._data import Data
 from ._errors import DataError
-from ._frames import column_of, wide_pairs, without_drop
+from ._frames import column_of, without_drop
+from ._given_sets import itemsets_of
 from ._lists import each
 from ._numbering import numbered
 from ._rule_counts import RuleCounts, counts_of
 from ._tables import frame_of, is_table
+from ._wide_frames import wide_pairs
 
 _FIGURES = ("lift", "confidence", "count")
 
@@ -98,9 +100,9 @@ def recommend(
 
 def _best_first(rules: pd.DataFrame, by: str) -> list[_Rule]:
     counts = counts_of(rules)
-    sides = (column_of(rules, name) for name in ("antecedents", "consequents"))
+    sides = (itemsets_of(rules, name) for name in ("antecedents", "consequents"))
     found = [
-        _Rule(label, frozenset(left), frozenset(right), *figures)
+        _Rule(label, left, right, *figures)
         for label, left, right, figures in zip(rules.index, *sides, _figures(counts))
     ]
     names = [*dict.fromkeys((by, *_FIGURES))]

@@ -7,7 +7,7 @@ import pandas as pd
 
 from ._calls import asked, counted
 from ._data import Data
-from ._frames import column_of
+from ._given_sets import itemsets_of
 from ._keywords import CountOptions, SetsOptions, with_keywords
 from ._minimum import Confidence, Minimum
 
@@ -55,5 +55,7 @@ def count(
 
     Raises `DataError` where the data or the itemsets do not fit, else what the program ends with.
     """
-    given = column_of(sets, "itemsets") if isinstance(sets, pd.DataFrame) else sets
+    given: Iterable[Iterable[Hashable]] = sets
+    if isinstance(sets, pd.DataFrame):
+        given = itemsets_of(sets, "itemsets")
     return counted(data, given, keywords)

@@ -57,12 +57,8 @@ def rules(frame: pd.DataFrame, axes: Axes | None = None, most: int = 5) -> Axes:
     axes = axes_of(axes, 7.0, 4.5)
     is_few = len(frame) <= _MOST_EDGED
     scale = scale_of(frame["lift"])
-    style = {
-        "norm": scale,
-        "cmap": COLOURS,
-        "edgecolors": "black" if is_few else "grey",
-        "linewidths": 1.0 if is_few else 0.3,
-    }
+    style = {"norm": scale, "cmap": COLOURS, "linewidths": 1.0 if is_few else 0.3}
+    style["edgecolors"] = "black" if is_few else "grey"
     rising = frame.sort_values("lift", kind="stable")
     is_low = rising["lift"] < 1
     kinds = (
@@ -72,7 +68,7 @@ def rules(frame: pd.DataFrame, axes: Axes | None = None, most: int = 5) -> Axes:
     for part, mark, label, size in reversed(kinds):
         places = 100 * part["support"], 100 * part["confidence"]
         area = size if is_few else size / 4
-        # Matplotlib looks for a finite value.
+        # Matplotlib looks for a finite one.
         lifts = part["lift"].clip(upper=scale.vmax)
         dots = axes.scatter(*places, c=lifts, marker=mark, s=area, **style)
     if is_low.any() and not is_low.all():

@@ -78,6 +78,32 @@ def test_a_matrix_that_names_a_place_twice_is_refused() -> None:
     refused("name 'a' stands twice", scipy.sparse.eye(2), names=["a", "a"])
 
 
+def test_a_frame_of_quantities_and_one_by_its_index_say_what_to_give() -> None:
+    refused("is given as frame > 0", pd.DataFrame({"tea": [0, 2], "jam": [1, 1]}))
+    refused("an index: give frame.reset_index", ROWS.set_index("receipt"), **LONG)
+
+
+def test_a_text_of_lines_is_no_path() -> None:
+    refused("'bread,milk.nbread'.. is text of several lines", "bread,milk\nbread")
+
+
+@pytest.mark.parametrize(
+    ("said", "options"),
+    [
+        ("workers is a whole number from 1 to 64, not 0", {"workers": 0}),
+        ("workers is a whole number from 1 to 64, not True", {"workers": True}),
+        ("limit is a whole number from 1 to .*, not 1000000.0", {"limit": 1e6}),
+        ("miner is one of apriori, .*fpgrowth, not 'fp'", {"miner": "fp"}),
+    ],
+)
+def test_words_of_the_work_are_refused_as_python_has_them(
+    said: str, options: dict[str, Any]
+) -> None:
+    with pytest.raises(miner.UsageError, match=said) as caught:
+        miner.sets([["tea"]], 1, **options)
+    assert not hasattr(caught.value, "__notes__")
+
+
 def test_columns_that_are_missing_or_stand_twice_are_refused() -> None:
     refused("no column 'basket'", ROWS, basket="basket", item="product")
     twice = pd.concat([ROWS, ROWS[["product"]]], axis=1)
@@ -158,7 +184,7 @@ class Exchanged(Columns):
         ("items of the baskets are 0 or 1, .* a table of", [[0, 1, 0], [1, 1, 1]]),
         ("items of the baskets are 0 or 1, .* a table of", [[1.0, 1.0], [1.0, 1.0]]),
         ("recarray is not an iterable of baskets", ROWS.dropna().to_records()),
-        ("not the row .*rec", [*ROWS.dropna().to_records()]),
+        ("not the row .*tea.* of a table", [*ROWS.dropna().to_records()]),
         ("not the row Pandas.*a table is given", ROWS.dropna().itertuples()),
         ("a path is a str", b"shop.dat"),
         ("a file is given by its path", io.StringIO("1 2")),

@@ -70,3 +70,7 @@ def test_labels_of_several_types_stay_as_they_are(labels: list[Any]) -> None:
 def test_other_frames_are_refused() -> None:
     with pytest.raises(DataError, match="no column 'antecedents'"):
         tidy(pd.DataFrame({"a": [1]}))
+    with pytest.raises(DataError, match="a pandas.DataFrame, not list"):
+        tidy([frozenset("a")])
+    with pytest.raises(DataError, match="has a column 'item' already: rename it"):
+        tidy(sets(BASKETS, 2).assign(item=1))
