@@ -4,7 +4,7 @@ import argparse
 import sys
 
 from ._errors import BasketError
-from ._explore import explore
+from ._explore import explore, file_of, page_of
 from ._rules import rules
 
 
@@ -27,14 +27,21 @@ def _parser() -> argparse.ArgumentParser:
     command.add_argument("--miner")
     command.add_argument("--workers", type=int, default=1)
     command.add_argument("--limit", type=int)
-    command.add_argument("-o", "--output", required=True, help="the page's file")
+    command.add_argument("--title", help="what stands above the rules")
+    command.add_argument(
+        "-o", "--output", required=True, help="the page's file; - is standard output"
+    )
     return parser
 
 
 def main(words: list[str] | None = None) -> int:
     """Runs a command line; without one, that of this process. Returns the exit status."""
     given = _parser().parse_args(words)
+    is_file = given.output != "-"
     try:
+        if is_file:
+            # Before the rules are mined.
+            file_of(given.output)
         found = rules(
             given.file,
             given.min,
@@ -47,8 +54,11 @@ def main(words: list[str] | None = None) -> int:
             workers=given.workers,
             limit=given.limit,
         )
-        explore(found, given.output)
-    except (BasketError, OSError) as fault:
+        if is_file:
+            explore(found, given.output, title=given.title)
+        else:
+            sys.stdout.write(page_of(found, given.title))
+    except BasketError as fault:
         print(fault, *getattr(fault, "__notes__", ()), sep="\n", file=sys.stderr)
         return 1
     print(f"{len(found)} rules in {given.output}", file=sys.stderr)
