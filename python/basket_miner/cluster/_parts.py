@@ -2,7 +2,7 @@
 """Parts of the baskets where the workers of a cluster can read them."""
 
 import os
-from collections.abc import Iterable, Sequence
+from collections.abc import Hashable, Iterable, Sequence
 from dataclasses import dataclass
 from functools import partial
 from pathlib import Path
@@ -127,7 +127,11 @@ def _listed(
     # Here, since it takes a second.
     from dask.dataframe import from_delayed  # type: ignore[attr-defined]
 
-    frames = [client.submit(rows_of, part) for part in _futures(parts, client)]
+    names = _columns(layout)
+    frames = [
+        client.submit(rows_of, part, f"part {number} of {len(parts)}", names)
+        for number, part in enumerate(_futures(parts, client), 1)
+    ]
     meta = awaited(client.submit(no_rows, frames[0]), progress)
     frame = from_delayed(frames, meta=meta, verify_meta=False)
     return _frame(frame, client, layout, progress)
@@ -157,10 +161,7 @@ def _baskets(
 def _frame(frame: Any, client: Client, layout: Layout, progress: bool) -> Parts:
     if layout["basket"] is None and layout["item"] is None:
         return _baskets(frame.to_delayed(), client, layout, progress)
-    if layout["basket"] is None or layout["item"] is None:
-        raise DataError("a frame with a row for each item needs both basket= and item=")
-    names = [layout["basket"], layout["item"]]
-    names += [] if layout["weight"] is None else [layout["weight"]]
+    names = _columns(layout)
     for name in names:
         place_of(frame.columns, name)
     kept = client.persist(frame[names])
@@ -177,6 +178,14 @@ def _frame(frame: Any, client: Client, layout: Layout, progress: bool) -> Parts:
         whole = rows.shuffle(KEY).to_delayed()
     texts = client.compute([delayed(text_of_rows)(part) for part in whole])
     return Parts(texts, unpacked(content))
+
+
+def _columns(layout: Layout) -> list[Hashable]:
+    """The columns of a frame with a row for each item."""
+    if layout["basket"] is None or layout["item"] is None:
+        raise DataError("a frame with a row for each item needs both basket= and item=")
+    weight = [] if layout["weight"] is None else [layout["weight"]]
+    return [layout["basket"], layout["item"], *weight]
 
 
 def _all_labels(parts: list[Future], client: Client, progress: bool) -> bytes:

@@ -1,6 +1,7 @@
 # mypy: allow-untyped-calls
 """What workers make of a part of the baskets: its labels, and its text by the numbers of all parts."""
 
+from collections.abc import Hashable, Sequence
 from typing import Any
 
 import numpy as np
@@ -9,7 +10,7 @@ import pandas as pd
 from .._baskets import Baskets, baskets_of, checked_weights, grouped
 from .._data import read
 from .._errors import DataError
-from .._frames import plain
+from .._frames import column_of, plain
 from .._keywords import Layout
 from .._numbering import numbered
 from .._tables import frame_of, is_table
@@ -23,14 +24,17 @@ def same(numbering: bytes) -> bytes:
     return numbering
 
 
-def rows_of(part: Any) -> pd.DataFrame:
-    """A part as a data frame of pandas."""
+def rows_of(part: Any, name: str, columns: Sequence[Hashable]) -> pd.DataFrame:
+    """The columns of a part as a data frame of pandas."""
     found = frame_of(part) if is_table(part) else part
     if not isinstance(found, pd.DataFrame):
         raise DataError(
-            f"a part with a row for each item is a data frame, not {type(part).__name__}"
+            f"a part with a row for each item is a data frame, not {type(part).__name__} ({name})"
         )
-    return found
+    try:
+        return pd.concat([column_of(found, column) for column in columns], axis=1)
+    except DataError as fault:
+        raise DataError(f"{fault} ({name})") from None
 
 
 def no_rows(part: pd.DataFrame) -> pd.DataFrame:
