@@ -4,7 +4,7 @@ import csv
 import io
 import os
 import tempfile
-from collections.abc import Hashable, Iterable, Mapping
+from collections.abc import Hashable, Iterable, Mapping, Sequence
 from dataclasses import replace
 from pathlib import Path
 from typing import Any, get_args
@@ -18,9 +18,7 @@ from ._errors import DataError, FileError, UsageError
 from ._files import kept, state_of
 from ._keywords import CountOptions, Miner, Run, SetsOptions, Work, filled
 from ._minimum import (
-    Confidence,
     Minimum,
-    confidence_word,
     exact_minimum,
     is_short,
     least_count,
@@ -58,12 +56,10 @@ def asked(
     data: Data,
     minimum: Minimum,
     options: SetsOptions,
-    confidence: Confidence | None = None,
+    words: Sequence[str] = (),
 ) -> pd.DataFrame:
-    """The frame of the report of a command over the caller's data."""
-    least = minimum_of(minimum)
-    words = [] if confidence is None else [f"--conf={confidence_word(confidence)}"]
-    words += words_of(options)
+    """The frame of the report of a command, with words of its own, over the caller's data."""
+    least, words = minimum_of(minimum), [*words, *words_of(options)]
     run_so, until = filled(Run, options), end_of(options.get("timeout"))
     baskets = read(data, options)
     with kept(baskets.source) as source:

@@ -12,9 +12,11 @@ import pandas as pd
 from ._baskets import Baskets
 from ._errors import DataError
 from ._frames import long_frame, matrix
-from ._keywords import BasketsOptions, Layout, changed, filled, with_keywords
+from ._keywords import BasketsOptions, Layout, changed, filled
 from ._lists import listed
+from ._signatures import BasketsCall
 from ._tables import frame_of, is_table
+from ._typed import Typed
 from ._wide_frames import wide_frame
 
 # A data frame or another table, a sparse matrix, an iterable of iterables of labels, a path, or `Baskets`.
@@ -65,7 +67,7 @@ def read(data: Data, keywords: Layout) -> Baskets:
     return listed(data, drop)
 
 
-@with_keywords
+@Typed[BasketsCall]()
 def baskets(data: Data, **keywords: Unpack[BasketsOptions]) -> Baskets:
     """Baskets that many questions are asked of, made for the program once.
 

@@ -6,11 +6,13 @@ import pandas as pd
 
 from ._calls import asked
 from ._data import Data
-from ._keywords import SetsOptions, with_keywords
+from ._keywords import SetsOptions
 from ._minimum import Minimum
+from ._signatures import ItemsetsCall
+from ._typed import Typed
 
 
-@with_keywords
+@Typed[ItemsetsCall]()
 def items(
     data: Data, minimum: Minimum, **keywords: Unpack[SetsOptions]
 ) -> pd.DataFrame:
@@ -21,11 +23,16 @@ def items(
     return asked("items", data, minimum, keywords)
 
 
-@with_keywords
+@Typed[ItemsetsCall]()
 def sets(data: Data, minimum: Minimum, **keywords: Unpack[SetsOptions]) -> pd.DataFrame:
     """The frequent itemsets: those that are in enough baskets.
 
-    Takes the baskets and the least support of an itemset, as the package's documentation says.
+    Takes the baskets as the package's documentation says, and the least support of an itemset,
+    `minimum`: an `int` from 1 on is a count of baskets, and all else is a share of all baskets, from
+    0 to 1. A `float` or a `decimal.Decimal` means what it prints, so 0.005 is 1/200 exactly, a
+    `fractions.Fraction` itself. A text is one of "20", "5%", "0.5%", "1/200", "0.005", of which the
+    first is a count.
+
     Returns a row for each itemset, those of fewer items first: `itemsets` (a `frozenset` of the
     caller's labels), `count` (of the baskets that have all its items) and `support` (this count
     as a share of all baskets, from 0 to 1), and with `exact` also `exact_support`.
@@ -38,7 +45,7 @@ def sets(data: Data, minimum: Minimum, **keywords: Unpack[SetsOptions]) -> pd.Da
     return asked("sets", data, minimum, keywords)
 
 
-@with_keywords
+@Typed[ItemsetsCall]()
 def closed(
     data: Data, minimum: Minimum, **keywords: Unpack[SetsOptions]
 ) -> pd.DataFrame:
@@ -53,7 +60,7 @@ def closed(
     return asked("closed", data, minimum, keywords)
 
 
-@with_keywords
+@Typed[ItemsetsCall]()
 def maximal(
     data: Data, minimum: Minimum, **keywords: Unpack[SetsOptions]
 ) -> pd.DataFrame:

@@ -8,11 +8,13 @@ import pandas as pd
 from ._calls import asked, counted
 from ._data import Data
 from ._given_sets import itemsets_of
-from ._keywords import CountOptions, SetsOptions, with_keywords
-from ._minimum import Confidence, Minimum
+from ._keywords import CountOptions, SetsOptions
+from ._minimum import Confidence, Minimum, confidence_word
+from ._signatures import CountCall, RulesCall
+from ._typed import Typed
 
 
-@with_keywords
+@Typed[RulesCall]()
 def rules(
     data: Data,
     minimum: Minimum,
@@ -34,10 +36,11 @@ def rules(
 
     Agrawal and Srikant, 1994; the lift is the interest of Brin, Motwani, Ullman and Tsur, 1997.
     """
-    return asked("rules", data, minimum, keywords, confidence)
+    words = ["--conf=" + confidence_word(confidence)]
+    return asked("rules", data, minimum, keywords, words)
 
 
-@with_keywords
+@Typed[CountCall]()
 def count(
     data: Data,
     sets: pd.DataFrame | Iterable[Iterable[Hashable]],

@@ -17,7 +17,7 @@ from matplotlib.lines import Line2D
 
 from ._errors import DataError
 from ._itemsets import sets
-from ._keywords import SetsOptions, with_keywords
+from ._keywords import SetsOptions
 from ._minimum import Minimum, exact_minimum, least_count
 from ._picture import (
     COLOURS,
@@ -30,6 +30,8 @@ from ._picture import (
     scale_of,
     spaced,
 )
+from ._signatures import MinimumsCall
+from ._typed import Typed
 
 _LINES = ("#0072B2", "#D55E00", "#009E73", "#CC79A7", "#56B4E9")
 _MARKS = "os^Dv"
@@ -105,7 +107,7 @@ def _name_strongest(frame: pd.DataFrame, axes: Axes, most: int) -> None:
     put_labels(axes, names, marks)
 
 
-@with_keywords
+@Typed[MinimumsCall]()
 def minimums(
     data: Any,
     minimums: Iterable[Minimum],

@@ -40,7 +40,7 @@ from distributed import Client
 from .._baskets import Baskets
 from .._calls import words_of
 from .._ending import end_of
-from .._keywords import PartOptions, PrepareOptions, Run, filled, with_keywords
+from .._keywords import PartOptions, PrepareOptions, Run, filled
 from .._minimum import (
     Confidence,
     Minimum,
@@ -51,15 +51,17 @@ from .._minimum import (
     word_of,
 )
 from .._report import rules_frame, sets_frame
+from .._typed import Typed
 from ._parts import Parts, prepared
 from ._passes import answered
 from ._question import question_of
+from ._signatures import PrepareCall, RulesCall, SetsCall
 from ._workers import client_of
 
 __all__ = ["Parts", "closed", "maximal", "prepare", "report", "rules", "sets"]
 
 
-@with_keywords
+@Typed[PrepareCall]()
 def prepare(
     parts: Any, *, client: Client | None = None, **keywords: Unpack[PrepareOptions]
 ) -> Parts:
@@ -105,7 +107,7 @@ def report(
     return answered(asked, ready, question, progress).report
 
 
-@with_keywords
+@Typed[SetsCall]()
 def sets(
     parts: Any,
     minimum: Minimum,
@@ -127,7 +129,7 @@ def sets(
     return _frame("sets", minimum, parts, client, keywords)
 
 
-@with_keywords
+@Typed[SetsCall]()
 def closed(
     parts: Any,
     minimum: Minimum,
@@ -139,7 +141,7 @@ def closed(
     return _frame("closed", minimum, parts, client, keywords)
 
 
-@with_keywords
+@Typed[SetsCall]()
 def maximal(
     parts: Any,
     minimum: Minimum,
@@ -151,7 +153,7 @@ def maximal(
     return _frame("maximal", minimum, parts, client, keywords)
 
 
-@with_keywords
+@Typed[RulesCall]()
 def rules(
     parts: Any,
     minimum: Minimum,
