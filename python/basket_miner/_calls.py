@@ -64,13 +64,13 @@ def asked(
     baskets = read(data, options)
     with kept(baskets.source) as source:
         before = state_of(source)
-        weight = None if is_short(least) else _weight_of(baskets, source, until)
+        weight = None if is_short(least) else weight_of(baskets, source, until)
         whole = weight if baskets.total is None else baskets.total
         if whole is not None and not isinstance(least, str):
             least = least_count(least, whole)
         command_line = [command, f"--min={word_of(least)}", *words, *baskets.words]
         report = run(command_line, source, progress=run_so["progress"], until=until)
-        weight = _weight_of(baskets, source, until) if weight is None else weight
+        weight = weight_of(baskets, source, until) if weight is None else weight
         if state_of(source) != before:
             raise FileError(f"{source!s} was changed while it was read")
     whole = baskets.whole(weight)
@@ -83,7 +83,7 @@ def asked(
     return frame
 
 
-def _weight_of(baskets: Baskets, source: bytes | Path, until: float | None) -> int:
+def weight_of(baskets: Baskets, source: bytes | Path, until: float | None) -> int:
     """What all baskets weigh together: known, or counted by the program.
 
     The program counts the empty set, which each basket has.

@@ -1,14 +1,15 @@
 """The calls that list items and itemsets."""
 
-from typing import Unpack
+from typing import Unpack, cast
 
 import pandas as pd
 
 from ._calls import asked
-from ._data import Data
-from ._keywords import SetsOptions
+from ._data import Data, read
+from ._keywords import SetsOptions, SizedOptions, Work, keywords_of
+from ._levels import sized
 from ._minimum import Minimum
-from ._signatures import ItemsetsCall
+from ._signatures import ItemsetsCall, SetsCall
 from ._typed import Typed
 
 
@@ -23,8 +24,10 @@ def items(
     return asked("items", data, minimum, keywords)
 
 
-@Typed[ItemsetsCall]()
-def sets(data: Data, minimum: Minimum, **keywords: Unpack[SetsOptions]) -> pd.DataFrame:
+@Typed[SetsCall]()
+def sets(
+    data: Data, minimum: Minimum, **keywords: Unpack[SizedOptions]
+) -> pd.DataFrame:
     """The frequent itemsets: those that are in enough baskets.
 
     Takes the baskets as the package's documentation says, and the least support of an itemset,
@@ -42,7 +45,12 @@ def sets(data: Data, minimum: Minimum, **keywords: Unpack[SetsOptions]) -> pd.Da
 
     Agrawal and Srikant, Fast algorithms for mining association rules, 1994.
     """
-    return asked("sets", data, minimum, keywords)
+    if (most := keywords.get("max_items")) is None:
+        return asked("sets", data, minimum, keywords)
+    work = {
+        name: value for name, value in keywords.items() if name in keywords_of(Work)
+    }
+    return sized(read(data, keywords), minimum, most, cast(Work, work))
 
 
 @Typed[ItemsetsCall]()

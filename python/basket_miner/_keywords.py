@@ -124,6 +124,18 @@ class SetsOptions(Layout, Work):
     """The keywords of the calls that list itemsets and rules."""
 
 
+class SizedOptions(SetsOptions, total=False):
+    """The keywords of `sets`."""
+
+    max_items: Annotated[
+        int | None,
+        Keyword(
+            None,
+            "how many items an itemset may have; larger ones are not looked for.",
+        ),
+    ]
+
+
 class CountOptions(Layout, Run):
     """The keywords of `count`."""
 

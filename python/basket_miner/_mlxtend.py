@@ -4,6 +4,7 @@ import itertools
 import math
 import numbers
 from collections.abc import Iterable
+from dataclasses import replace
 from decimal import Decimal
 from typing import Any
 
@@ -15,7 +16,8 @@ from ._data import read
 from ._errors import DataError, InputError
 from ._frames import LONG_HINT, column_of, without_drop
 from ._given_sets import itemsets_of
-from ._keywords import Miner
+from ._keywords import Miner, Work
+from ._levels import not_above, sized
 from ._measures import MEASURES
 from ._minimum import MOST_COUNT
 from ._program import run
@@ -50,15 +52,18 @@ def frequent(
     if not use_colnames:
         places = range(len(df.columns))
         baskets = Baskets(baskets.source, labels=places, weight=baskets.weight)
-    if max_len == 1 and command == "sets":
-        command = "items"
-    words = [command, f"--min={_least(min_support, len(df))}", f"--miner={miner}"]
-    report = run(words, baskets.source, progress=verbose > 0)
-    if max_len is not None:
-        # A line has a blank after each item.
-        lines = report.splitlines(keepends=True)
-        report = b"".join(line for line in lines if line.count(b" ") <= max_len)
-    frame = sets_frame(report, baskets, len(df))[["support", "itemsets"]]
+    least = _least(min_support, len(df))
+    if max_len is not None and command == "sets":
+        shares = replace(baskets, total=len(df))
+        work = Work(miner=miner, progress=verbose > 0)
+        frame = sized(shares, least, max_len, work)[["support", "itemsets"]]
+    else:
+        words = [command, f"--min={least}", f"--miner={miner}"]
+        report = run(words, baskets.source, progress=verbose > 0)
+        frame = sets_frame(report, baskets, len(df))[["support", "itemsets"]]
+        if max_len is not None:
+            frame = not_above(frame, max_len)
+    frame.attrs.clear()
     frame.attrs[TRANSACTIONS] = len(df)
     return frame
 

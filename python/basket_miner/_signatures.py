@@ -35,7 +35,7 @@ class BasketsCall(Protocol):
 
 
 class ItemsetsCall(Protocol):
-    """As `items`, `sets`, `closed` and `maximal`."""
+    """As `items`, `closed` and `maximal`."""
 
     def __call__(
         self,
@@ -57,6 +57,34 @@ class ItemsetsCall(Protocol):
         timeout: float | None = ...,
         miner: Miner | None = ...,
         limit: int | None = ...,
+    ) -> pd.DataFrame:
+        ...
+
+
+class SetsCall(Protocol):
+    """As `sets`."""
+
+    def __call__(
+        self,
+        data: Any,
+        minimum: Minimum,
+        *,
+        basket: Hashable | None = ...,
+        item: Hashable | None = ...,
+        weight: Hashable | None = ...,
+        missing: Missing = ...,
+        form: Form | None = ...,
+        sep: str | None = ...,
+        header: bool = ...,
+        weighted: bool = ...,
+        names: Labels | None = ...,
+        workers: int = ...,
+        exact: bool = ...,
+        progress: bool = ...,
+        timeout: float | None = ...,
+        miner: Miner | None = ...,
+        limit: int | None = ...,
+        max_items: int | None = ...,
     ) -> pd.DataFrame:
         ...
 

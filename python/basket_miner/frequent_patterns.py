@@ -52,8 +52,8 @@ def apriori(
 
     Returns the columns `support` (`float64`) and `itemsets` (`frozenset` of the columns'
     places, or with `use_colnames` of their labels). Itemsets of more than `max_len` items are left
-    out; above one item they are found all the same, which takes time. `verbose` above 0 tells each
-    second what runs. Raises `DataError` where an argument or the frame does not fit.
+    out, and not looked for if there are more than 100,000 in all: the sizes are then found one by
+    one. `verbose` above 0 tells each second what runs. Raises `DataError` where an argument or the frame does not fit.
     """
     return frequent(
         ("sets", "apriori"), df, min_support, use_colnames, max_len, verbose

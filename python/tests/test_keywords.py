@@ -20,7 +20,7 @@ LAYOUT: Any = {**PART, "names": None}
 CALLS: list[tuple[Callable[..., Any], str, dict[str, Any]]] = [
     (miner.baskets, "data", {**LAYOUT, "total": None}),
     (miner.items, "data minimum", LAYOUT | WORK),
-    (miner.sets, "data minimum", LAYOUT | WORK),
+    (miner.sets, "data minimum", LAYOUT | WORK | {"max_items": None}),
     (miner.closed, "data minimum", LAYOUT | WORK),
     (miner.maximal, "data minimum", LAYOUT | WORK),
     (miner.rules, "data minimum confidence", LAYOUT | WORK),

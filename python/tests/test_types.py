@@ -19,7 +19,7 @@ from basket_miner import baskets, count, rules, sets
 shop = [["tea", "jam"], ["tea"]]
 sets(shop, np.int64(2))
 sets(shop, np.float64(0.5), miner="fpgrowth", timeout=9)
-sets(shop, np.float32(0.5))
+sets(shop, np.float32(0.5), max_items=2)
 rules("shop.csv", Fraction(1, 2), np.float64(0.5), form="single", header=True)
 count(shop, [["tea"], ("tea", "jam")], exact=True)
 baskets(shop, total=5)
@@ -51,6 +51,7 @@ def test_a_strict_mypy_without_settings_finds_wrong_keywords(tmp_path: Path) -> 
 CALLS: list[tuple[Any, type, tuple[str, ...]]] = [
     (_signatures.BasketsCall, _keywords.BasketsOptions, ()),
     (_signatures.ItemsetsCall, _keywords.SetsOptions, ()),
+    (_signatures.SetsCall, _keywords.SizedOptions, ()),
     (_signatures.RulesCall, _keywords.SetsOptions, ()),
     (_signatures.CountCall, _keywords.CountOptions, ()),
     (_signatures.MinimumsCall, _keywords.SetsOptions, ()),
