@@ -17,31 +17,31 @@ in the order of its report. All take the baskets as one of these:
   with its weight) as the program has them. A pipe or `/dev/stdin` is copied into a temporary file;
 - what `baskets` returns of one of these, for many questions.
 
-Labels come back as they were given; those of a FIMI file are `int`, those of CSV `str`. A weight
-is a whole number from 1 to 4,294,967,295, and stands for that many equal baskets. Missing values
+Labels come back as they were given; those of a FIMI file are `int`, those of CSV `str`. What looks
+like a table is refused as a list of baskets (records, named tuples, lists of 0 and 1), and rows of
+two fields bring a warning. A weight is a whole number from 1 to 4,294,967,295, and stands for that many equal baskets. Missing values
 are refused (`DataError`), and with `missing="drop"` left out. A basket without an item counts in no
 support and no share; `baskets(data, total=..)` counts such baskets too. Rows of a frame are in
 the order of the program's report, where items are numbered by their first appearance, or by the
 places of their columns.
 
 `minimum`, the least support, is a count of baskets as an `int` from 1 on, or a share of all
-baskets: a `float` from 0 to 1, which means the decimal that it prints (0.005 is 1/200 exactly), a
-`decimal.Decimal`, a `fractions.Fraction`, or a text as the program takes it: "20", "5%", "1/200".
-So 1 is one basket, and 1.0 is all of them. A computed float, as 50 / 300 or one of `numpy.arange`,
-means the nearest fraction of numbers up to 67,108,864. A `Fraction` of numbers above 4,294,967,295
-is refused.
+baskets: a `float` or a `decimal.Decimal` from 0 to 1, which means the decimal that it prints (0.005
+is 1/200 exactly), a `fractions.Fraction`, or a text: "20" is a count, "5%", "0.5%", "1/200" and
+"0.005" are shares. So 1 is one basket, and 1.0 is all of them. A computed float, as 50 / 300 or one
+of `numpy.arange`, has many digits and means the fraction of numbers up to 67,108,864 that it rounds.
 
 `help(sets)` has all keywords. Those of the program's work, as `miner` and `workers`, change time and
 memory, and no report. The floats of a frame are those nearest to the exact values. An interrupt
-ends the program, and so does the end of Python, however it comes, on Linux with the tool `setpriv`
-of util-linux.
+ends the program, and so do `timeout=`, a task that is cancelled while it waits for `to_thread(sets,
+data, ..)`, and the end of Python, however it comes, on Linux with the tool `setpriv` of util-linux.
 
 The program has the package's version, or a later one of the same major version.
 
 `tidy` makes a row for each item, `recommend` says what to offer to baskets by rules, `explore` writes a
 page that shows rules in a browser, `certify` checks a report of the program against its baskets by other
-code, `basket_miner.frequent_patterns` has the calls of mlxtend, and `basket_miner.cluster` asks parts of
-the baskets on a Dask cluster.
+code, `basket_miner.frequent_patterns` and `basket_miner.preprocessing` have the calls of mlxtend, and
+`basket_miner.cluster` asks parts of the baskets on a Dask cluster.
 
 All errors are of the family `BasketError`, except that a keyword that a call doesn't take is a
 `TypeError`, as in all of Python, and that `certify` raises a `ValueError`, which is a `WrongReport` if
@@ -51,6 +51,7 @@ message; `TooManySets.limit` and `InputError.line` are the numbers that the mess
 
 from ._baskets import Baskets
 from ._data import baskets
+from ._ending import to_thread
 from ._errors import (
     BasketError,
     DataError,
@@ -58,6 +59,7 @@ from ._errors import (
     InputError,
     OutOfMemory,
     ProgramMissing,
+    TimedOut,
     TooManySets,
     UsageError,
 )
@@ -77,6 +79,7 @@ __all__ = [
     "InputError",
     "OutOfMemory",
     "ProgramMissing",
+    "TimedOut",
     "TooManySets",
     "UsageError",
     "WrongReport",
@@ -92,4 +95,5 @@ __all__ = [
     "rules",
     "sets",
     "tidy",
+    "to_thread",
 ]

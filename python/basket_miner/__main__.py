@@ -6,7 +6,7 @@ import sys
 from pathlib import Path
 
 from ._errors import BasketError
-from ._explore import explore
+from ._explore import explore, file_of, page_of
 from ._rules import rules
 from .certify import ASKS, FORMS, SEPARATORS, Question, certify
 
@@ -30,7 +30,10 @@ def _parser() -> argparse.ArgumentParser:
     command.add_argument("--miner")
     command.add_argument("--workers", type=int, default=1)
     command.add_argument("--limit", type=int)
-    command.add_argument("-o", "--output", required=True, help="the page's file")
+    command.add_argument("--title", help="what stands above the rules")
+    command.add_argument(
+        "-o", "--output", required=True, help="the page's file; - is standard output"
+    )
     told = "checks a report of the program against its baskets, by other code"
     _add_question(commands.add_parser("certify", help=told, description=told))
     return parser
@@ -70,7 +73,11 @@ def main(words: list[str] | None = None) -> int:
     given = _parser().parse_args(words)
     if given.command == "certify":
         return _certified(given)
+    is_file = given.output != "-"
     try:
+        if is_file:
+            # Before the rules are mined.
+            file_of(given.output)
         found = rules(
             given.file,
             given.min,
@@ -83,8 +90,11 @@ def main(words: list[str] | None = None) -> int:
             workers=given.workers,
             limit=given.limit,
         )
-        explore(found, given.output)
-    except (BasketError, OSError) as fault:
+        if is_file:
+            explore(found, given.output, title=given.title)
+        else:
+            sys.stdout.write(page_of(found, given.title))
+    except BasketError as fault:
         print(fault, *getattr(fault, "__notes__", ()), sep="\n", file=sys.stderr)
         return 1
     print(f"{len(found)} rules in {given.output}", file=sys.stderr)

@@ -2,22 +2,30 @@
 
 import csv
 import io
-import numbers
 import os
 import tempfile
-from collections.abc import Hashable, Iterable, Mapping
+from collections.abc import Hashable, Iterable, Mapping, Sequence
 from dataclasses import replace
 from pathlib import Path
-from typing import Any
+from typing import Any, get_args
 
 import pandas as pd
 
 from ._baskets import Baskets
 from ._data import Data, read
-from ._errors import DataError, FileError
+from ._ending import end_of
+from ._errors import DataError, FileError, UsageError
 from ._files import kept, state_of
-from ._keywords import CountOptions, Run, SetsOptions, Work, filled
-from ._minimum import exact_minimum, least_count
+from ._keywords import CountOptions, Miner, Run, SetsOptions, Work, filled
+from ._minimum import (
+    Minimum,
+    exact_minimum,
+    is_short,
+    least_count,
+    minimum_of,
+    whole_of,
+    word_of,
+)
 from ._program import run
 from ._report import rules_frame, sets_frame
 
@@ -27,6 +35,16 @@ _ITEMS = range(2**32)
 def words_of(options: Mapping[str, object]) -> list[str]:
     """The options of the program that say how it works."""
     work = filled(Work, options)
+    for name, most in (("workers", 64), ("limit", 2**32 - 1)):
+        value = work[name]  # type: ignore[literal-required]
+        whole = whole_of(value)
+        if value is not None and (whole is None or not 1 <= whole <= most):
+            raise UsageError(
+                f"{name} is a whole number from 1 to {most}, not {value!r}"
+            )
+    if work["miner"] not in (None, *get_args(Miner)):
+        miners = ", ".join(get_args(Miner))
+        raise UsageError(f"miner is one of {miners}, not {work['miner']!r}")
     words = [f"--workers={work['workers']}"]
     words += [] if work["miner"] is None else [f"--miner={work['miner']}"]
     words += [] if work["limit"] is None else [f"--limit={work['limit']}"]
@@ -34,36 +52,38 @@ def words_of(options: Mapping[str, object]) -> list[str]:
 
 
 def asked(
-    command: str, data: Data, words: list[str], options: SetsOptions
+    command: str,
+    data: Data,
+    minimum: Minimum,
+    options: SetsOptions,
+    words: Sequence[str] = (),
 ) -> pd.DataFrame:
-    """The frame of the report of a command over the caller's data."""
+    """The frame of the report of a command, with words of its own, over the caller's data."""
+    least, words = minimum_of(minimum), [*words, *words_of(options)]
+    run_so, until = filled(Run, options), end_of(options.get("timeout"))
     baskets = read(data, options)
-    run_so = filled(Run, options)
-    if baskets.total is not None:
-        words = [f"--min={_least(words[0], baskets.total)}", *words[1:]]
-    command_line = [command, *words, *words_of(options), *baskets.words]
     with kept(baskets.source) as source:
         before = state_of(source)
-        report = run(command_line, source, progress=run_so["progress"])
-        weight = _weight_of(baskets, source)
+        weight = None if is_short(least) else weight_of(baskets, source, until)
+        whole = weight if baskets.total is None else baskets.total
+        if whole is not None and not isinstance(least, str):
+            least = least_count(least, whole)
+        command_line = [command, f"--min={word_of(least)}", *words, *baskets.words]
+        report = run(command_line, source, progress=run_so["progress"], until=until)
+        weight = weight_of(baskets, source, until) if weight is None else weight
         if state_of(source) != before:
             raise FileError(f"{source!s} was changed while it was read")
+    whole = baskets.whole(weight)
     if command == "rules":
         frame = rules_frame(report, baskets, weight, exact=run_so["exact"])
     else:
-        whole = baskets.whole(weight)
         frame = sets_frame(report, baskets, whole, exact=run_so["exact"])
     # Whoever draws the frame sees below which count it has nothing.
-    frame.attrs["minimum"] = _least(words[0], weight)
+    frame.attrs["minimum"] = least_count(exact_minimum(least), whole)
     return frame
 
 
-def _least(word: str, weight: int) -> int:
-    """The least count that meets the minimum of a word of the program in baskets of a weight."""
-    return least_count(exact_minimum(word.removeprefix("--min=")), weight)
-
-
-def _weight_of(baskets: Baskets, source: bytes | Path) -> int:
+def weight_of(baskets: Baskets, source: bytes | Path, until: float | None) -> int:
     """What all baskets weigh together: known, or counted by the program.
 
     The program counts the empty set, which each basket has.
@@ -71,15 +91,15 @@ def _weight_of(baskets: Baskets, source: bytes | Path) -> int:
     if baskets.weight is not None:
         return baskets.weight
     words = ["count", f"--sets={os.devnull}", *baskets.words]
-    return int(run(words, source).strip(b"()\n"))
+    return int(run(words, source, until=until).strip(b"()\n"))
 
 
 def counted(
     data: Data, sets: Iterable[Iterable[Hashable]], options: CountOptions
 ) -> pd.DataFrame:
     """The frame of what the program counts of some sets over the caller's data."""
+    run_so, until = filled(Run, options), end_of(options.get("timeout"))
     baskets = read(data, options)
-    run_so = filled(Run, options)
     given = [_itemset(itemset) for itemset in sets]
     if baskets.separator is None:
         baskets, text = _as_numbers(baskets, given)
@@ -90,7 +110,7 @@ def counted(
         file.flush()
         words = ["count", f"--sets={file.name}", *words_of(options), *baskets.words]
         with kept(baskets.source) as source:
-            report = run(words, source, progress=run_so["progress"])
+            report = run(words, source, progress=run_so["progress"], until=until)
     if baskets.total is not None:
         # The first line is the empty set.
         first, _, others = report.partition(b"\n")
@@ -117,8 +137,9 @@ def _as_numbers(baskets: Baskets, sets: list[list[Hashable]]) -> tuple[Baskets, 
     if baskets.labels is None:
         for itemset in sets:
             for item in itemset:
-                is_whole = isinstance(item, numbers.Integral)
-                if not is_whole or isinstance(item, bool) or item not in _ITEMS:
+                # A range is quick to ask for Python's own numbers alone.
+                whole = whole_of(item)
+                if whole is None or whole not in _ITEMS:
                     raise DataError(f"an item of a FIMI file is a number, not {item!r}")
         return baskets, b"".join(b"%s\n" % _joined(itemset) for itemset in sets)
     numbering = {label: number for number, label in enumerate(baskets.labels)}

@@ -12,9 +12,18 @@ from ._baskets import Array
 # Numerators and denominators, place by place.
 Fractions = tuple[Array, Array]
 
+_PLAIN = {bool, float, int, str, pd.Timedelta, pd.Timestamp}
+
 
 def objects_of(values: Sequence[object]) -> Any:
     return pd.Series(values, dtype=object)
+
+
+def labels_column(labels: Sequence[object]) -> Any:
+    """Labels by a type that keeps each of them as it is, which pandas' own guess may not."""
+    kinds = {type(label) for label in labels}
+    is_plain = len(kinds) == 1 and kinds <= _PLAIN
+    return pd.Series(labels, dtype=None if is_plain else object)
 
 
 def supports_of(counts: Array, weight: int) -> dict[str, Any]:

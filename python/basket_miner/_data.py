@@ -1,30 +1,29 @@
 """What a caller may give as baskets."""
 
-import itertools
 import numbers
 import os
 import re
-from collections.abc import Hashable, Mapping
 from dataclasses import replace
 from pathlib import Path
 from typing import Any, Unpack
 
-import numpy as np
 import pandas as pd
 
-from ._baskets import Baskets, baskets_of
+from ._baskets import Baskets
 from ._errors import DataError
-from ._frames import long_frame, matrix, wide_frame
-from ._keywords import BasketsOptions, Layout, changed, filled, with_keywords
-from ._numbering import is_missing
+from ._frames import long_frame, matrix
+from ._keywords import BasketsOptions, Layout, changed, filled
+from ._lists import listed
+from ._signatures import BasketsCall
 from ._tables import frame_of, is_table
+from ._typed import Typed
+from ._wide_frames import wide_frame
 
 # A data frame or another table, a sparse matrix, an iterable of iterables of labels, a path, or `Baskets`.
 Data = Any
 
 _SEPARATORS = {"comma": ",", "semicolon": ";", "tab": "\t", "pipe": "|"}
 SEPARATOR_WORDS = {character: word for word, character in _SEPARATORS.items()}
-_TABLE_HINT = "; a table is given as a pandas.DataFrame"
 _CSV_ENDINGS = (".csv", ".tsv")
 
 
@@ -65,10 +64,10 @@ def read(data: Data, keywords: Layout) -> Baskets:
         _refuse_others(layout, "names", "a sparse matrix")
         return matrix(data, layout["names"])
     _refuse_others(layout, "missing", "an iterable of baskets")
-    return _iterable(data, drop)
+    return listed(data, drop)
 
 
-@with_keywords
+@Typed[BasketsCall]()
 def baskets(data: Data, **keywords: Unpack[BasketsOptions]) -> Baskets:
     """Baskets that many questions are asked of, made for the program once.
 
@@ -78,13 +77,15 @@ def baskets(data: Data, **keywords: Unpack[BasketsOptions]) -> Baskets:
 
     `total` is what all baskets weigh together, also those without an item and those that were
     left out before: supports, minimums and lifts are then shares of it. A question raises
-    `DataError` if the baskets that it sees weigh more.
+    `DataError` if the baskets that it sees weigh more. Prepared baskets keep their total, unless
+    another is given.
     """
     total = keywords.get("total")
     is_whole = isinstance(total, numbers.Integral) and not isinstance(total, bool)
     if total is not None and (not is_whole or total < 1):
         raise DataError(f"total is a number from 1 on, not {total!r}")
-    return replace(read(data, keywords), total=total)
+    made = read(data, keywords)
+    return made if total is None else replace(made, total=int(total))
 
 
 def _refuse_others(layout: Layout, allowed: str, what: str) -> None:
@@ -102,6 +103,11 @@ def _refuse_no_path(path: str | os.PathLike[str]) -> None:
         )
     if "\0" in os.fspath(path):
         raise DataError("a path has no zero byte")
+    if "\n" in os.fspath(path):
+        raise DataError(
+            f"a path of a file is given, and {os.fspath(path)[:30]!r}.. is text of several lines: "
+            "write it to a file, or give a list of baskets"
+        )
 
 
 def _file(path: Path, layout: Layout) -> Baskets:
@@ -130,51 +136,3 @@ def _file(path: Path, layout: Layout) -> Baskets:
     words = [f"--form={form}", f"--sep={sep}"]
     words += ["--header"] * layout["header"] + ["--weight"] * layout["weighted"]
     return Baskets(path, tuple(words), separator=_SEPARATORS[sep])
-
-
-def _iterable(baskets: Any, drop: bool) -> Baskets:
-    """Baskets of an iterable of iterables of labels, which are numbered as they come."""
-    _refuse_tables(baskets)
-    numbering: dict[Hashable, int] = {}
-    numbers: list[int] = []
-    sizes: list[int] = []
-    try:
-        for basket in baskets:
-            if isinstance(basket, (str, bytes, Mapping)):
-                raise DataError(
-                    f"a basket is an iterable of items, not {basket!r}{_TABLE_HINT}"
-                )
-            before = len(numbers)
-            numbers += [numbering.setdefault(item, len(numbering)) for item in basket]
-            sizes.append(len(numbers) - before)
-    except TypeError as fault:
-        said = f"baskets are iterables of hashable items: {fault}{_TABLE_HINT}"
-        raise DataError(said) from fault
-    if numbering and all(isinstance(label, (bool, np.bool_)) for label in numbering):
-        raise DataError(
-            f"all items of the baskets are true or false: {[*numbering]}; a table of these is "
-            "given as a pandas.DataFrame, with a row for each basket and a column for each item"
-        )
-    places = np.repeat(np.arange(len(sizes)), sizes)
-    return _without_missing(places, np.array(numbers, np.int64), [*numbering], drop)
-
-
-def _refuse_tables(baskets: Any) -> None:
-    """Raises `DataError` if what something iterates over are columns, keys or bytes, and no baskets."""
-    is_matrix = isinstance(baskets, np.ndarray) and baskets.ndim > 1
-    if is_matrix or isinstance(baskets, (Mapping, bytes)):
-        name = type(baskets).__name__
-        raise DataError(f"{name} is not an iterable of baskets{_TABLE_HINT}")
-
-
-def _without_missing(
-    places: Any, numbers: Any, labels: list[Hashable], drop: bool
-) -> Baskets:
-    is_good = np.array([not is_missing(label) for label in labels], dtype=bool)
-    if is_good.all():
-        return baskets_of(places, numbers, labels)
-    if not drop:
-        raise DataError('a basket has a missing item; missing="drop" leaves them out')
-    kept = is_good[numbers]
-    left = list(itertools.compress(labels, is_good))
-    return baskets_of(places[kept], (is_good.cumsum() - 1)[numbers[kept]], left)

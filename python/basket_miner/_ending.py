@@ -1,10 +1,21 @@
-"""Runs of the program that can be ended by the name of the question that they work for."""
+"""Runs of the program that end early: at a time, or by the name of the question that they work for."""
 
+import asyncio
 import contextlib
+import math
+import numbers
 import subprocess
 import threading
+import time
+import uuid
 from collections.abc import Callable, Iterator
-from typing import Any
+from functools import partial
+from typing import Any, ParamSpec, TypeVar
+
+from ._errors import DataError
+
+Given = ParamSpec("Given")
+Answer = TypeVar("Answer")
 
 _THREAD = threading.local()
 _LOCK = threading.Lock()
@@ -48,3 +59,31 @@ def end(name: str) -> None:
         _ENDED.add(name)
         for process in _RUNNING.get(name, ()):
             process.kill()
+
+
+def end_of(timeout: float | None) -> float | None:
+    """The time of `time.monotonic` after so many seconds, or nothing."""
+    if timeout is None:
+        return None
+    is_number = isinstance(timeout, numbers.Real) and not isinstance(timeout, bool)
+    if not is_number or not 0 < timeout < math.inf:
+        raise DataError(f"timeout is a number of seconds above 0, not {timeout!r}")
+    return time.monotonic() + timeout
+
+
+async def to_thread(
+    call: Callable[Given, Answer], *given: Given.args, **keywords: Given.kwargs
+) -> Answer:
+    """What a question answers that is asked in a thread, as `asyncio.to_thread` asks it.
+
+    If the task that waits is cancelled, also by `asyncio.timeout` and `asyncio.wait_for`, the
+    program ends. A question to a cluster goes on: give it `timeout=`.
+    """
+    name = uuid.uuid4().hex
+    task = partial(call, *given, **keywords)
+    try:
+        answer: Answer = await asyncio.to_thread(working_for, name, task)
+        return answer
+    except asyncio.CancelledError:
+        end(name)
+        raise

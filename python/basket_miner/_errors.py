@@ -64,6 +64,10 @@ class OutOfMemory(BasketError):
     status = 6
 
 
+class TimedOut(BasketError, TimeoutError):
+    """The time of `timeout=` was over, and the program was ended."""
+
+
 class ProgramMissing(BasketError):
     """There is no program to run. The message says how to get it."""
 
@@ -94,15 +98,15 @@ _OF_CSV = r"0x(22|2C|3B|7C|[46][1-9A-F]|[57][0-9A]|[C-F][0-9A-F])"
 _ADVICE = (
     _Advice(
         _WORDS,
-        r"bad value for --min|\ba? ?minimum ((as a (count|share) )?is|\S+ is) ",
+        r"bad value for --min\b|\ba? ?minimum ((as a (count|share) )?is|\S+ is) ",
         "A minimum is a count of baskets as an int, as 20; or a share of all baskets as a float from 0 to 1, where "
-        '0.2 is 20%, as a fractions.Fraction, or as a text: "20%" or "1/5". A text "20" is a count.',
+        '0.2 is 20%, as a fractions.Fraction, or as a text: "20%", "0.5%", "1/5" or "0.2". A text "20" is a count.',
     ),
     _Advice(
         _WORDS,
-        r"bad value for --conf|\ba? ?confidence ((as a share )?is|\S+ is) ",
+        r"bad value for --conf\b|\ba? ?confidence ((as a share )?is|\S+ is) ",
         "A confidence is a share: a float from 0 to 1, where 0.6 is 60%, a fractions.Fraction, or a text as "
-        '"60%" or "2/3".',
+        '"60%", "2/3" or "0.6".',
     ),
     _Advice(
         (InputError,),

@@ -2,22 +2,37 @@
 
 import base64
 import hashlib
+import html
 import json
 import os
 import re
 from collections.abc import Iterable
-from pathlib import Path
+from pathlib import Path, PosixPath
 from typing import Any
 
 import pandas as pd
 
-from ._frames import column_of
+from ._errors import DataError, FileError
+from ._given_sets import itemsets_of
 from ._rule_counts import counts_of
 
 _FOLDER = Path(__file__).parent / "page"
 
 
-def explore(rules: pd.DataFrame, path: str | os.PathLike[str]) -> Path:
+class Page(PosixPath):
+    """The file of a page. A notebook that shows it shows the page itself."""
+
+    def _repr_html_(self) -> str:
+        content = html.escape(self.read_text(encoding="utf-8"))
+        return (
+            f'<iframe srcdoc="{content}" sandbox="allow-scripts" title="{html.escape(str(self))}" '
+            'style="width: 100%; height: 50rem; border: 0"></iframe>'
+        )
+
+
+def explore(
+    rules: pd.DataFrame, path: str | os.PathLike[str], *, title: str | None = None
+) -> Page:
     """Writes a page that shows rules in a browser: one file of HTML, which needs no network.
 
     It has a table that sorts by each column and has fifty rules a page, filters by item and by
@@ -28,18 +43,55 @@ def explore(rules: pd.DataFrame, path: str | os.PathLike[str]) -> Path:
     Args:
         rules: a frame of `rules`, or of `association_rules` in `basket_miner.frequent_patterns`.
         path: of the file, which is written anew.
+        title: what stands above the rules, as the shop and the month.
 
-    Returns the path. Raises `DataError` where a column is missing or the figures do not agree.
+    Returns the path, which a notebook shows as the page. Raises `DataError` where a column is
+    missing or the figures do not agree, and `FileError` where the file can't be written.
     """
-    file = Path(os.path.expanduser(path))
-    file.write_text(_page(_data_of(rules)), encoding="utf-8")
+    file = file_of(path)
+    content = page_of(rules, title)
+    try:
+        file.write_text(content, encoding="utf-8")
+    except OSError as fault:
+        raise FileError(f"cannot write {file}: {fault.strerror}") from fault
     return file
+
+
+def file_of(path: str | os.PathLike[str]) -> Page:
+    """The file of a path, or `BasketError` where no file can be there."""
+    if not isinstance(path, (str, os.PathLike)):
+        raise DataError(
+            f"the path of the page is a str or a pathlib.Path, not {path!r}"
+        )
+    file = Page(os.path.expanduser(path))
+    if file.is_dir():
+        raise FileError(f"cannot write {file}: it is a folder, and no file")
+    if not file.parent.is_dir():
+        raise FileError(f"cannot write {file}: there is no folder {file.parent}")
+    return file
+
+
+def page_of(rules: pd.DataFrame, title: str | None = None) -> str:
+    """The text of the page."""
+    script = "".join(map(_text, ("page.js", "axes.js", "plot.js")))
+    digest = base64.b64encode(hashlib.sha256(script.encode()).digest()).decode()
+    parts = {
+        # Names are data: no name can end the element that holds them, and no other script runs.
+        "data": json.dumps(_data_of(rules), separators=(",", ":")).replace(
+            "<", "\\u003c"
+        ),
+        "digest": digest,
+        "script": script,
+        "style": _text("page.css"),
+        "title": html.escape("Association rules" if title is None else str(title)),
+    }
+    return re.sub(r"\{\{(\w+)\}\}", lambda found: parts[found[1]], _text("page.html"))
 
 
 def _data_of(rules: pd.DataFrame) -> dict[str, Any]:
     """What the page shows: each side once, in the order of their texts, and rules by columns."""
     counts = counts_of(rules)
-    columns = [column_of(rules, name) for name in ("antecedents", "consequents")]
+    columns = [itemsets_of(rules, name) for name in ("antecedents", "consequents")]
     texts = {side: _names(side) for column in columns for side in column}
     sides = sorted(texts, key=texts.__getitem__)
     places = {side: place for place, side in enumerate(sides)}
@@ -57,19 +109,6 @@ def _data_of(rules: pd.DataFrame) -> dict[str, Any]:
 
 def _names(side: Iterable[Any]) -> list[str]:
     return sorted(map(str, side))
-
-
-def _page(data: dict[str, Any]) -> str:
-    script = "".join(map(_text, ("page.js", "axes.js", "plot.js")))
-    digest = base64.b64encode(hashlib.sha256(script.encode()).digest()).decode()
-    parts = {
-        # Names are data: no name can end the element that holds them, and no other script runs.
-        "data": json.dumps(data, separators=(",", ":")).replace("<", "\\u003c"),
-        "digest": digest,
-        "script": script,
-        "style": _text("page.css"),
-    }
-    return re.sub(r"\{\{(\w+)\}\}", lambda found: parts[found[1]], _text("page.html"))
 
 
 def _text(name: str) -> str:

@@ -1,4 +1,4 @@
-"""Baskets from data frames and sparse matrices."""
+"""Baskets from data frames with a row for each item, and from sparse matrices; columns by their names."""
 
 from collections.abc import Hashable, Iterable
 from typing import Any
@@ -8,11 +8,14 @@ import pandas as pd
 
 from ._baskets import Array, Baskets, Labels, baskets_of, checked_weights, grouped
 from ._errors import DataError
-from ._numbering import addresses, is_missing, numbered
+from ._numbering import is_missing, numbered
 
 # What may help, after a fault. The calls of mlxtend have no such keywords.
 DROP_HINT = '; missing="drop" leaves them out'
-LONG_HINT = "; a frame with a row for each item of a basket needs basket= and item="
+LONG_HINT = (
+    "; a frame with a row for each item of a basket needs basket= and item=, and one of quantities "
+    "is given as frame > 0"
+)
 
 
 def long_frame(
@@ -31,93 +34,24 @@ def long_frame(
     places, _ = numbered(columns[0], basket)
     numbers, items = numbered(columns[1], item)
     are_there = [places >= 0, numbers >= 0]
-    are_there += [_there(column) for column in columns[2:]]
-    _refuse_gaps(are_there, names, drop)
+    are_there += [there(column) for column in columns[2:]]
+    refuse_gaps(are_there, names, drop)
     if not all(is_there.all() for is_there in are_there):
         kept = frame[np.logical_and.reduce(are_there)]
         return long_frame(kept, basket, item, weight, drop)
     weights = None
     if weight is not None:
-        weights = _weights_by_place(places, checked_weights(_plain(columns[2])), weight)
+        weights = _weights_by_place(places, checked_weights(plain(columns[2])), weight)
     if (places[1:] < places[:-1]).any():
         places, numbers = grouped(places, numbers)
     return baskets_of(places, numbers, items.tolist(), weights)
 
 
-def wide_frame(frame: pd.DataFrame, weight: Hashable | None, drop: bool) -> Baskets:
-    """Baskets of a frame with a row for each basket and a column of truth for each item."""
-    weights = None
-    if weight is not None:
-        column = column_of(frame, weight)
-        _refuse_gaps([_there(column)], [weight], False)
-        weights = checked_weights(_plain(column))
-        frame = frame.drop(columns=[weight])
-    labels = distinct(frame.columns.tolist(), "column")
-    if not labels:
-        raise DataError("the frame has no column of an item")
-    if (table := _table(frame, drop)) is not None:
-        rows, columns = np.nonzero(table)
-        return baskets_of(rows, columns, labels, weights)
-    trues = [_trues(frame.iloc[:, at], drop) for at in range(len(labels))]
-    numbers = np.repeat(np.arange(len(labels)), [len(places) for places in trues])
-    places, numbers = grouped(np.concatenate(trues), numbers)
-    return baskets_of(places, numbers, labels, weights)
-
-
-def _table(frame: pd.DataFrame, drop: bool) -> Array | None:
-    """For each row and column whether it is true, or 1; nothing where this takes a look at each
-    column by itself, as at a sparse one, or to say what is refused.
-    """
-    kinds: dict[Any, list[int]] = {}
-    for at, dtype in enumerate(frame.dtypes):
-        kinds.setdefault(dtype, []).append(at)
-    if len(kinds) == 1:
-        return _table_of_one_type(frame, drop)
-    table = np.empty(frame.shape, dtype=bool, order="F")
-    for places in kinds.values():
-        part = _table_of_one_type(frame.iloc[:, places], drop)
-        if part is None:
-            return None
-        table[:, places] = part
-    return table
-
-
-def _table_of_one_type(frame: pd.DataFrame, drop: bool) -> Array | None:
-    dtype = frame.dtypes.iloc[0]
-    if isinstance(dtype, pd.SparseDtype) or dtype.kind not in "biufO":
-        return None
-    if dtype == object:
-        return _truths_of_objects(frame.to_numpy(), drop)
-    if isinstance(dtype, np.dtype):
-        values = frame.to_numpy()
-    elif not hasattr(dtype, "numpy_dtype") or (
-        not drop and frame.isna().any(axis=None)
-    ):
-        return None
-    else:
-        values = frame.to_numpy(dtype=dtype.numpy_dtype, na_value=0)
-    if dtype.kind == "b":
-        return np.asarray(values)
-    is_one = values == 1
-    is_good = is_one | (values == 0)
-    if drop and dtype.kind == "f":
-        is_good |= np.isnan(values)
-    return is_one if is_good.all() else None
-
-
-def _truths_of_objects(values: Array, drop: bool) -> Array | None:
-    """For each object whether it is true, or 1; nothing where one is no usual one.
-
-    Each of the usual objects has one address in memory, and addresses are compared as numbers are,
-    which takes a small part of the time.
-    """
-    at = addresses(values)
-    is_one = (at == id(True)) | (at == id(1))
-    is_good = is_one | (at == id(False)) | (at == id(0))
-    if drop:
-        for gap in (None, np.nan, pd.NA):
-            is_good |= at == id(gap)
-    return is_one if is_good.all() else None
+def without_drop(fault: DataError, hint: str) -> DataError:
+    """A fault of a frame, for a call that has no `missing=`: what else helps against gaps."""
+    said = str(fault)
+    is_gap = said.endswith(DROP_HINT)
+    return DataError(said.removesuffix(DROP_HINT) + (hint if is_gap else ""))
 
 
 def matrix(values: Any, names: Labels | None) -> Baskets:
@@ -131,14 +65,19 @@ def matrix(values: Any, names: Labels | None) -> Baskets:
         labels = distinct(list(names), "name")
     if len(labels) != rows.shape[1]:
         raise DataError(f"{len(labels)} names for {rows.shape[1]} columns")
-    is_in = _ones(rows.data, "the matrix")
+    is_in = ones(rows.data, "the matrix")
     places = np.repeat(np.arange(rows.shape[0]), np.diff(rows.indptr))
     return baskets_of(places[is_in], rows.indices[is_in], labels)
 
 
 def column_of(frame: pd.DataFrame, name: Hashable) -> pd.Series:
     """The column of a name, or `DataError` where there is none or several."""
-    return frame.iloc[:, place_of(frame.columns, name)]
+    try:
+        return frame.iloc[:, place_of(frame.columns, name)]
+    except DataError as fault:
+        is_index = isinstance(name, str) and name in frame.index.names
+        hint = ", but an index: give frame.reset_index()" if is_index else ""
+        raise DataError(f"{fault}{hint}") from None
 
 
 def place_of(labels: Iterable[Hashable], name: Hashable) -> int:
@@ -172,12 +111,12 @@ def distinct(labels: list[Hashable], what: str) -> list[Hashable]:
     return labels
 
 
-def _there(column: pd.Series) -> Array:
+def there(column: pd.Series) -> Array:
     """For each row whether the column has a value."""
     return np.asarray(column.notna())
 
 
-def _refuse_gaps(
+def refuse_gaps(
     are_there: Iterable[Array], names: Iterable[Hashable], drop: bool
 ) -> None:
     """`DataError` where a column misses values that are not to be dropped."""
@@ -189,7 +128,7 @@ def _refuse_gaps(
             )
 
 
-def _plain(column: pd.Series) -> Array:
+def plain(column: pd.Series) -> Array:
     """The values of a column without missing ones, by a type of numpy."""
     values: Array = column.to_numpy()
     return np.array(values.tolist(), dtype=None) if values.dtype == object else values
@@ -203,31 +142,7 @@ def _weights_by_place(places: Array, values: Array, name: Hashable) -> Array:
     return weights
 
 
-def _trues(column: pd.Series, drop: bool) -> Array:
-    """The places of the rows where the column is true, or 1."""
-    if not isinstance(column.dtype, pd.SparseDtype) or column.dtype.fill_value:
-        return np.flatnonzero(_truth(column, drop))
-    held = column.array
-    is_true = _truth(pd.Series(held.sp_values, name=column.name), drop)
-    return np.asarray(held.sp_index.to_int_index().indices[is_true])
-
-
-def _truth(column: pd.Series, drop: bool) -> Array:
-    """For each row whether the column is true there, or 1."""
-    if column.dtype == bool:
-        return np.asarray(column)
-    is_there = _there(column)
-    _refuse_gaps([is_there], [column.name], drop)
-    values = column.to_numpy() if column.dtype.kind in "biuf" else None
-    if values is None or isinstance(column.dtype, pd.api.extensions.ExtensionDtype):
-        values = np.asarray(column, dtype=object)
-    try:
-        return _ones(np.where(is_there, values, 0), f"column {column.name!r}")
-    except DataError as fault:
-        raise DataError(f"{fault}{LONG_HINT}") from None
-
-
-def _ones(values: Array, what: str) -> Array:
+def ones(values: Array, what: str) -> Array:
     """For each value whether it is one, or true."""
     is_one = values == 1
     if not (is_one | (values == 0)).all():

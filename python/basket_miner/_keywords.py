@@ -1,10 +1,6 @@
 """The keywords that the public calls share: the type, the default and the meaning of each, once."""
 
-import difflib
-import functools
-import inspect
-import textwrap
-from collections.abc import Callable, Hashable, Mapping
+from collections.abc import Hashable, Mapping
 from typing import (
     Annotated,
     Any,
@@ -23,17 +19,6 @@ Missing = Literal["refuse", "drop"]
 Form = Literal["fimi", "baskets", "single"]
 Miner = Literal["apriori", "eclat", "eclat-diff", "eclat-bits", "fpgrowth"]
 
-# What other packages call a keyword.
-_ELSEWHERE = {
-    "algorithm": "miner",
-    "format": "form",
-    "min_confidence": "confidence",
-    "min_support": "minimum",
-    "n_jobs": "workers",
-    "separator": "sep",
-}
-
-Call = TypeVar("Call", bound=Callable[..., Any])
 Options = TypeVar("Options")
 
 
@@ -108,6 +93,12 @@ class Run(TypedDict, total=False):
         bool,
         Keyword(False, "shows what runs, in a terminal or a notebook."),
     ]
+    timeout: Annotated[
+        float | None,
+        Keyword(
+            None, "after so many seconds the program is ended, and TimedOut raised."
+        ),
+    ]
 
 
 class Work(Run, total=False):
@@ -131,6 +122,18 @@ class Work(Run, total=False):
 
 class SetsOptions(Layout, Work):
     """The keywords of the calls that list itemsets and rules."""
+
+
+class SizedOptions(SetsOptions, total=False):
+    """The keywords of `sets`."""
+
+    max_items: Annotated[
+        int | None,
+        Keyword(
+            None,
+            "how many items an itemset may have; larger ones are not looked for.",
+        ),
+    ]
 
 
 class CountOptions(Layout, Run):
@@ -183,45 +186,3 @@ def changed(kind: type, given: Mapping[str, object]) -> list[str]:
 def _is_default(value: Any, default: Any) -> bool:
     # A column's label or the names of columns may be equal to nothing, or to an array.
     return value is None or (isinstance(value, (bool, str)) and value == default)
-
-
-def with_keywords(call: Call) -> Call:
-    """Lets a call with `**keywords` of a kind show each of them, and refuse others by name."""
-    signature = inspect.signature(call)
-    own = [*signature.parameters.values()][:-1]
-    (kind,) = get_args(call.__annotations__["keywords"])
-    known = keywords_of(kind)
-    names = [parameter.name for parameter in own] + [*known]
-
-    @functools.wraps(call)
-    def checked(*given: Any, **keywords: Any) -> Any:
-        for name in keywords:
-            if name not in names:
-                raise TypeError(_refusal(call.__name__, name, names))
-        return call(*given, **keywords)
-
-    added = [
-        inspect.Parameter(
-            name, inspect.Parameter.KEYWORD_ONLY, default=word.default, annotation=hint
-        )
-        for name, (hint, word) in known.items()
-    ]
-    checked.__signature__ = signature.replace(parameters=own + added)  # type: ignore[attr-defined]
-    lines = [_wrapped(f"{name}: {word.said}") for name, (_, word) in known.items()]
-    told = inspect.cleandoc(call.__doc__ or "")
-    checked.__doc__ = "\n".join([told, "", "Keywords:", *lines])
-    return cast(Call, checked)
-
-
-def _refusal(call: str, name: str, names: list[str]) -> str:
-    near = difflib.get_close_matches(name, names, n=1)
-    near = near or [own for own in [_ELSEWHERE.get(name)] if own in names]
-    hint = f"; did you mean {near[0]!r}?" if near else "."
-    return (
-        f"{call}() got an unexpected keyword argument {name!r}{hint} It takes "
-        f"{', '.join(names)}."
-    )
-
-
-def _wrapped(text: str) -> str:
-    return textwrap.fill(text, 88, initial_indent="    ", subsequent_indent="        ")

@@ -2,59 +2,75 @@
 
 import math
 import numbers
+import re
 from decimal import Decimal
 from fractions import Fraction
+from typing import Any
+
+import numpy as np
 
 from ._errors import DataError
 
-Minimum = int | float | Fraction | Decimal | str
-Confidence = float | Fraction | Decimal | str
+Share = float | np.floating[Any] | Fraction | Decimal | str
+Minimum = int | np.integer[Any] | Share
+Confidence = Share
 
 MOST_COUNT = 2**40 - 1
 MOST_PART = 2**32 - 1
 # Two different fractions of numbers up to this are more than the rounding of a float apart.
-_MOST_PART_OF_FLOATS = 2**26
+_MOST_PART_OF_QUOTIENTS = 2**26
+# What some steps of computing may add up to: those of floats, as in numpy.arange, and of decimals of 28 digits.
+_ROUNDING = Fraction(1, 2**50)
+_ROUNDING_OF_DECIMALS = Fraction(1, 10**27)
+# The program's count, per cent and fraction, and decimals beside them.
+_COUNT = re.compile(r"[0-9]{1,99}")
+_DECIMAL = re.compile(r"([0-9]{1,99}(?:\.[0-9]{1,99})?(?:[eE]-?[0-9]{1,3})?)(%?)")
+_QUOTIENT = re.compile(r"([0-9]{1,99})/([0-9]{1,99})")
 
 
-def minimum_word(minimum: Minimum) -> str:
-    """The word for `--min`.
+def minimum_of(minimum: Minimum) -> int | Fraction | str:
+    """A minimum as a count or as a share; a text that is neither stays, for the program to refuse.
 
     Args:
-        minimum: an `int` is a count of baskets, from 1 to 1,099,511,627,775. A `float` is a
-            share of all baskets, from 0 to 1, and means the decimal that it prints: 0.005 is
-            1/200 exactly. If that has too many digits for the program, as that of 50 / 300, the
-            float means the nearest fraction of numbers up to 67,108,864: it is 1/6, of which it
-            was computed. So does a `Decimal`. A `Fraction` is a share too, and so 1.0 is all
-            baskets where 1 is one of them. A text is taken as the program takes it: "20", "5%",
-            "1/200".
+        minimum: an `int` is a count of baskets, from 1 to 1,099,511,627,775. All else is a share of
+            all baskets, from 0 to 1: a `Fraction`; a `float` or a `Decimal`, which means the decimal
+            that it prints, so 0.005 is 1/200 exactly, but if that has ten digits or more and is the
+            rounded quotient of numbers up to 67,108,864, this quotient, as 1/6 where it is 50 / 300.
+            So 1.0 is all baskets where 1 is one of them. A text is one of "20", "5%", "0.5%",
+            "1/200", "0.005".
 
     Raises:
-        DataError: it is none of these, out of its range, or a `Fraction` of a number above
-            4,294,967,295.
+        DataError: it is none of these, or out of its range.
     """
-    count = _whole(minimum)
+    if isinstance(minimum, str):
+        found = _of_text(minimum)
+        return minimum if found is None else found
+    count = whole_of(minimum)
     if count is None:
-        return _share_word(minimum, "minimum")
+        return _checked_share(minimum, "minimum")
     if not 1 <= count <= MOST_COUNT:
         raise DataError(f"a minimum as a count is from 1 to {MOST_COUNT}: {count}")
-    return str(count)
-
-
-def confidence_word(confidence: Confidence) -> str:
-    """The word for `--conf`: shares as in `minimum_word`, and 0 and 1, which are shares here."""
-    whole = _whole(confidence)
-    return _share_word(confidence if whole is None else Fraction(whole), "confidence")
+    return count
 
 
 def exact_minimum(minimum: Minimum) -> int | Fraction:
-    """A minimum as a count or as a share."""
-    word = minimum_word(minimum)
-    try:
-        if word.endswith("%"):
-            return Fraction(int(word[:-1]), 100)
-        return Fraction(word) if "/" in word else int(word)
-    except (ValueError, ZeroDivisionError):
-        raise DataError(f"{word!r} is no minimum") from None
+    """A minimum as a count or as a share, or `DataError` where it is a text that is neither."""
+    found = minimum_of(minimum)
+    if isinstance(found, str):
+        raise DataError(f"{found!r} is no minimum")
+    return found
+
+
+def is_short(minimum: int | Fraction | str) -> bool:
+    """Whether the program can read it: it takes no fraction of a number above 4,294,967,295."""
+    return not isinstance(minimum, Fraction) or minimum.denominator <= MOST_PART
+
+
+def word_of(minimum: int | Fraction | str) -> str:
+    """A minimum, or a share, as the program takes it."""
+    if isinstance(minimum, Fraction):
+        return f"{minimum.numerator}/{minimum.denominator}"
+    return str(minimum)
 
 
 def least_count(minimum: int | Fraction, total: int) -> int:
@@ -64,37 +80,76 @@ def least_count(minimum: int | Fraction, total: int) -> int:
     return max(math.ceil(minimum * total), 1)
 
 
+def confidence_word(confidence: Confidence) -> str:
+    """The word for `--conf`: shares as in `minimum_of`, and 0 and 1, which are shares here.
+
+    A share of a number above 4,294,967,295 is the next larger one of numbers up to that, which no
+    confidence of baskets that weigh no more lies below.
+    """
+    if isinstance(confidence, str):
+        found = _of_text(confidence)
+        if not isinstance(found, Fraction):
+            return confidence
+        return word_of(_from_above(found))
+    whole = whole_of(confidence)
+    share = confidence if whole is None else Fraction(whole)
+    return word_of(_from_above(_checked_share(share, "confidence")))
+
+
 def share_of(value: object) -> Fraction | None:
     """The share that a `Fraction` is, or that a float or a `Decimal` means, or nothing."""
     if isinstance(value, Fraction):
         return value
     if isinstance(value, Decimal) and value.is_finite():
-        return _nearest(Fraction(value))
+        return _meant(Fraction(value), _ROUNDING_OF_DECIMALS)
     # Of the floats of numpy only `float64` is a `float`; each prints its decimal by `str`.
     is_float = isinstance(value, numbers.Real) and not isinstance(
         value, numbers.Rational
     )
     if is_float and math.isfinite(value):  # type: ignore[arg-type]
-        return _nearest(Fraction(str(value)))
+        return _meant(Fraction(str(value)), _ROUNDING)
     return None
 
 
-def _nearest(decimal: Fraction) -> Fraction:
-    """A decimal, or where that has too many digits for the program the fraction that it rounds."""
+def _meant(decimal: Fraction, rounding: Fraction) -> Fraction:
+    """A decimal, or the quotient of small numbers that it rounds, if it has many digits."""
     if decimal.denominator <= MOST_PART:
         return decimal
-    return decimal.limit_denominator(_MOST_PART_OF_FLOATS)
+    quotient = decimal.limit_denominator(_MOST_PART_OF_QUOTIENTS)
+    return quotient if abs(quotient - decimal) <= rounding * decimal else decimal
 
 
-def _whole(value: object) -> int | None:
+def _of_text(text: str) -> int | Fraction | None:
+    """The count or the share from 0 to 1 that a text is, or nothing."""
+    if _COUNT.fullmatch(text):
+        return int(text) if 1 <= int(text) <= MOST_COUNT else None
+    share = None
+    if found := _DECIMAL.fullmatch(text):
+        share = Fraction(found[1]) / (100 if found[2] else 1)
+    elif (found := _QUOTIENT.fullmatch(text)) and int(found[2]):
+        share = Fraction(int(found[1]), int(found[2]))
+    return share if share is not None and share <= 1 else None
+
+
+def _from_above(share: Fraction) -> Fraction:
+    """The least fraction of numbers up to 4,294,967,295 that is not below a share up to 1."""
+    near = share.limit_denominator(MOST_PART)
+    if near >= share:
+        return near
+    # Its neighbour among these fractions: of all c/d with c * b - a * d = 1 that of the greatest d.
+    a, b = near.numerator, near.denominator
+    bottom = pow(-a, -1, b)
+    bottom += (MOST_PART - bottom) // b * b
+    return Fraction(1 + a * bottom, b * bottom)
+
+
+def whole_of(value: object) -> int | None:
     """The number that an `int` of Python or numpy is. True and false are none."""
     is_whole = isinstance(value, numbers.Integral) and not isinstance(value, bool)
     return int(value) if is_whole else None  # type: ignore[call-overload]
 
 
-def _share_word(value: object, what: str) -> str:
-    if isinstance(value, str):
-        return value
+def _checked_share(value: object, what: str) -> Fraction:
     share = share_of(value)
     if share is None:
         raise DataError(
@@ -103,9 +158,4 @@ def _share_word(value: object, what: str) -> str:
     if not 0 <= share <= 1:
         hint = "; a count is an int" if what == "minimum" else ""
         raise DataError(f"a {what} as a share is from 0 to 1: {value}{hint}")
-    if share.denominator > MOST_PART:
-        raise DataError(
-            f"{what} {value} is {share} exactly, which has a number above {MOST_PART}: "
-            "write the fraction that you mean, as fractions.Fraction(1, 3) or '1/3'"
-        )
-    return f"{share.numerator}/{share.denominator}"
+    return share

@@ -4,19 +4,27 @@ import itertools
 import math
 import numbers
 from collections.abc import Iterable
+from dataclasses import replace
+from decimal import Decimal
 from typing import Any
 
 import numpy as np
 import pandas as pd
 
-from ._baskets import Baskets
+from ._baskets import Array, Baskets
 from ._data import read
 from ._errors import DataError, InputError
-from ._frames import DROP_HINT, LONG_HINT, column_of
-from ._keywords import Miner
+from ._frames import LONG_HINT, column_of, without_drop
+from ._given_sets import itemsets_of
+from ._keywords import Miner, Work
+from ._levels import not_above, sized
 from ._measures import MEASURES
+from ._minimum import MOST_COUNT
 from ._program import run
 from ._report import sets_frame
+
+# Neighbouring floats of 32 bits are less than half a basket of so many apart.
+_MOST_OF_SINGLES = 2**22
 
 # The attribute of a frame that tells how many baskets its supports are shares of.
 TRANSACTIONS = "basket_miner_transactions"
@@ -44,15 +52,18 @@ def frequent(
     if not use_colnames:
         places = range(len(df.columns))
         baskets = Baskets(baskets.source, labels=places, weight=baskets.weight)
-    if max_len == 1 and command == "sets":
-        command = "items"
-    words = [command, f"--min={_least(min_support, len(df))}", f"--miner={miner}"]
-    report = run(words, baskets.source, progress=verbose > 0)
-    if max_len is not None:
-        # A line has a blank after each item.
-        lines = report.splitlines(keepends=True)
-        report = b"".join(line for line in lines if line.count(b" ") <= max_len)
-    frame = sets_frame(report, baskets, len(df))[["support", "itemsets"]]
+    least = _least(min_support, len(df))
+    if max_len is not None and command == "sets":
+        shares = replace(baskets, total=len(df))
+        work = Work(miner=miner, progress=verbose > 0)
+        frame = sized(shares, least, max_len, work)[["support", "itemsets"]]
+    else:
+        words = [command, f"--min={least}", f"--miner={miner}"]
+        report = run(words, baskets.source, progress=verbose > 0)
+        frame = sets_frame(report, baskets, len(df))[["support", "itemsets"]]
+        if max_len is not None:
+            frame = not_above(frame, max_len)
+    frame.attrs.clear()
     frame.attrs[TRANSACTIONS] = len(df)
     return frame
 
@@ -61,9 +72,8 @@ def _baskets(df: pd.DataFrame) -> Baskets:
     try:
         return read(df, {})
     except DataError as fault:
-        said = str(fault).removesuffix(DROP_HINT).removesuffix(LONG_HINT)
-        hint = "; fill them with False first" if str(fault).endswith(DROP_HINT) else ""
-        raise DataError(f"{said}{hint}") from None
+        said = str(without_drop(fault, "; fill them with False first"))
+        raise DataError(said.removesuffix(LONG_HINT)) from None
 
 
 def _least(min_support: float, transactions: int) -> int:
@@ -78,24 +88,25 @@ def transactions_of(df: pd.DataFrame, num_itemsets: int | None) -> int:
     """How many baskets the supports of a frame of itemsets are shares of."""
     if missing := {"support", "itemsets"} - set(df.columns):
         raise DataError(f"the frame of itemsets has no column {missing.pop()!r}")
-    known = df.attrs.get(TRANSACTIONS, num_itemsets)
-    if known is None:
+    if TRANSACTIONS in df.attrs:
+        return int(df.attrs[TRANSACTIONS])
+    if num_itemsets is None:
         raise DataError(
             "the frame does not say how many rows it was made from: give num_itemsets="
         )
-    return int(known)
+    if not 1 <= num_itemsets <= MOST_COUNT:
+        raise DataError(
+            f"num_itemsets is a number of rows from 1 to {MOST_COUNT}, not {num_itemsets}"
+        )
+    return int(num_itemsets)
 
 
 def counted(
     df: pd.DataFrame, transactions: int
 ) -> tuple[Baskets, dict[frozenset[Any], int]]:
     """The itemsets with their counts, as the program takes them and by themselves."""
-    supports = df["support"].to_numpy(dtype=np.float64)
-    counts = np.rint(supports * transactions)
-    # One rounding of the quotient is all that may lie between a support and its share.
-    if len(df) and not np.allclose(counts / transactions, supports, rtol=1e-12, atol=0):
-        raise DataError(f"the supports are no shares of {transactions} baskets")
-    itemsets = [frozenset(itemset) for itemset in df["itemsets"]]
+    counts = _counts(column_of(df, "support"), transactions)
+    itemsets = itemsets_of(df, "itemsets")
     by_itemset = dict(zip(itemsets, counts.astype(np.int64).tolist()))
     if len(by_itemset) != len(itemsets) or frozenset() in by_itemset:
         raise DataError("the frame has an itemset twice, or one without an item")
@@ -106,6 +117,23 @@ def counted(
         lines.append(b"%s (%d)\n" % (" ".join(map(str, places)).encode(), count))
     baskets = Baskets(b"".join(lines), labels=[*numbering], weight=transactions)
     return baskets, by_itemset
+
+
+def _counts(supports: pd.Series, transactions: int) -> Array:
+    """The counts of itemsets of some supports.
+
+    One rounding of the quotient is all that may lie between a support and its share. Floats of 32
+    bits tell counts of some million baskets alone.
+    """
+    is_single = supports.dtype == np.float32 and transactions <= _MOST_OF_SINGLES
+    shares = supports.to_numpy(dtype=np.float64)
+    counts: Array = np.rint(shares * transactions)
+    rounding = 2**-23 if is_single else 1e-12
+    if not np.allclose(counts / transactions, shares, rtol=rounding, atol=0):
+        raise DataError(f"the supports are no shares of {transactions} baskets")
+    if (counts < 1).any():
+        raise DataError("a support is above 0")
+    return counts
 
 
 def rules_report(words: list[str], baskets: Baskets) -> bytes:
@@ -122,9 +150,9 @@ def rules_report(words: list[str], baskets: Baskets) -> bytes:
 def by_support(df: pd.DataFrame, least: float, figures: list[str]) -> pd.DataFrame:
     """The rules of all itemsets of a support, which is all that is known of them."""
     rows = [
-        (frozenset(left), frozenset(itemset).difference(left), support)
+        (frozenset(left), itemset.difference(left), support)
         for itemset, support in zip(
-            column_of(df, "itemsets"), column_of(df, "support").astype(float)
+            itemsets_of(df, "itemsets"), column_of(df, "support").astype(float)
         )
         if support >= least
         for size in range(len(itemset) - 1, 0, -1)
@@ -133,6 +161,20 @@ def by_support(df: pd.DataFrame, least: float, figures: list[str]) -> pd.DataFra
     rules = pd.DataFrame(rows, columns=["antecedents", "consequents", "support"])
     names = dict.fromkeys(["antecedents", "consequents", *figures, "support"])
     return rules.reindex(columns=[*names])
+
+
+def figures_of(metrics: str | Iterable[str] | None) -> list[str]:
+    """The figures that are asked for by their names, or by the name of one; without any, all."""
+    if isinstance(metrics, str):
+        return [metrics]
+    return [*MEASURES] if metrics is None else [*metrics]
+
+
+def refuse_thresholds(threshold: float) -> None:
+    """`DataError` where a threshold is no number that figures are compared with."""
+    is_number = isinstance(threshold, (numbers.Real, Decimal))
+    if not is_number or math.isnan(threshold):
+        raise DataError(f"min_threshold is a number, not {threshold!r}")
 
 
 def refuse_metrics(metrics: Iterable[str]) -> None:

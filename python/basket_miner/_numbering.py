@@ -70,7 +70,8 @@ def addresses(values: Array) -> Array:
     """The addresses in memory of the objects of an array, as `id` tells that of one."""
     interface = {**values.__array_interface__, "typestr": np.dtype(np.intp).str}
     del interface["descr"]
-    return np.asarray(SimpleNamespace(__array_interface__=interface))
+    # The objects stay as long as the array of their addresses does.
+    return np.asarray(SimpleNamespace(__array_interface__=interface, kept=values))
 
 
 def is_missing(label: object) -> bool:

@@ -12,6 +12,7 @@ from matplotlib.colors import LogNorm
 from matplotlib.transforms import Bbox
 
 from ._errors import DataError
+from ._given_sets import demand_frame
 
 # Red above 1, blue below it, pale at 1.
 COLOURS = "RdBu_r"
@@ -30,6 +31,7 @@ _BESIDE = [(x, y) for x in (10, -10) for y in (0, 10, -10, 22, -22, 36, -36)]
 
 
 def demand(frame: pd.DataFrame, *columns: str) -> None:
+    demand_frame(frame, "rules")
     missing = [name for name in columns if name not in frame.columns]
     if missing:
         raise DataError(f"the frame of rules has no column {missing[0]!r}")

@@ -7,13 +7,13 @@ import re
 import shutil
 import subprocess
 import sys
-import threading
 import time
 from collections.abc import Iterator, Sequence
+from io import FileIO
 from pathlib import Path
 
 from ._ending import endable
-from ._errors import ProgramMissing, error_of
+from ._errors import ProgramMissing, TimedOut, error_of
 from ._version import __version__
 
 _PACKAGE = Path(__file__).resolve().parent
@@ -115,18 +115,21 @@ def run(
     source: bytes | Path | None = None,
     *,
     progress: bool = False,
+    until: float | None = None,
 ) -> bytes:
     """Runs the program once, without a shell, and returns what it wrote.
 
     Args:
         words: its command and options, as `["sets", "--min", "20%"]`.
-        source: the input: a file by its path, bytes through a pipe, or nothing.
+        source: the input: a file by its path, bytes as standard input, or nothing.
         progress: keeps a line on standard error, renewed each second, which says what runs
             and for how long, where that is a terminal or a notebook.
+        until: the time of `time.monotonic` at which the program is ended.
 
     Raises:
         BasketError: of the kind that belongs to the exit status, with the program's message.
         ProgramMissing: there is no program that runs.
+        TimedOut: the program was ended.
 
     An interrupt ends the program and is raised. On Linux the program also ends when this process
     does.
@@ -135,68 +138,74 @@ def run(
     if isinstance(source, Path):
         name = str(source)
         command.append(f"./{name}" if name.startswith("-") else name)
-    process = _started(command, source if isinstance(source, bytes) else b"")
-    with process, endable(process):
-        try:
-            report, told = _waited(process, " ".join(words), progress)
-        except BaseException:
-            process.kill()
-            process.wait()
-            raise
-    if process.returncode != 0:
-        raise error_of(process.returncode, told.decode(errors="replace"))
-    return report
-
-
-def _started(command: list[str], content: bytes) -> subprocess.Popen[bytes]:
-    with _fed(content) as stdin:
-        try:
-            return subprocess.Popen(
-                command, stdin=stdin, stdout=subprocess.PIPE, stderr=subprocess.PIPE
-            )
-        except OSError as fault:
-            said = f"{command[0]} does not run: {fault}; {_HOW_TO_GET_IT}"
-            raise ProgramMissing(said) from fault
+    given = source if isinstance(source, bytes) else b""
+    with _in_memory(given) as stdin, _in_memory() as report, _in_memory() as told:
+        process = _started(command, stdin, report, told)
+        with process, endable(process):
+            try:
+                _wait(process, " ".join(words), progress, until)
+            except BaseException:
+                process.kill()
+                process.wait()
+                raise
+        if process.returncode != 0:
+            said = _content(told).decode(errors="replace")
+            raise error_of(process.returncode, said)
+        return _content(report)
 
 
 @contextlib.contextmanager
-def _fed(content: bytes) -> Iterator[int]:
-    """An end of a pipe to read from, into whose other end a thread writes `content`.
+def _in_memory(content: bytes = b"") -> Iterator[FileIO]:
+    """A file in memory with a content, to be read from its begin.
 
-    A thread, since `Popen.communicate` writes no more than a page at a time.
+    No pipe: a process that another thread forks meanwhile would have its writing end too, and a
+    pipe ends when all of these are closed.
     """
-    reading, writing = os.pipe()
-    feeder = threading.Thread(target=_feed, args=(writing, content), daemon=True)
-    feeder.start()
-    try:
-        yield reading
-    finally:
-        os.close(reading)
-
-
-def _feed(end: int, content: bytes) -> None:
-    with contextlib.suppress(BrokenPipeError), open(end, "wb", buffering=0) as pipe:
+    with open(os.memfd_create("basket"), "w+b", buffering=0) as file:
         rest = memoryview(content)
         while rest:
-            rest = rest[pipe.write(rest) or 0 :]
+            rest = rest[file.write(rest) :]
+        file.seek(0)
+        yield file
 
 
-def _waited(
-    process: subprocess.Popen[bytes], what: str, progress: bool
-) -> tuple[bytes, bytes]:
-    """What the program wrote to standard output and to standard error, once it ended."""
-    if not (progress and _is_watched()):
-        return process.communicate()
+def _content(file: FileIO) -> bytes:
+    file.seek(0)
+    return file.readall()
+
+
+def _started(
+    command: list[str], stdin: FileIO, report: FileIO, told: FileIO
+) -> subprocess.Popen[bytes]:
+    try:
+        return subprocess.Popen(command, stdin=stdin, stdout=report, stderr=told)
+    except OSError as fault:
+        said = f"{command[0]} does not run: {fault}; {_HOW_TO_GET_IT}"
+        raise ProgramMissing(said) from fault
+
+
+def _wait(
+    process: subprocess.Popen[bytes], what: str, progress: bool, until: float | None
+) -> None:
+    """Waits until the program ends, and tells each second what runs where that is seen."""
     start, line = time.monotonic(), ""
+    steps = [1.0] if progress and _is_watched() else []
     try:
         while True:
+            rest = [] if until is None else [max(until - time.monotonic(), 0)]
             try:
-                return process.communicate(timeout=1)
+                process.wait(min([*steps, *rest], default=None))
+                return
             except subprocess.TimeoutExpired:
-                line = f"basket {what[:60]}: {time.monotonic() - start:.0f} s"
-                print(f"\r{line}", end="", file=sys.stderr, flush=True)
+                if until is not None and time.monotonic() >= until:
+                    raise TimedOut(f"timeout= was over: basket {what[:60]}") from None
+            if not steps:
+                continue
+            line = f"basket {what[:60]}: {time.monotonic() - start:.0f} s"
+            print(f"\r{line}", end="", file=sys.stderr, flush=True)
     finally:
-        print(f"\r{' ' * len(line)}\r", end="", file=sys.stderr, flush=True)
+        if line:
+            print(f"\r{' ' * len(line)}\r", end="", file=sys.stderr, flush=True)
 
 
 def _is_watched() -> bool:

@@ -1,8 +1,11 @@
 """Offers by rules."""
 
+import itertools
+import numbers
+import operator
 import os
 from collections import defaultdict
-from collections.abc import Hashable, Iterator, Mapping
+from collections.abc import Hashable, Iterator
 from dataclasses import dataclass
 from fractions import Fraction
 from typing import Any, Literal
@@ -11,12 +14,16 @@ import numpy as np
 import pandas as pd
 
 from ._baskets import Baskets
+from ._columns import labels_column
 from ._data import Data
 from ._errors import DataError
-from ._frames import column_of
+from ._frames import column_of, without_drop
+from ._given_sets import itemsets_of
+from ._lists import each
 from ._numbering import numbered
 from ._rule_counts import RuleCounts, counts_of
 from ._tables import frame_of, is_table
+from ._wide_frames import wide_pairs
 
 _FIGURES = ("lift", "confidence", "count")
 
@@ -63,8 +70,8 @@ def recommend(
     """
     if by not in _FIGURES:
         raise DataError(f"by is one of {', '.join(_FIGURES)}, not {by!r}")
-    if top < 1:
-        raise DataError(f"top is at least 1, not {top}")
+    if not isinstance(top, numbers.Integral) or top < 1:
+        raise DataError(f"top is a number of at least 1, not {top!r}")
     by_item = _by_item(_best_first(rules, by))
     known: dict[frozenset[Any], list[tuple[Any, _Rule]]] = {}
     rows = []
@@ -74,9 +81,9 @@ def recommend(
         rows += [(name, *offer) for offer in known[items]]
     found = pd.DataFrame(
         {
-            "basket": [name for name, _, _ in rows],
-            "item": [offered for _, offered, _ in rows],
-            "rule": [rule.label for _, _, rule in rows],
+            "basket": labels_column([name for name, _, _ in rows]),
+            "item": labels_column([offered for _, offered, _ in rows]),
+            "rule": labels_column([rule.label for _, _, rule in rows]),
             "count": np.array([rule.count for *_, rule in rows], dtype=np.int64),
             "confidence": np.array(
                 [*map(float, (rule.confidence for *_, rule in rows))]
@@ -93,9 +100,9 @@ def recommend(
 
 def _best_first(rules: pd.DataFrame, by: str) -> list[_Rule]:
     counts = counts_of(rules)
-    sides = (column_of(rules, name) for name in ("antecedents", "consequents"))
+    sides = (itemsets_of(rules, name) for name in ("antecedents", "consequents"))
     found = [
-        _Rule(label, frozenset(left), frozenset(right), *figures)
+        _Rule(label, left, right, *figures)
         for label, left, right, figures in zip(rules.index, *sides, _figures(counts))
     ]
     names = [*dict.fromkeys((by, *_FIGURES))]
@@ -164,17 +171,24 @@ def _baskets(
         raise DataError("basket= and item= go with a data frame")
     if isinstance(data, (str, os.PathLike, Baskets)) or hasattr(data, "tocsr"):
         raise DataError("baskets are a data frame or an iterable of baskets")
-    for place, labels in enumerate(data):
-        if isinstance(labels, (str, bytes, Mapping)):
-            raise DataError(f"a basket is an iterable of items, not {labels!r}")
-        yield place, frozenset(labels)
+    for place, labels in enumerate(each(data)):
+        try:
+            yield place, frozenset(labels)
+        except TypeError as fault:
+            said = f"a basket is an iterable of hashable items: {fault}"
+            raise DataError(said) from fault
 
 
 def _wide(frame: pd.DataFrame) -> Iterator[tuple[Hashable, frozenset[Any]]]:
-    labels = [*frame.columns]
-    is_in = frame.eq(1).to_numpy(dtype=bool, na_value=False)
-    for name, row in zip(frame.index, is_in):
-        yield name, frozenset(labels[place] for place in np.flatnonzero(row))
+    """The rows with an item, by the reader that each question has."""
+    try:
+        rows, columns, labels = wide_pairs(frame, drop=False)
+    except DataError as fault:
+        raise without_drop(fault, "; fill them with False first") from None
+    names = frame.index.tolist()
+    pairs = zip(rows.tolist(), columns.tolist())
+    for row, group in itertools.groupby(pairs, operator.itemgetter(0)):
+        yield names[row], frozenset(labels[column] for _, column in group)
 
 
 def _long(
@@ -184,7 +198,8 @@ def _long(
     if any(column.isna().any() for column in columns):
         raise DataError(f"columns {basket!r} and {item!r} have missing values")
     places, names = numbered(columns[0], basket)
+    numbers, labels = numbered(columns[1], item)
     items: list[list[Any]] = [[] for _ in names]
-    for place, label in zip(places.tolist(), columns[1].tolist()):
+    for place, label in zip(places.tolist(), map(labels.tolist().__getitem__, numbers)):
         items[place].append(label)
     yield from zip(names.tolist(), map(frozenset, items))

@@ -8,10 +8,18 @@ import pandas as pd
 from ._baskets import Array
 from ._errors import DataError
 from ._frames import column_of
+from ._given_sets import demand_frame
 from ._measures import measures
 from ._mlxtend import TRANSACTIONS
 
 _FIGURES = ["support", "confidence", "lift"]
+# How far figures may be from the exact ones, and up to which total counts can still be told by them: our own floats,
+# those of 32 bits, and those that JSON cuts after ten digits.
+_ROUNDINGS = (
+    (1e-12, 0.0, 2**40),
+    (2**-21, 1e-15, 2**20),
+    (2**-21, 1e-10, 2**16),
+)
 
 
 @dataclass(frozen=True)
@@ -34,30 +42,48 @@ def counts_of(rules: pd.DataFrame) -> RuleCounts:
     Raises:
         DataError: a column is missing, or the figures are not those of one number of baskets.
     """
-    support, confidence, lift = (
-        column_of(rules, name).to_numpy(dtype=np.float64) for name in _FIGURES
-    )
+    demand_frame(rules, "rules")
+    given = [column_of(rules, name).to_numpy(dtype=np.float64) for name in _FIGURES]
+    support, confidence, lift = given
     if not len(rules):
         none = np.empty(0, dtype=np.int64)
         return RuleCounts(none, none, none, 0)
-    if "count" not in rules.columns and TRANSACTIONS in rules.attrs:
-        both = np.rint(support * rules.attrs[TRANSACTIONS])
-    else:
-        both = column_of(rules, "count").to_numpy(dtype=np.float64)
+    both = _both(rules, support)
     with np.errstate(all="ignore"):
-        total = np.rint(both / support)[0]
+        # The largest count tells the total best.
+        total = np.rint(both / support)[both.argmax()]
         left = np.rint(both / confidence)
         right = np.rint(both / left * total / lift)
     table = np.array([both, left, right, np.full(len(both), total)])
     if np.isfinite(table).all() and table.min() >= 1:
         whole = table.astype(np.int64)
         again = measures(whole[0], whole[1], whole[2], int(total))
-        given = (support, confidence, lift)
-        if all(
-            np.allclose(again[name], figures, rtol=1e-12, atol=0)
-            for name, figures in zip(_FIGURES, given)
-        ):
+        if _agree([again[name] for name in _FIGURES], given, total):
             return RuleCounts(whole[0], whole[1], whole[2], int(total))
     raise DataError(
         "the count, support, confidence and lift of the rules are not those of one number of baskets"
+    )
+
+
+def _both(rules: pd.DataFrame, support: Array) -> Array:
+    """How many baskets have both sides of each rule, as its frame says or knows."""
+    if "count" in rules.columns:
+        return np.asarray(column_of(rules, "count"), dtype=np.float64)
+    if TRANSACTIONS in rules.attrs:
+        return np.asarray(np.rint(support * rules.attrs[TRANSACTIONS]))
+    raise DataError(
+        "the frame of rules has no column 'count', and its attrs, which had the number n of all "
+        'baskets, are lost: add rules["count"] = (rules["support"] * n).round()'
+    )
+
+
+def _agree(exact: list[Array], given: list[Array], total: float) -> bool:
+    """Whether figures are those that the counts have, as far as they are rounded."""
+    return any(
+        total <= most
+        and all(
+            np.allclose(one, other, rtol=relative, atol=absolute)
+            for one, other in zip(exact, given)
+        )
+        for relative, absolute, most in _ROUNDINGS
     )

@@ -7,12 +7,14 @@ import pandas as pd
 
 from ._calls import asked, counted
 from ._data import Data
-from ._frames import column_of
-from ._keywords import CountOptions, SetsOptions, with_keywords
-from ._minimum import Confidence, Minimum, confidence_word, minimum_word
+from ._given_sets import itemsets_of
+from ._keywords import CountOptions, SetsOptions
+from ._minimum import Confidence, Minimum, confidence_word
+from ._signatures import CountCall, RulesCall
+from ._typed import Typed
 
 
-@with_keywords
+@Typed[RulesCall]()
 def rules(
     data: Data,
     minimum: Minimum,
@@ -34,11 +36,11 @@ def rules(
 
     Agrawal and Srikant, 1994; the lift is the interest of Brin, Motwani, Ullman and Tsur, 1997.
     """
-    words = ["--min=" + minimum_word(minimum), "--conf=" + confidence_word(confidence)]
-    return asked("rules", data, words, keywords)
+    words = ["--conf=" + confidence_word(confidence)]
+    return asked("rules", data, minimum, keywords, words)
 
 
-@with_keywords
+@Typed[CountCall]()
 def count(
     data: Data,
     sets: pd.DataFrame | Iterable[Iterable[Hashable]],
@@ -56,5 +58,7 @@ def count(
 
     Raises `DataError` where the data or the itemsets do not fit, else what the program ends with.
     """
-    given = column_of(sets, "itemsets") if isinstance(sets, pd.DataFrame) else sets
+    given: Iterable[Iterable[Hashable]] = sets
+    if isinstance(sets, pd.DataFrame):
+        given = itemsets_of(sets, "itemsets")
     return counted(data, given, keywords)

@@ -2,7 +2,9 @@
 
 import pandas as pd
 
-from ._frames import column_of
+from ._columns import labels_column
+from ._errors import DataError
+from ._given_sets import demand_frame, itemsets_of
 
 _SIDES = {"antecedents": "antecedent", "consequents": "consequent"}
 
@@ -15,9 +17,13 @@ def tidy(frame: pd.DataFrame) -> pd.DataFrame:
     each item. The items of a set stand together, in the order of their texts. Raises `DataError`
     where the frame has no itemsets and no sides.
     """
+    demand_frame(frame, "itemsets or rules")
     is_sets = "itemsets" in frame.columns
     sides = {"itemsets": ""} if is_sets else _SIDES
-    columns = [column_of(frame, name) for name in sides]
+    columns = [itemsets_of(frame, name) for name in sides]
+    made = ["set", "item"] if is_sets else ["rule", "side", "item"]
+    if taken := [name for name in made if name in frame.columns]:
+        raise DataError(f"the frame has a column {taken[0]!r} already: rename it")
     rows = [
         (row, side, item)
         for row, *itemsets in zip(range(len(frame)), *columns)
@@ -27,8 +33,8 @@ def tidy(frame: pd.DataFrame) -> pd.DataFrame:
     places = [row for row, _, _ in rows]
     items = [item for _, _, item in rows]
     found = frame.drop(columns=[*sides]).iloc[places].reset_index(drop=True)
-    found.insert(0, "item", pd.Series(items, dtype=None if items else object))
+    found.insert(0, "item", labels_column(items))
     if not is_sets:
         found.insert(0, "side", [side for _, side, _ in rows])
-    found.insert(0, "set" if is_sets else "rule", frame.index[places])
+    found.insert(0, made[0], frame.index[places])
     return found

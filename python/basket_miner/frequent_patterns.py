@@ -28,8 +28,10 @@ from ._mlxtend import (
     by_support,
     counted,
     frequent,
+    figures_of,
     refuse_metrics,
     refuse_nulls,
+    refuse_thresholds,
     rules_report,
     transactions_of,
 )
@@ -50,8 +52,8 @@ def apriori(
 
     Returns the columns `support` (`float64`) and `itemsets` (`frozenset` of the columns'
     places, or with `use_colnames` of their labels). Itemsets of more than `max_len` items are left
-    out; above one item they are found all the same, which takes time. `verbose` above 0 tells each
-    second what runs. Raises `DataError` where an argument or the frame does not fit.
+    out, and not looked for if there are more than 100,000 in all: the sizes are then found one by
+    one. `verbose` above 0 tells each second what runs. Raises `DataError` where an argument or the frame does not fit.
     """
     return frequent(
         ("sets", "apriori"), df, min_support, use_colnames, max_len, verbose
@@ -112,7 +114,7 @@ def association_rules(
     metric: str = "confidence",
     min_threshold: float = 0.8,
     support_only: bool = False,
-    return_metrics: Sequence[str] | None = None,
+    return_metrics: str | Sequence[str] | None = None,
 ) -> pd.DataFrame:
     """The rules between the sides of frequent itemsets whose metric is at least a threshold.
 
@@ -133,7 +135,8 @@ def association_rules(
             f"num_itemsets is a number of rows, not {num_itemsets!r}; give metric= and "
             "min_threshold= by name"
         )
-    figures = [*MEASURES] if return_metrics is None else [*return_metrics]
+    refuse_thresholds(min_threshold)
+    figures = figures_of(return_metrics)
     refuse_metrics([metric, *figures])
     refuse_nulls(null_values, df_orig)
     if support_only:
@@ -141,9 +144,12 @@ def association_rules(
     transactions = transactions_of(df, num_itemsets)
     baskets, counts = counted(df, transactions)
     # A little less than the threshold, since it is compared as a float below.
-    confidence = math.floor(min_threshold * _PARTS) - 1 if metric == "confidence" else 0
+    share = min(max(min_threshold, 0), 1)
+    confidence = math.floor(share * _PARTS) - 1 if metric == "confidence" else 0
     least = min(counts.values(), default=1)
-    words = [f"--min={least}", f"--conf={min(max(confidence, 0), _PARTS)}/{_PARTS}"]
+    if metric == "support":
+        least = max(least, math.floor(share * transactions) - 1)
+    words = [f"--min={least}", f"--conf={max(confidence, 0)}/{_PARTS}"]
     found = rules_frame(rules_report(words, baskets), baskets, transactions)
     left, right = (
         np.array([*map(counts.__getitem__, found[side])], dtype=np.int64)

@@ -17,7 +17,7 @@ from matplotlib.lines import Line2D
 
 from ._errors import DataError
 from ._itemsets import sets
-from ._keywords import SetsOptions, with_keywords
+from ._keywords import SetsOptions
 from ._minimum import Minimum, exact_minimum, least_count
 from ._picture import (
     COLOURS,
@@ -30,6 +30,8 @@ from ._picture import (
     scale_of,
     spaced,
 )
+from ._signatures import MinimumsCall
+from ._typed import Typed
 
 _LINES = ("#0072B2", "#D55E00", "#009E73", "#CC79A7", "#56B4E9")
 _MARKS = "os^Dv"
@@ -56,12 +58,9 @@ def rules(frame: pd.DataFrame, axes: Axes | None = None, most: int = 5) -> Axes:
     demand(frame, "support", "confidence", "lift")
     axes = axes_of(axes, 7.0, 4.5)
     is_few = len(frame) <= _MOST_EDGED
-    style = {
-        "norm": scale_of(frame["lift"]),
-        "cmap": COLOURS,
-        "edgecolors": "black" if is_few else "grey",
-        "linewidths": 1.0 if is_few else 0.3,
-    }
+    scale = scale_of(frame["lift"])
+    style = {"norm": scale, "cmap": COLOURS, "linewidths": 1.0 if is_few else 0.3}
+    style["edgecolors"] = "black" if is_few else "grey"
     rising = frame.sort_values("lift", kind="stable")
     is_low = rising["lift"] < 1
     kinds = (
@@ -71,7 +70,9 @@ def rules(frame: pd.DataFrame, axes: Axes | None = None, most: int = 5) -> Axes:
     for part, mark, label, size in reversed(kinds):
         places = 100 * part["support"], 100 * part["confidence"]
         area = size if is_few else size / 4
-        dots = axes.scatter(*places, c=part["lift"], marker=mark, s=area, **style)
+        # Matplotlib looks for a finite one.
+        lifts = part["lift"].clip(upper=scale.vmax)
+        dots = axes.scatter(*places, c=lifts, marker=mark, s=area, **style)
     if is_low.any() and not is_low.all():
         own = {"color": "lightgrey", "markeredgecolor": "black", "linestyle": "none"}
         axes.legend(
@@ -106,7 +107,7 @@ def _name_strongest(frame: pd.DataFrame, axes: Axes, most: int) -> None:
     put_labels(axes, names, marks)
 
 
-@with_keywords
+@Typed[MinimumsCall]()
 def minimums(
     data: Any,
     minimums: Iterable[Minimum],

@@ -1,5 +1,7 @@
 """What is refused, with the exception's type and what it says."""
 
+import io
+import warnings
 from collections.abc import Callable, Iterator
 from pathlib import Path
 from typing import Any
@@ -32,6 +34,7 @@ def test_a_missing_item_is_refused_or_dropped_and_never_a_name(gone: Any) -> Non
     assert found["itemsets"].tolist() == [frozenset(["tea"]), frozenset(["jam"])]
     assert found["support"].tolist() == [0.5, 0.5]
     refused("a basket has a missing item", [["tea", gone], ["jam"]])
+    refused("a basket has a missing item", [[gone, 1], [1]])
     found = miner.sets([["tea", gone], ["jam"], [gone]], 1, missing="drop")
     assert found["itemsets"].tolist() == [frozenset(["tea"]), frozenset(["jam"])]
     assert found["support"].tolist() == [0.5, 0.5]
@@ -73,6 +76,32 @@ def test_a_matrix_that_names_a_place_twice_is_refused() -> None:
     refused("other than 0 and 1", scipy.sparse.coo_matrix((ones, places)))
     refused("2 names for 1 columns", scipy.sparse.eye(1), names=["a", "b"])
     refused("name 'a' stands twice", scipy.sparse.eye(2), names=["a", "a"])
+
+
+def test_a_frame_of_quantities_and_one_by_its_index_say_what_to_give() -> None:
+    refused("is given as frame > 0", pd.DataFrame({"tea": [0, 2], "jam": [1, 1]}))
+    refused("an index: give frame.reset_index", ROWS.set_index("receipt"), **LONG)
+
+
+def test_a_text_of_lines_is_no_path() -> None:
+    refused("'bread,milk.nbread'.. is text of several lines", "bread,milk\nbread")
+
+
+@pytest.mark.parametrize(
+    ("said", "options"),
+    [
+        ("workers is a whole number from 1 to 64, not 0", {"workers": 0}),
+        ("workers is a whole number from 1 to 64, not True", {"workers": True}),
+        ("limit is a whole number from 1 to .*, not 1000000.0", {"limit": 1e6}),
+        ("miner is one of apriori, .*fpgrowth, not 'fp'", {"miner": "fp"}),
+    ],
+)
+def test_words_of_the_work_are_refused_as_python_has_them(
+    said: str, options: dict[str, Any]
+) -> None:
+    with pytest.raises(miner.UsageError, match=said) as caught:
+        miner.sets([["tea"]], 1, **options)
+    assert not hasattr(caught.value, "__notes__")
 
 
 def test_columns_that_are_missing_or_stand_twice_are_refused() -> None:
@@ -152,10 +181,35 @@ class Exchanged(Columns):
         ("items of the baskets are true or false: .True, False.; a table", Columns()),
         ("items of the baskets are true or false: .True.; a table", [[np.bool_(True)]]),
         ("iterables of hashable items: 'bool'", [True, False]),
+        ("items of the baskets are 0 or 1, .* a table of", [[0, 1, 0], [1, 1, 1]]),
+        ("items of the baskets are 0 or 1, .* a table of", [[1.0, 1.0], [1.0, 1.0]]),
+        ("recarray is not an iterable of baskets", ROWS.dropna().to_records()),
+        ("not the row .*tea.* of a table", [*ROWS.dropna().to_records()]),
+        ("not the row Pandas.*a table is given", ROWS.dropna().itertuples()),
+        ("a path is a str", b"shop.dat"),
+        ("a file is given by its path", io.StringIO("1 2")),
+        ("lists, by .agg", ROWS.groupby("receipt")["product"]),
     ],
 )
 def test_what_is_no_iterable_of_baskets_is_refused(said: str, data: object) -> None:
     refused(said, data)
+
+
+@pytest.mark.parametrize("kind", [tuple, list])
+def test_rows_of_an_id_and_an_item_bring_a_warning(kind: Callable[..., Any]) -> None:
+    rows = [*map(kind, [(1, "tea"), (1, "jam"), (2, "tea")])]
+    with pytest.warns(UserWarning, match=r"as \[1, 'tea'\], .* basket= and item="):
+        miner.sets(rows, 1)
+
+
+@pytest.mark.parametrize(
+    "baskets",
+    [[["tea", "jam"]], [["tea", "jam"], ["jam", "tea"]], [[0, 1], [1, 0]], [[0], [1]]],
+)
+def test_baskets_of_two_items_bring_none(baskets: Any) -> None:
+    with warnings.catch_warnings():
+        warnings.simplefilter("error")
+        assert len(miner.sets(baskets, 1)) > 1
 
 
 def test_items_without_a_hash_are_refused() -> None:

@@ -225,3 +225,16 @@ def test_the_engine_shows_its_bar_where_it_is_asked_to(
     frame = cluster.sets(files, "20%", client=client, progress=True)
     assert len(frame) == 9
     assert "100% Completed" in capfd.readouterr().out
+
+
+def test_the_engine_shows_the_steps_of_a_question_by_their_names(
+    client: Client, tmp_path: Path
+) -> None:
+    files = written(tmp_path, cut(SHOP, 5))
+    assert len(cluster.sets(files, 3, client=client)) == 9
+
+    def names(dask_scheduler: Any) -> set[str]:
+        return {*dask_scheduler.task_prefixes}
+
+    steps = ("counted", "added", "share", "found", "united", "answered")
+    assert {f"basket_{step}" for step in steps} <= client.run_on_scheduler(names)

@@ -11,6 +11,7 @@ from typing import Any
 import numpy as np
 import pandas as pd
 import pytest
+from dask.bag.core import from_sequence
 from dask.dataframe.multi import concat
 from dask.dataframe.io.io import from_pandas
 from distributed import Client
@@ -59,6 +60,34 @@ def test_numbers_of_the_type_object_keep_their_values_as_labels(client: Client) 
     assert [(label, type(label)) for label in labels] == [
         (item, type(item)) for item in items
     ]
+
+
+def test_labels_that_are_not_equal_to_their_copies_come_back(client: Client) -> None:
+    gap = ("a", np.nan)
+    pairs: list[tuple[int, Any]] = [(1, gap), (1, "tea"), (2, gap), (3, "tea")]
+    frame = pd.DataFrame(
+        {
+            "receipt": [receipt for receipt, _ in pairs],
+            "product": pd.Series([item for _, item in pairs], dtype=object),
+        }
+    )
+    cut_up = from_pandas(frame, npartitions=3, sort=False)
+    bag = from_sequence([[gap, "tea"], [gap], ["tea"]], npartitions=3)
+    given: list[tuple[Any, dict[str, Any]]] = [(cut_up, COLUMNS), (bag, {})]
+    for parts, options in given:
+        found = cluster.sets(parts, 1, client=client, **options)
+        assert found["count"].tolist() == [2, 2, 1]
+        sizes = [sorted(map(str, itemset)) for itemset in found["itemsets"]]
+        assert sizes == [[str(gap)], ["tea"], [str(gap), "tea"]]
+
+
+@pytest.mark.parametrize("kind", ["int8", "uint64", "Int64", "object", "float64"])
+def test_weights_are_whole_numbers_of_any_type(client: Client, kind: str) -> None:
+    frame = pd.DataFrame({"receipt": [1, 1, 2], "product": ["tea", "jam", "tea"]})
+    frame["times"] = pd.Series([3, 3, 4]).astype(kind)
+    cut_up = from_pandas(frame, npartitions=2, sort=False)
+    found = cluster.sets(cut_up, 1, client=client, weight="times", **COLUMNS)
+    assert found["count"].tolist() == [7, 3, 3]
 
 
 SUMMER = datetime.timezone(datetime.timedelta(hours=2))

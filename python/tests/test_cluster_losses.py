@@ -15,7 +15,7 @@ from dask.bag.core import from_sequence
 from distributed import Client, LocalCluster
 
 import brute
-from basket_miner import cluster
+from basket_miner import TimedOut, cluster
 from basket_miner._program import find, run
 
 SHOP = Path(__file__).parents[2] / "examples/shop.dat"
@@ -119,7 +119,7 @@ def interrupt_when(log: Path, runs: int) -> None:
 
 
 @pytest.mark.usefixtures("interrupts")
-def test_an_interrupted_question_ends_its_runs_and_leaves_the_workers_free(
+def test_an_interrupt_and_a_timeout_end_the_runs_of_a_question_and_leave_the_workers_free(
     tmp_path: Path,
 ) -> None:
     log, slow = tmp_path / "log", tmp_path / "slow"
@@ -143,8 +143,11 @@ exec sleep 600
             threading.Thread(target=interrupt_when, args=(log, 2)).start()
             with pytest.raises(KeyboardInterrupt):
                 cluster.report(files, "sets", "--min=20%", client=client)
+            with pytest.raises(TimedOut):
+                cluster.sets(files, "20%", client=client, timeout=5)
             (tmp_path / "quick").touch()
             # In each part ten of fifteen baskets have item 1 and twelve item 2, as examples/shop.dat shows.
             report = cluster.report(files, "items", "--min=60%", client=client)
             assert report == b"1 (40)\n2 (48)\n"
-            assert [is_running(process) for process, _ in told(log)] == [False] * 2
+            begun = [process for process, _ in told(log)]
+            assert len(begun) > 2 and not any(map(is_running, begun))

@@ -74,6 +74,10 @@ def test_a_worker_without_the_program_gets_it_and_others_are_named(
             frozenset(["jam"]): 2,
             frozenset(["tea", "jam"]): 2,
         }
+        with pytest.MonkeyPatch.context() as patch:
+            # The worker is known now, and is not asked again.
+            patch.setattr(empty, "run", None)
+            assert len(cluster.sets(bag, 2, client=empty)) == 3
         (program,) = empty.run(_program.find).values()
         assert os.path.commonpath([program, tmp_path]) == str(tmp_path)
         with joined(empty, "late", tmp_path, str(here)):

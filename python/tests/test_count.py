@@ -6,6 +6,7 @@ from fractions import Fraction
 from pathlib import Path
 from typing import Any
 
+import numpy as np
 import pandas as pd
 import pytest
 
@@ -39,6 +40,15 @@ def test_the_items_of_a_fimi_file_are_numbers() -> None:
     for wrong in ("2", -1, 2**32, True):
         with pytest.raises(miner.DataError, match="is a number"):
             miner.count(SHOP, [[wrong]])
+
+
+def test_the_items_may_be_numbers_of_numpy() -> None:
+    frame = miner.count(SHOP, np.array([[1, 2], [2**32 - 1, 4]]))
+    assert frame["itemsets"].tolist() == [set(), {1, 2}, {2**32 - 1, 4}]
+    assert frame["count"].tolist() == [15, 7, 0]
+    for wrong in (-1, 2**32):
+        with pytest.raises(miner.DataError, match="is a number"):
+            miner.count(SHOP, np.array([[wrong]]))
 
 
 def test_names_of_csv_are_counted() -> None:

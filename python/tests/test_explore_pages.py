@@ -8,6 +8,7 @@ import sys
 import time
 from collections.abc import Callable
 from pathlib import Path
+from typing import Any
 
 import pandas as pd
 import pytest
@@ -15,7 +16,7 @@ from selenium import webdriver
 from selenium.webdriver.common.action_chains import ActionChains
 from selenium.webdriver.common.by import By
 
-from basket_miner import DataError, explore, rules
+from basket_miner import BasketError, DataError, FileError, explore, rules
 from basket_miner.frequent_patterns import apriori, association_rules
 from browser import at, rows, until
 
@@ -138,6 +139,49 @@ def test_no_rule_is_a_page_too(browser: webdriver.Chrome, tmp_path: Path) -> Non
     assert browser.get_log("browser") == []
 
 
+@pytest.mark.parametrize(
+    ("said", "kind", "call"),
+    [
+        ("not None", DataError, lambda found, _: explore(found, None)),  # type: ignore[arg-type]
+        ("it is a folder", FileError, explore),
+        ("no folder", FileError, lambda found, at: explore(found, at / "a/b.html")),
+        ("not list", DataError, lambda _, at: explore([1], at / "rules.html")),
+    ],
+)
+def test_a_page_that_can_not_be_written_is_told(
+    said: str, kind: type[BasketError], call: Callable[..., Any], tmp_path: Path
+) -> None:
+    with pytest.raises(kind, match=said):
+        call(rules([["a", "b"]], 1, 0.5), tmp_path)
+
+
+def test_a_page_has_a_title_that_is_text(
+    browser: webdriver.Chrome, tmp_path: Path
+) -> None:
+    title = f"{HOSTILE} & {{{{data}}}}"
+    found = rules([["a", "b"]], 1, 0.5)
+    browser.get(explore(found, tmp_path / "rules.html", title=title).as_uri())
+    assert browser.title == title
+    assert browser.find_element(By.TAG_NAME, "h1").text == title
+    assert len(rows(browser)) == 2
+
+
+def test_a_notebook_shows_the_page_itself(
+    browser: webdriver.Chrome, tmp_path: Path
+) -> None:
+    found = rules([[HOSTILE, "b"]], 1, 0.5)
+    shown: Any = explore(found, tmp_path / "rules.html", title='"May"')
+    notebook = tmp_path / "notebook.html"
+    notebook.write_text(f"<title>notebook</title>{shown._repr_html_()}")
+    browser.get(notebook.as_uri())
+    browser.switch_to.frame(browser.find_element(By.TAG_NAME, "iframe"))
+    until(browser, "2 rules of 2, page 1 of 1")
+    assert browser.find_element(By.TAG_NAME, "h1").text == '"May"'
+    assert ["b", HOSTILE] in [row[:2] for row in rows(browser)]
+    browser.switch_to.default_content()
+    assert browser.title == "notebook"
+
+
 def test_the_shell_writes_the_page(tmp_path: Path) -> None:
     words = [sys.executable, "-m", "basket_miner", "explore", str(RECEIPTS)]
     words += ["--form=single", "--header", "--min=20%", "--conf=2/3", "-o"]
@@ -146,6 +190,11 @@ def test_the_shell_writes_the_page(tmp_path: Path) -> None:
     ended = subprocess.run([*words, str(page)], check=True, **run)  # type: ignore[call-overload]
     assert ended.stderr == f"3 rules in {page}\n"
     assert '"both":[7,3,5]' in page.read_text()
+    ended = subprocess.run([*words, "-", "--title=May"], check=True, **run)  # type: ignore[call-overload]
+    assert ended.stdout.startswith("<!DOCTYPE html>") and "<h1>May</h1>" in ended.stdout
+    ended = subprocess.run([*words, str(tmp_path)], check=False, **run)  # type: ignore[call-overload]
+    assert (ended.returncode, ended.stdout) == (1, "")
+    assert ended.stderr == f"cannot write {tmp_path}: it is a folder, and no file\n"
     words[words.index("--min=20%")] = "--min=x%"
     ended = subprocess.run([*words, str(page)], check=False, **run)  # type: ignore[call-overload]
     assert ended.returncode == 1

@@ -35,6 +35,7 @@ COLUMNS = sorted({*itertools.chain.from_iterable(DATASET)})
 FRAME = pd.DataFrame([[name in row for name in COLUMNS] for row in DATASET])
 FRAME.columns = pd.Index(COLUMNS)
 
+ONE = pd.DataFrame({"itemsets": [["a"]], "support": [1.0]})
 GAPS = FRAME.astype(object).where(FRAME)
 
 # `apriori(df, min_support=0.6)` and the same with `use_colnames=True`.
@@ -134,6 +135,27 @@ def test_each_measure_can_be_the_metric(metric: str) -> None:
         least = association_rules(itemsets, metric=metric, min_threshold=threshold)
         wanted = found[found[metric] >= threshold].reset_index(drop=True)
         pd.testing.assert_frame_equal(least, wanted)
+
+
+@pytest.mark.parametrize("metric", ["confidence", "support", "lift"])
+def test_no_figure_lies_above_an_infinite_threshold(metric: str) -> None:
+    itemsets = apriori(FRAME, min_support=0.6)
+    for threshold, length in ((math.inf, 0), (-math.inf, 16)):
+        found = association_rules(itemsets, metric=metric, min_threshold=threshold)
+        assert len(found) == length
+    assert [*association_rules(itemsets, return_metrics="lift")][2:] == ["lift"]
+
+
+def test_supports_of_32_bits_are_taken_as_far_as_they_tell_counts() -> None:
+    itemsets = apriori(FRAME, min_support=0.6, use_colnames=True)
+    wanted = association_rules(itemsets)
+    single = itemsets.assign(support=itemsets["support"].astype("float32"))
+    pd.testing.assert_frame_equal(association_rules(single), wanted)
+    single.attrs.clear()
+    found = association_rules(single, num_itemsets=5)
+    pd.testing.assert_frame_equal(found, wanted)
+    with pytest.raises(DataError, match="no shares of 5000000"):
+        association_rules(single, num_itemsets=5_000_000)
 
 
 def test_support_only_needs_no_parts_of_the_itemsets_and_no_number_of_rows() -> None:
@@ -281,6 +303,21 @@ def test_rules_at_a_threshold_are_those_of_brute_force(metric: str) -> None:
         ("at most 1: '50%'", lambda: apriori(FRAME, "50%")),  # type: ignore[arg-type]
         ("at most 1: nan", lambda: apriori(FRAME, float("nan"))),
         ("not of fpmax", lambda: association_rules(fpmax(FRAME))),
+        (
+            "threshold is a number, not '0.8'",
+            lambda: association_rules(apriori(FRAME), min_threshold="0.8"),  # type: ignore[arg-type]
+        ),
+        (
+            "threshold is a number, not None",
+            lambda: association_rules(apriori(FRAME), min_threshold=None),  # type: ignore[arg-type]
+        ),
+        (
+            "threshold is a number, not nan",
+            lambda: association_rules(apriori(FRAME), min_threshold=math.nan),
+        ),
+        ("rows from 1 to .*, not 0", lambda: association_rules(ONE, 0)),
+        ("rows from 1 to .*, not 2199", lambda: association_rules(ONE, 2**41)),
+        ("a support is above 0", lambda: association_rules(ONE.assign(support=0.0), 5)),
     ],
 )
 def test_what_does_not_fit_is_refused_with_what_to_do(said: str, call: Any) -> None:

@@ -12,11 +12,11 @@ from basket_miner._errors import error_of
 
 MINIMUM = (
     "A minimum is a count of baskets as an int, as 20; or a share of all baskets as a float from 0 to 1, where "
-    '0.2 is 20%, as a fractions.Fraction, or as a text: "20%" or "1/5". A text "20" is a count.'
+    '0.2 is 20%, as a fractions.Fraction, or as a text: "20%", "0.5%", "1/5" or "0.2". A text "20" is a count.'
 )
 CONFIDENCE = (
     "A confidence is a share: a float from 0 to 1, where 0.6 is 60%, a fractions.Fraction, or a text as "
-    '"60%" or "2/3".'
+    '"60%", "2/3" or "0.6".'
 )
 CSV = (
     "The file was read as FIMI text, which has numbers alone. If it is CSV, give "
@@ -44,12 +44,11 @@ def refused(call: Any, *words: Any, **options: Any) -> tuple[str, str, list[str]
 @pytest.mark.parametrize(
     ("minimum", "kind", "said"),
     [
-        ("0.2", "UsageError", "basket: bad value for --min"),
+        ("-1/5", "UsageError", "basket: bad value for --min"),
         ("20 %", "UsageError", "basket: bad value for --min"),
         (20.0, "DataError", "a minimum as a share is from 0 to 1: 20.0; a count is an"),
         (0, "DataError", "a minimum as a count is from 1 to 1099511627775: 0"),
         (None, "DataError", "a minimum is a number, a Fraction or a text as '1/200', "),
-        (Fraction(1, 2**32), "DataError", "minimum 1/4294967296 is "),
     ],
 )
 def test_a_bad_minimum_says_which_are_good(minimum: Any, kind: str, said: str) -> None:
@@ -57,9 +56,7 @@ def test_a_bad_minimum_says_which_are_good(minimum: Any, kind: str, said: str) -
     assert (found[0], found[1][: len(said)], found[2]) == (kind, said, [MINIMUM])
 
 
-@pytest.mark.parametrize(
-    "confidence", ["0.6", 60.0, None, Fraction(1, 2**32)], ids=str
-)
+@pytest.mark.parametrize("confidence", ["3/2", 60.0, None, Fraction(3, 2)], ids=str)
 def test_a_bad_confidence_says_which_are_good(confidence: Any) -> None:
     assert refused(miner.rules, BASKETS, 1, confidence)[2] == [CONFIDENCE]
 

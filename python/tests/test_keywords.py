@@ -12,7 +12,7 @@ from basket_miner import cluster, plot
 
 FRAME: Any = {"basket": None, "item": None, "weight": None, "missing": "refuse"}
 FILE: Any = {"form": None, "sep": None, "header": False, "weighted": False}
-RUN: Any = {"workers": 1, "exact": False, "progress": False}
+RUN: Any = {"workers": 1, "exact": False, "progress": False, "timeout": None}
 WORK: Any = {**RUN, "miner": None, "limit": None}
 PART: Any = {**FRAME, **FILE}
 LAYOUT: Any = {**PART, "names": None}
@@ -20,7 +20,7 @@ LAYOUT: Any = {**PART, "names": None}
 CALLS: list[tuple[Callable[..., Any], str, dict[str, Any]]] = [
     (miner.baskets, "data", {**LAYOUT, "total": None}),
     (miner.items, "data minimum", LAYOUT | WORK),
-    (miner.sets, "data minimum", LAYOUT | WORK),
+    (miner.sets, "data minimum", LAYOUT | WORK | {"max_items": None}),
     (miner.closed, "data minimum", LAYOUT | WORK),
     (miner.maximal, "data minimum", LAYOUT | WORK),
     (miner.rules, "data minimum confidence", LAYOUT | WORK),

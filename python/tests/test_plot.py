@@ -81,6 +81,12 @@ def test_a_lift_has_one_colour_in_all_pictures_and_1_is_in_the_middle() -> None:
     ]
 
 
+def test_lifts_that_are_all_infinite_are_drawn() -> None:
+    axes = plot.rules(RULES.assign(lift=np.inf))
+    axes.figure.draw_without_rendering()
+    assert len(axes.collections[0].get_offsets()) == 4
+
+
 def test_lines_are_the_numbers_of_sets_of_each_size_that_meet_a_minimum() -> None:
     counts = brute.supports(BASKETS)
     minimums = [1, 2, 3, 4, 6, 7]

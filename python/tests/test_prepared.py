@@ -74,3 +74,9 @@ def test_a_total_is_that_of_a_count_too(tmp_path: Path) -> None:
     for total in (0, 2.5, True):
         with pytest.raises(miner.DataError, match="total is a number from 1 on"):
             miner.baskets(BASKETS, total=total)  # type: ignore[arg-type]
+
+
+def test_prepared_baskets_that_are_prepared_again_keep_their_total() -> None:
+    prepared = miner.baskets(miner.baskets([["tea"], ["tea", "milk"]], total=10))
+    assert miner.sets(prepared, 1)["support"].tolist() == [0.2, 0.1, 0.1]
+    assert miner.sets(miner.baskets(prepared, total=5), 2)["support"].tolist() == [0.4]

@@ -1,28 +1,35 @@
 """How the program is found and run. Small scripts stand for it where it can't be made to fail."""
 
+import asyncio
 import io
+import math
 import os
 import signal
 import subprocess
 import sys
 import threading
 import time
-from collections.abc import Iterator
+from collections.abc import Callable, Iterator
 from pathlib import Path
+from typing import Any
 
 import pytest
 
 from basket_miner import (
     BasketError,
+    DataError,
     FileError,
     InputError,
     OutOfMemory,
     ProgramMissing,
+    TimedOut,
     TooManySets,
     UsageError,
     __version__,
     _program,
+    count,
     sets,
+    to_thread,
 )
 
 
@@ -158,6 +165,71 @@ def test_large_inputs_and_outputs_pass_through(
     assert _program.run(["sets"], content) == content
     stand_in(monkeypatch, tmp_path, "exec echo unread")
     assert _program.run(["sets"], content) == b"unread\n"
+
+
+def test_a_process_that_is_forked_meanwhile_keeps_nobody_waiting(
+    monkeypatch: pytest.MonkeyPatch, tmp_path: Path
+) -> None:
+    stand_in(monkeypatch, tmp_path, f"echo $$ > {tmp_path}/id; exec cat")
+    children: list[int] = []
+    start = subprocess.Popen
+
+    def forking(*words: Any, **given: Any) -> Any:
+        # The child has all that is open now, and outlives the question.
+        children.append(child := os.fork())
+        if not child:
+            time.sleep(SECONDS)
+            os._exit(0)
+        return start(*words, **given)
+
+    assert _program.find().name == "stand_in"
+    monkeypatch.setattr(subprocess, "Popen", forking)
+    content = bytes(range(256)) * 10_000
+    try:
+        assert _program.run(["sets"], content) == content
+        assert [is_running(child) for child in children] == [True]
+    finally:
+        for child in children:
+            os.kill(child, signal.SIGKILL)
+            os.waitpid(child, 0)
+
+
+def test_a_question_ends_at_its_timeout(
+    monkeypatch: pytest.MonkeyPatch, tmp_path: Path
+) -> None:
+    shop: Any = [["tea"]]
+    calls: list[Callable[..., Any]] = [
+        lambda **given: sets(shop, 1, **given),
+        lambda **given: count(shop, shop, **given),
+    ]
+    for number, call in enumerate(calls):
+        assert len(call(timeout=SECONDS)) == 1 + number
+        for wrong in (0, -1, math.inf, math.nan, "1", True):
+            with pytest.raises(DataError, match="timeout is a number of seconds"):
+                call(timeout=wrong)
+    stand_in(monkeypatch, tmp_path, f"echo $$ > {tmp_path}/id; exec sleep 600")
+    for call in calls:
+        with pytest.raises(TimedOut, match="timeout= was over: basket (sets|count) -"):
+            call(timeout=0.5)
+        assert not is_running(int((tmp_path / "id").read_text()))
+
+
+def test_a_task_that_is_cancelled_ends_its_program(
+    monkeypatch: pytest.MonkeyPatch, tmp_path: Path
+) -> None:
+    assert len(asyncio.run(to_thread(sets, [["tea"]], minimum=1))) == 1
+    stand_in(monkeypatch, tmp_path, f"echo $$ > {tmp_path}/id; exec sleep 600")
+
+    async def given_up() -> None:
+        task = asyncio.create_task(to_thread(sets, [["tea"]], 1))
+        await asyncio.to_thread(told_by, tmp_path / "id")
+        task.cancel()
+        await task
+
+    with pytest.raises(asyncio.CancelledError):
+        # It waits for the thread, which waits for the program.
+        asyncio.run(given_up())
+    assert not is_running(told_by(tmp_path / "id"))
 
 
 @pytest.fixture

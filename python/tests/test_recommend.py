@@ -6,6 +6,7 @@ from fractions import Fraction
 from pathlib import Path
 from typing import Any
 
+import numpy as np
 import pandas as pd
 import pytest
 
@@ -113,6 +114,11 @@ def test_no_rule_and_no_basket_make_no_offer() -> None:
         ("by is one of lift", lambda: recommend(SHOP, [["tea"]], by="support")),  # type: ignore[arg-type]
         ("at least 1, not 0", lambda: recommend(SHOP, [["tea"]], 0)),
         ("iterable of items, not 'tea'", lambda: recommend(SHOP, ["tea"])),
+        ("number of at least 1, not '3'", lambda: recommend(SHOP, [["tea"]], "3")),  # type: ignore[arg-type]
+        ("number of at least 1, not 2.5", lambda: recommend(SHOP, [["tea"]], 2.5)),  # type: ignore[arg-type]
+        ("hashable items: unhashable", lambda: recommend(SHOP, [[["tea"]]])),
+        ("hashable items: 'int'", lambda: recommend(SHOP, 5)),
+        ("ndarray is not an iterable", lambda: recommend(SHOP, np.eye(2))),
         ("data frame or an iterable", lambda: recommend(SHOP, RECEIPTS)),
         ("data frame or an iterable", lambda: recommend(SHOP, baskets([["tea"]]))),
         ("go with a data frame", lambda: recommend(SHOP, [["tea"]], item="product")),
@@ -133,3 +139,36 @@ def test_no_rule_and_no_basket_make_no_offer() -> None:
 def test_what_does_not_fit_is_refused(said: str, call: Callable[[], Any]) -> None:
     with pytest.raises(DataError, match=said):
         call()
+
+
+@pytest.mark.parametrize(
+    ("said", "values"),
+    [
+        ("'b' has values other than 0 and 1", [0, 2]),
+        ("'b' has missing values, 1 of them; fill them with False first", [0, None]),
+        ("'a' has values other than 0 and 1", ["0", "1"]),
+    ],
+)
+def test_a_table_of_other_values_than_0_and_1_gets_no_offer(
+    said: str, values: list[Any]
+) -> None:
+    found = rules([["a", "b"], ["a", "b"], ["c"]], 1, 0.0)
+    table = pd.DataFrame({"a": [1, 1], "b": values})
+    table = table if isinstance(values[1], (int, type(None))) else table.assign(a="1")
+    with pytest.raises(DataError, match=f"{said}(, false and true; .*|$)"):
+        recommend(found, table)
+    with pytest.raises(DataError, match="column 'a' stands twice"):
+        recommend(found, pd.DataFrame([[1, 0]], columns=["a", "a"]))
+
+
+def test_offers_have_the_labels_that_the_baskets_have() -> None:
+    large, day = 2**53 + 1, pd.Timestamp("2026-01-01")
+    items = [large, 2.5, "2026-01-01", day, ("a", float("nan"))]
+    found = rules([items, items], 2, 1.0)
+    for basket in items:
+        offers = recommend(found, [[basket]])
+        others = [item for item in items if item is not basket]
+        assert len(offers) == 4
+        assert {(item, type(item)) for item in offers["item"]} == {
+            (item, type(item)) for item in others
+        }

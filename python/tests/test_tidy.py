@@ -1,6 +1,7 @@
 """A row for each item says what a row for each itemset or rule does."""
 
 import sqlite3
+from typing import Any
 
 import pandas as pd
 import pytest
@@ -48,6 +49,28 @@ def test_numbers_stay_numbers_and_no_row_keeps_the_columns() -> None:
     assert found.empty and list(found.columns)[:3] == ["rule", "side", "item"]
 
 
+@pytest.mark.parametrize(
+    "labels",
+    [
+        [1, 2.5],
+        [2**53 + 1, 2.5],
+        [2**63, -1],
+        ["2026-01-01", pd.Timestamp("2026-01-01")],
+        ["1", pd.Timedelta(1)],
+        [1, "1", ("a", 1)],
+    ],
+)
+def test_labels_of_several_types_stay_as_they_are(labels: list[Any]) -> None:
+    found = tidy(sets([labels], 1)[: len(labels)])["item"].tolist()
+    assert [(label, type(label)) for label in found] == [
+        (label, type(label)) for label in labels
+    ]
+
+
 def test_other_frames_are_refused() -> None:
     with pytest.raises(DataError, match="no column 'antecedents'"):
         tidy(pd.DataFrame({"a": [1]}))
+    with pytest.raises(DataError, match="a pandas.DataFrame, not list"):
+        tidy([frozenset("a")])
+    with pytest.raises(DataError, match="has a column 'item' already: rename it"):
+        tidy(sets(BASKETS, 2).assign(item=1))

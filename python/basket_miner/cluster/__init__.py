@@ -30,6 +30,8 @@ handle: it runs the lost steps again. If a question is interrupted or fails, its
 program end, on all workers.
 """
 
+from collections.abc import Sequence
+from fractions import Fraction
 from typing import Any, Unpack
 
 import pandas as pd
@@ -37,18 +39,29 @@ from distributed import Client
 
 from .._baskets import Baskets
 from .._calls import words_of
-from .._keywords import PartOptions, PrepareOptions, Run, filled, with_keywords
-from .._minimum import Confidence, Minimum, confidence_word, minimum_word
+from .._ending import end_of
+from .._keywords import PartOptions, PrepareOptions, Run, filled
+from .._minimum import (
+    Confidence,
+    Minimum,
+    confidence_word,
+    is_short,
+    least_count,
+    minimum_of,
+    word_of,
+)
 from .._report import rules_frame, sets_frame
+from .._typed import Typed
 from ._parts import Parts, prepared
 from ._passes import answered
 from ._question import question_of
+from ._signatures import PrepareCall, RulesCall, SetsCall
 from ._workers import client_of
 
 __all__ = ["Parts", "closed", "maximal", "prepare", "report", "rules", "sets"]
 
 
-@with_keywords
+@Typed[PrepareCall]()
 def prepare(
     parts: Any, *, client: Client | None = None, **keywords: Unpack[PrepareOptions]
 ) -> Parts:
@@ -94,7 +107,7 @@ def report(
     return answered(asked, ready, question, progress).report
 
 
-@with_keywords
+@Typed[SetsCall]()
 def sets(
     parts: Any,
     minimum: Minimum,
@@ -113,10 +126,10 @@ def sets(
         BasketError: as `prepare` and `report` do; `TooManySets` above the limit, which is that of
             the whole.
     """
-    return _frame(["sets", "--min=" + minimum_word(minimum)], parts, client, keywords)
+    return _frame("sets", minimum, parts, client, keywords)
 
 
-@with_keywords
+@Typed[SetsCall]()
 def closed(
     parts: Any,
     minimum: Minimum,
@@ -125,10 +138,10 @@ def closed(
     **keywords: Unpack[PartOptions],
 ) -> pd.DataFrame:
     """The closed itemsets over all parts, as `basket_miner.closed`; arguments as in `sets`."""
-    return _frame(["closed", "--min=" + minimum_word(minimum)], parts, client, keywords)
+    return _frame("closed", minimum, parts, client, keywords)
 
 
-@with_keywords
+@Typed[SetsCall]()
 def maximal(
     parts: Any,
     minimum: Minimum,
@@ -137,11 +150,10 @@ def maximal(
     **keywords: Unpack[PartOptions],
 ) -> pd.DataFrame:
     """The maximal itemsets over all parts, as `basket_miner.maximal`; arguments as in `sets`."""
-    words = ["maximal", "--min=" + minimum_word(minimum)]
-    return _frame(words, parts, client, keywords)
+    return _frame("maximal", minimum, parts, client, keywords)
 
 
-@with_keywords
+@Typed[RulesCall]()
 def rules(
     parts: Any,
     minimum: Minimum,
@@ -151,19 +163,28 @@ def rules(
     **keywords: Unpack[PartOptions],
 ) -> pd.DataFrame:
     """The rules over all parts, as `basket_miner.rules`; other arguments as in `sets`."""
-    words = ["rules", "--min=" + minimum_word(minimum)]
-    words += ["--conf=" + confidence_word(confidence)]
-    return _frame(words, parts, client, keywords)
+    words = ["--conf=" + confidence_word(confidence)]
+    return _frame("rules", minimum, parts, client, keywords, words)
 
 
 def _frame(
-    words: list[str], parts: Any, client: Client | None, options: PartOptions
+    command: str,
+    minimum: Minimum,
+    parts: Any,
+    client: Client | None,
+    options: PartOptions,
+    words: Sequence[str] = (),
 ) -> pd.DataFrame:
+    least, until = minimum_of(minimum), end_of(options.get("timeout"))
     asked, run_so = client_of(client), filled(Run, options)
     ready = prepared(parts, asked, options, run_so["progress"])
-    question = question_of([*words, *words_of(options)])
-    answer = answered(asked, ready, question, run_so["progress"])
+    if isinstance(least, Fraction) and not is_short(least):
+        # What all baskets weigh together, as each question finds out.
+        weighing = question_of(["items", "--min=1/1"])
+        least = least_count(least, answered(asked, ready, weighing, until=until).total)
+    given = [command, f"--min={word_of(least)}", *words, *words_of(options)]
+    answer = answered(asked, ready, question_of(given), run_so["progress"], until)
     baskets = Baskets(b"", labels=ready.labels, separator=ready.separator)
-    if question.command == "rules":
+    if command == "rules":
         return rules_frame(answer.report, baskets, answer.total, exact=run_so["exact"])
     return sets_frame(answer.report, baskets, answer.total, exact=run_so["exact"])

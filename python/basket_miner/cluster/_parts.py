@@ -2,7 +2,7 @@
 """Parts of the baskets where the workers of a cluster can read them."""
 
 import os
-from collections.abc import Iterable, Sequence
+from collections.abc import Hashable, Iterable, Sequence
 from dataclasses import dataclass
 from functools import partial
 from pathlib import Path
@@ -14,15 +14,15 @@ from dask.base import is_dask_collection
 from dask.delayed import Delayed, delayed
 from distributed import Client, Future
 
+from .._baskets import Labels
 from .._data import SEPARATOR_WORDS, read
 from .._errors import DataError
 from .._frames import place_of
 from .._keywords import Layout, PartLayout, changed, filled
+from ._labels import joined, packed, unpacked
 from ._tasks import awaited, tree
 from ._texts import (
     KEY,
-    Labels,
-    joined,
     labels_of,
     labels_of_rows,
     no_rows,
@@ -127,7 +127,11 @@ def _listed(
     # Here, since it takes a second.
     from dask.dataframe import from_delayed  # type: ignore[attr-defined]
 
-    frames = [client.submit(rows_of, part) for part in _futures(parts, client)]
+    names = _columns(layout)
+    frames = [
+        client.submit(rows_of, part, f"part {number} of {len(parts)}", names)
+        for number, part in enumerate(_futures(parts, client), 1)
+    ]
     meta = awaited(client.submit(no_rows, frames[0]), progress)
     frame = from_delayed(frames, meta=meta, verify_meta=False)
     return _frame(frame, client, layout, progress)
@@ -148,19 +152,16 @@ def _baskets(
         for part in _futures(parts, client)
     ]
     found = [client.submit(labels_of, part, pure=False) for part in read_so]
-    labels = _all_labels(found, client, progress)
-    numbering = client.submit(same, labels, pure=False)
+    content = _all_labels(found, client, progress)
+    numbering = client.submit(same, content, pure=False)
     texts = [client.submit(text_of, part, numbering, pure=False) for part in read_so]
-    return Parts(texts, labels)
+    return Parts(texts, unpacked(content))
 
 
 def _frame(frame: Any, client: Client, layout: Layout, progress: bool) -> Parts:
     if layout["basket"] is None and layout["item"] is None:
         return _baskets(frame.to_delayed(), client, layout, progress)
-    if layout["basket"] is None or layout["item"] is None:
-        raise DataError("a frame with a row for each item needs both basket= and item=")
-    names = [layout["basket"], layout["item"]]
-    names += [] if layout["weight"] is None else [layout["weight"]]
+    names = _columns(layout)
     for name in names:
         place_of(frame.columns, name)
     kept = client.persist(frame[names])
@@ -168,24 +169,31 @@ def _frame(frame: Any, client: Client, layout: Layout, progress: bool) -> Parts:
         client.submit(labels_of_rows, part, layout, pure=False)
         for part in client.compute(kept.to_delayed())
     ]
-    labels = _all_labels(found, client, progress)
-    numbering = client.submit(same, labels, pure=False)
-    meta = numbered_rows(frame._meta, [], layout)
+    content = _all_labels(found, client, progress)
+    numbering = client.submit(same, content, pure=False)
+    meta = numbered_rows(frame._meta, packed([]), layout)
     # The shuffle for several machines, by tasks, which the engine can repeat.
     with client.as_current(), dask.config.set(shuffle="tasks"):
         rows = kept.map_partitions(numbered_rows, numbering, layout, meta=meta)
         whole = rows.shuffle(KEY).to_delayed()
-    return Parts(
-        client.compute([delayed(text_of_rows)(part) for part in whole]), labels
-    )
+    texts = client.compute([delayed(text_of_rows)(part) for part in whole])
+    return Parts(texts, unpacked(content))
 
 
-def _all_labels(parts: list[Future], client: Client, progress: bool) -> Labels:
-    """All of the labels of parts, by first appearance over the parts in their order.
+def _columns(layout: Layout) -> list[Hashable]:
+    """The columns of a frame with a row for each item."""
+    if layout["basket"] is None or layout["item"] is None:
+        raise DataError("a frame with a row for each item needs both basket= and item=")
+    weight = [] if layout["weight"] is None else [layout["weight"]]
+    return [layout["basket"], layout["item"], *weight]
+
+
+def _all_labels(parts: list[Future], client: Client, progress: bool) -> bytes:
+    """All of the labels of parts, packed, by first appearance over the parts in their order.
 
     The client has them, and a task whose words they are gives them to the workers. So they stay
     the same whatever is lost: the order of a set differs from process to process.
     """
     submit = partial(client.submit, pure=False)
-    labels: Labels = awaited(tree(submit, joined, parts), progress)
-    return labels
+    content: bytes = awaited(tree(submit, joined, parts), progress)
+    return content

@@ -36,16 +36,21 @@ class Answer:
 
 
 def answered(
-    client: Client, parts: Parts, question: Question, progress: bool = False
+    client: Client,
+    parts: Parts,
+    question: Question,
+    progress: bool = False,
+    until: float | None = None,
 ) -> Answer:
     """The answer over all parts.
 
     Raises:
         BasketError: as the program ends over a part, which is named, or over the counts.
+        TimedOut: the answer is not there at the time of `time.monotonic` that `until` is.
     """
     tasks = Tasks(client)
     with tasks.given_up():
-        answer: Answer = awaited(_submitted(tasks, parts, question), progress)
+        answer: Answer = awaited(_submitted(tasks, parts, question), progress, until)
     return answer
 
 

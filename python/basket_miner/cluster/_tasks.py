@@ -2,9 +2,11 @@
 """Futures of Dask's distributed engine, put together and waited for."""
 
 import contextlib
+import time
 import uuid
 from collections.abc import Callable, Iterator
 from dataclasses import dataclass, field
+from functools import partial
 from importlib import import_module
 from typing import Any
 
@@ -12,6 +14,7 @@ from distributed import Client, Future
 from distributed import progress as engine_bar
 
 from .._ending import end, working_for
+from .._errors import TimedOut
 
 # How many results one task puts together.
 WIDTH = 8
@@ -25,9 +28,11 @@ class Tasks:
     name: str = field(default_factory=lambda: uuid.uuid4().hex)
 
     def submit(self, task: Callable[..., Any], *given: Any) -> Future:
-        """The future of a task."""
+        """The future of a task, which the engine shows by the task's name."""
+        made_of = task.func if isinstance(task, partial) else task
+        key = f"basket_{made_of.__name__.strip('_')}-{uuid.uuid4().hex}"
         words = (working_for, self.name, task, *given)
-        future: Future = self.client.submit(*words, pure=False)
+        future: Future = self.client.submit(*words, key=key)
         return future
 
     @contextlib.contextmanager
@@ -44,13 +49,19 @@ class Tasks:
             raise
 
 
-def awaited(future: Future, progress: bool) -> Any:
-    """What a future gives. It is cancelled where it is waited for no longer."""
+def awaited(future: Future, progress: bool, until: float | None = None) -> Any:
+    """What a future gives, before a time of `time.monotonic`. It is cancelled where it is waited for
+    no longer."""
     try:
         # In a terminal the engine's bar ends with the work; in a notebook it is a widget.
         if progress and (bar := engine_bar(future)) is not None:
             import_module("IPython.display").display(bar)
-        return future.result()
+        return future.result(until and max(until - time.monotonic(), 0))
+    except TimeoutError as fault:
+        future.cancel()
+        if until is None:
+            raise
+        raise TimedOut("timeout= was over") from fault
     except BaseException:
         # A client that was closed meanwhile can't cancel.
         with contextlib.suppress(Exception):

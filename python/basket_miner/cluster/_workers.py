@@ -3,6 +3,7 @@
 
 from collections.abc import Callable
 from typing import Any
+from weakref import WeakKeyDictionary
 
 from distributed import Client, WorkerPlugin, get_client
 
@@ -11,6 +12,8 @@ from .._program import find, keep
 from .._version import __version__
 
 _NAME = "basket-program"
+# The addresses of workers that have all that they need.
+_FITTING: WeakKeyDictionary[Client, set[str]] = WeakKeyDictionary()
 
 
 def client_of(client: Client | None) -> Client:
@@ -34,21 +37,27 @@ def client_of(client: Client | None) -> Client:
 
 
 def demand_program(client: Client) -> None:
-    """Has each worker find the program, and sends this machine's to those that have none.
+    """Has each worker find the program, once for each address, and sends this machine's to those that
+    have none.
 
     Raises:
         ProgramMissing: a worker lacks this package, has it in another version, or can't run the
             program that was sent. The message has the worker's name.
     """
-    looked = client.run(_look(), on_error="return")
+    known = _FITTING.setdefault(client, set())
+    asked = [address for address in client.nthreads() if address not in known]
+    if not asked:
+        return
+    looked = client.run(_look(), workers=asked, on_error="return")
     _refuse(client, {address: _package_fault(told) for address, told in looked.items()})
     if any(_program_fault(told) for told in looked.values()):
         # A plugin, which the engine also gives to workers that come later.
         own = getattr(client, "register_plugin", None)
         register = own or client.register_worker_plugin
         register(_sent(find().read_bytes()), name=_NAME)
-        looked = client.run(_look(), on_error="return")
+        looked = client.run(_look(), workers=asked, on_error="return")
     _refuse(client, {address: _program_fault(told) for address, told in looked.items()})
+    known.update(address for address, told in looked.items() if isinstance(told, tuple))
 
 
 def _refuse(client: Client, faults: dict[str, str]) -> None:
