@@ -13,7 +13,10 @@ const MANY_ITEMS: usize = 15;
 /// The plan for a database. One worker is enough if the baskets have few subsets together, since
 /// each frequent itemset is one of these.
 pub fn plan_for(database: &Database, plan: &Plan) -> Plan
-    ensures { result.question ≡ plan.now.question }
+    ensures question { result.question ≡ plan.now.question }
+    ensures miner { result.miner ≡ plan.now.miner }
+    ensures pieces { result.pieces ≡ plan.now.pieces }
+    ensures workers { result.workers ≤ plan.now.workers }
 {
     if has_few_subsets(database) {
         plan.with_workers(1)
@@ -25,7 +28,8 @@ pub fn plan_for(database: &Database, plan: &Plan) -> Plan
 /// How many of the workers count this many sets in a database.
 pub fn counting_workers(database: &Database, sets: usize, workers: u32) -> u32
     requires { (1 ≤ workers) × (workers ≤ 64) }
-    ensures { (1 ≤ result) × (result ≤ 64) }
+    ensures range { (1 ≤ result) × (result ≤ 64) }
+    ensures within { result ≤ workers }
 {
     if sets as u64 <= FEW_SUBSETS && has_few_subsets(database) {
         1

@@ -72,8 +72,9 @@ impl Work {
 }
 
 /// The list of the frequent sets, if it is no longer than the plan's limit, and how much the plan's
-/// miner did for it. The plan's workers pass the gate with each piece of their work, in the phase
-/// that counts the items, which is 1, and in those of the miner.
+/// miner did for it. The plan's workers pass the gate with each piece of the phase that counts the
+/// items, which is 1, and of Apriori's phases or of the one that mines class by class. The runs and
+/// pairs before the classes pass no gate.
 ///
 /// The fault is `TooMany` if there are more sets than the plan's limit, else `Memory`.
 pub fn mine<R: Threads + Sync, G: Gate + Sync>(

@@ -42,7 +42,7 @@ contents_in CsvCounts layout known bytes = by_names contents.Counts (result_and_
 abbrev pub contents_of : Layout → List (List ℕ) → List ℕ → Result Contents ReadFault
 contents_of layout known bytes = contents_in layout.form layout known bytes
 
--- the fault if the reader failed: in FIMI that of the bytes that it gave, if they are known and have one, else `Read`; in the other forms `Read`
+-- the fault if the reader failed: in FIMI that of the bytes that it gave, if they are known and have one, `Read` if they have none, and any if they are not known; in the other forms `Read`
 abbrev pub FailsIn : Form → Option (List ℕ) → Option (List ℕ) → ReadFault → Type 0
 FailsIn Fimi left after = FailsAfter left after
 FailsIn _ left after = IsRead

@@ -66,11 +66,11 @@ In CSV, spaces and tabs at the ends of a field don't count, nor do empty names. 
 report is CSV as well.
 
 The report is the same for every miner. Time and memory differ:
-  apriori     the default: the least memory if few sets are frequent, slow if many are
-  eclat-bits  fast on most data, and often the fastest over few or varied baskets
-  fpgrowth    fast on most data, and often the fastest over very many baskets
-  eclat-diff  as fast as eclat-bits on dense data, where most items are in most baskets
-  eclat       as fast as eclat-bits on sparse data, where most items are in few baskets";
+  apriori     the default: for few frequent sets, and with the least memory
+  eclat-bits  for many frequent sets
+  fpgrowth    if eclat-bits takes a second or more: often faster over very many baskets
+  eclat-diff  as eclat-bits, by difference lists; seldom faster
+  eclat       as eclat-bits, by lists of basket numbers; seldom faster";
 
 /// The help of a command except `count`: what it does, the usage, the options of its own, what it writes.
 macro_rules! help {
