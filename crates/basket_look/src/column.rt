@@ -4,7 +4,7 @@ use std::alloc::{AllocError, Global};
 /// How many values of a column are shown.
 const SHOWN: usize = 3;
 
-const BASKET_WORDS: [&str; 14] = [
+const BASKET_WORDS: [&str; 13] = [
     "receipt",
     "basket",
     "order",
@@ -16,12 +16,11 @@ const BASKET_WORDS: [&str; 14] = [
     "cart",
     "member",
     "customer",
-    "bon",
     "beleg",
     "rechnung",
 ];
 
-const ITEM_WORDS: [&str; 10] = [
+const ITEM_WORDS: [&str; 8] = [
     "product",
     "item",
     "article",
@@ -30,8 +29,6 @@ const ITEM_WORDS: [&str; 10] = [
     "description",
     "sku",
     "name",
-    "good",
-    "ware",
 ];
 
 /// The values of a column, below its header.

@@ -26,7 +26,7 @@ impl Encoding {
         if bytes.contains(&0) {
             return Self::by_nuls(bytes);
         }
-        if bytes.iter().filter(|byte| is_control(**byte)).count() > 0 {
+        if bytes.iter().any(|byte| is_control(*byte)) {
             return None;
         }
         Some(Self::without_nuls(bytes))

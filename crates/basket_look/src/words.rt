@@ -14,7 +14,8 @@ Options:
   -h, --help  Print help
 
 Only the first 1048576 bytes are read, and nothing is mined. What is recognised is a guess, which
-no proof covers; it is for people, and its text may change.
+no proof covers; it is for people, and its text may change. The command has a --min to begin
+with: choose your own.
 
 Example:
   printf '1 2\\n2 3\\n' | basket look
