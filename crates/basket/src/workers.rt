@@ -18,7 +18,7 @@ pub fn plan_for(database: &Database, plan: &Plan) -> Plan
     ensures pieces { result.pieces ≡ plan.now.pieces }
     ensures workers { result.workers ≤ plan.now.workers }
 {
-    if has_few_subsets(database) {
+    if plan.workers() > 1 && has_few_subsets(database) {
         plan.with_workers(1)
     } else {
         *plan

@@ -4,7 +4,7 @@ use crate::itemset::Itemset;
 use std::alloc::{AllocError, Global};
 
 /// A basket, and how many times it was bought.
-#[derive(Debug, Drop)]
+#[derive(Debug, PartialEq, Eq, Drop)]
 pub struct Weighted {
     pub basket: Itemset,
     pub weight: u64,
