@@ -106,7 +106,7 @@ class Documents(unittest.TestCase):
         self.assertGreater(len(quoted), 20)
         places = (
             "basket/src/engine.rt",
-            "basket/specs/Outcome.antt",
+            "basket_outcome/specs/Outcome.antt",
             "basket/specs/Count.antt",
             "basket_main/src/program.rt",
         )

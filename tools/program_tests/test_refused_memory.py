@@ -95,8 +95,7 @@ class Refused(unittest.TestCase):
 
     @classmethod
     def setUpClass(cls) -> None:
-        if COMPILER is None:
-            raise unittest.SkipTest("there is no C compiler, so no memory is refused")
+        assert COMPILER, "there is no C compiler, so no memory is refused"
         cls.folder = Path(cls.enterClassContext(tempfile.TemporaryDirectory()))
         words = [COMPILER, "-O2", "-shared", "-fPIC", str(ROOT / "tools/refuse.c")]
         subprocess.run([*words, "-o", str(cls.folder / "refuse.so")], check=True)
