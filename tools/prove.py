@@ -26,7 +26,7 @@ from crates import built, copy_to, is_program, listed, needed
 
 # What the checker says of a crate begins and ends so. A crate that an earlier run proved has no more than its end.
 BEGINS = re.compile(r"== ")
-PROVED = re.compile(r"rt: (\w+)( is kept: .*| proved)$")
+PROVED = re.compile(r"rt: (\w+)(: its tests are)?( is kept: .*| proved)$")
 FAILED = re.compile(r"rt: (.+) NOT PROVED")
 # Lines of a crate that failed on what is well in it.
 WELL = re.compile(r"\w+ \S+: (proved$|modules loaded)|by-macro: ")
@@ -87,8 +87,10 @@ class Report:
             self._of_crate = [line]
         elif found := PROVED.match(line):
             self._of_crate = None
-            (self.proved if found[2] == " proved" else self.kept).append(found[1])
-            return found[1]
+            if not found[2]:
+                is_new = found[3] == " proved"
+                (self.proved if is_new else self.kept).append(found[1])
+                return found[1]
         elif FAILED.match(line):
             self.faults += [*(self._of_crate or []), line]
             self._of_crate = None

@@ -82,3 +82,24 @@ class Tools(unittest.TestCase):
                 edit.write_text(lines, encoding="utf-8")
                 with self.subTest(text=text):
                     self.assertEqual(Edit("one", edit).fault(), wanted)
+
+    def test_what_the_checker_counts_is_taken_also_after_the_tests_of_a_crate(
+        self,
+    ) -> None:
+        report = Report()
+        lines = [
+            "rt: basket_order is kept: an earlier run proved the same files",
+            "== basket_runs",
+            "rt: basket_runs proved",
+            "== basket_runs: its tests",
+            "fn basket_runs::tests::one: proved",
+            "rt: basket_runs: its tests are proved",
+            "rt: ok",
+            "2 passed, 0 failed",
+        ]
+        for line in lines:
+            report.take(f"{line}\n")
+        self.assertEqual(
+            (report.proved, report.kept), (["basket_runs"], ["basket_order"])
+        )
+        self.assertEqual((report.passed, report.failed), (2, 0))
