@@ -4,8 +4,8 @@
 usage: tools/slow.py CRATE [SECONDS]    at the top of the repository
 
 Prints the processor seconds of each function that takes at least SECONDS (10), and those of the rest: reading
-the libraries, the crate's own definitions and lemmas, and what follows after the last function. The crates
-below are proved first, or taken from what earlier runs kept.
+the libraries, definitions and lemmas up to the first function, which is among them, and what follows after the
+last. The crates below are proved first, or taken from what earlier runs kept.
 """
 
 import os
@@ -68,20 +68,26 @@ def steps(words: list[str], folder: Path) -> Iterator[tuple[str, float]]:
 
 def report(name: str, least: float, tree: Path) -> int:
     crates = listed()
-    copy_to(tree, [it for it in needed([name], crates) if it != name], crates)
+    below = [it for it in needed([name], crates) if it != name]
+    copy_to(tree, below, crates)
     words = ["rt", "ci"]
-    if subprocess.run(words, cwd=tree, stdout=subprocess.DEVNULL).returncode != 0:
+    ended = (
+        subprocess.run(words, cwd=tree, stdout=subprocess.DEVNULL) if below else None
+    )
+    if ended and ended.returncode != 0:
         sys.exit(f"A crate below {name} is not proved.")
     unread = shutil.ignore_patterns("out", "must-fail")
     shutil.copytree(Path("crates", name), tree / "crates" / name, ignore=unread)
     (tree / "kept").mkdir()
     functions: dict[str, float] = {}
-    rest, verdict = 0.0, "no verdict"
+    rest, verdict, has_begun = 0.0, "no verdict", False
     for line, seconds in steps(words_for(name, crates, tree), tree / "crates" / name):
-        if found := CHECKED.match(line):
+        found = CHECKED.match(line)
+        if found and has_begun:
             functions[found[1]] = seconds
         else:
             rest += seconds
+        has_begun = has_begun or found is not None
         if PROVED.match(line):
             verdict = line.split()[0]
     for function, seconds in sorted(functions.items(), key=lambda it: -it[1]):
