@@ -1,6 +1,5 @@
 //! Counting given sets over an input.
 ghost use Rattle.std.specs.Prelude.{◌≡◌, ◌≢◌, ◌↔◌, true, false, Ok, Err, IfErr, IfOk, MatchResult, OnOk};
-ghost use Rattle.std.specs.Io.KnownBytes.{Keeps};
 ghost use Rattle.basket_read.specs.declared.fault.ReadFault.{ReadFault as InputFault};
 ghost use Rattle.basket_report.specs.Report.{report_of};
 ghost use Rattle.basket_outcome.specs.Contents.{wording_with};
@@ -44,7 +43,10 @@ pub fn run_count<R: RandomSource + Threads + Sync, S: Source, T: Source, W: Sink
     ensures prefix { result ≡ Err RunFault.Write → WritesCountsPrefix plan.now.layout (S.left sets.old) (T.left reader.old) (W.taken writer.old) (W.taken writer.new) }
     ensures whole { result ≡ Err RunFault.Write → W.ends_in_flush writer.new ≡ true → WritesCounts plan.now.layout (S.left sets.old) (T.left reader.old) (W.taken writer.old) (W.taken writer.new) }
     ensures flushed { OnOk result (W.ends_in_flush writer.new ≡ true) }
-    ensures nothing { IfErr result (λ fault. fault ≢ RunFault.Write → Keeps (W.taken writer.old) (W.taken writer.new)) }
+
+    // Of any readers and writer, files too.
+    ensures nothing { IfErr result (λ fault. fault ≢ RunFault.Write → writer.new ≡ writer.old) }
+    ensures ended { OnOk result ((S.at_end sets.new ≡ true) × (T.at_end reader.new ≡ true)) }
 
     // When each fault comes.
     ensures fault { IfErr result (IsCountFault plan.now.layout (S.left sets.old) (S.has_failed sets.new) (T.left reader.old) (T.left reader.new) (T.has_failed reader.new)) }
@@ -70,7 +72,8 @@ fn counts<R: RandomSource + Threads + Sync, S: Source, T: Source>(
 ) -> Result<PreparedReport, RunFault>
     requires sets { S.has_failed sets.old ≡ false }
     requires reader { T.has_failed reader.old ≡ false }
-    ensures { MakesCounts plan.now.layout (S.left sets.old) (S.has_failed sets.new) (T.left reader.old) (T.left reader.new) (T.has_failed reader.new) result }
+    ensures made { MakesCounts plan.now.layout (S.left sets.old) (S.has_failed sets.new) (T.left reader.old) (T.left reader.new) (T.has_failed reader.new) result }
+    ensures ended { OnOk result ((S.at_end sets.new ≡ true) × (T.at_end reader.new ≡ true)) }
 {
     let (sets, names) = match read_asked(rt, alloc, plan.layout(), plan.workers(), sets) {
         Ok(asked) => asked,

@@ -1,5 +1,4 @@
 ghost use Rattle.std.specs.Prelude.{◌≡◌, ◌≢◌, ◌↔◌, true, false, Ok, Err, IfSome, IfOk, OnOk, IfErr, Result};
-ghost use Rattle.std.specs.Io.KnownBytes.{Keeps};
 ghost use Rattle.mine_limit.specs.declared.fault.MineFault.{MineFault as MiningFault};
 ghost use Rattle.basket_read.specs.declared.fault.ReadFault.{ReadFault as InputFault};
 ghost use Rattle.basket.specs.Engine.{IsContentsFault, IsReportFault, MakesReport, WritesReport, WritesPrefix};
@@ -42,7 +41,10 @@ pub fn run<R: RandomSource + Threads + Sync, S: Source, W: Sink>(
     ensures prefix { result ≡ Err RunFault.Write → WritesPrefix (S.left reader.old) plan.now.question (W.taken writer.old) (W.taken writer.new) }
     ensures whole { result ≡ Err RunFault.Write → W.ends_in_flush writer.new ≡ true → WritesReport (S.left reader.old) plan.now.question (W.taken writer.old) (W.taken writer.new) }
     ensures flushed { OnOk result (W.ends_in_flush writer.new ≡ true) }
-    ensures nothing { IfErr result (λ fault. fault ≢ RunFault.Write → Keeps (W.taken writer.old) (W.taken writer.new)) }
+
+    // Of any reader and writer, files too.
+    ensures nothing { IfErr result (λ fault. fault ≢ RunFault.Write → writer.new ≡ writer.old) }
+    ensures ended { OnOk result (S.at_end reader.new ≡ true) }
 
     // When each fault comes.
     ensures fault { IfErr result (IsReportFault plan.now.question (S.left reader.old) (S.left reader.new) (S.has_failed reader.new)) }
@@ -66,7 +68,8 @@ pub fn reported<R: RandomSource + Threads + Sync, S: Source>(
     reader: &mut S,
 ) -> Result<PreparedReport, RunFault>
     requires { S.has_failed reader.old ≡ false }
-    ensures { MakesReport plan.now.question (S.left reader.old) (S.left reader.new) (S.has_failed reader.new) result }
+    ensures made { MakesReport plan.now.question (S.left reader.old) (S.left reader.new) (S.has_failed reader.new) result }
+    ensures ended { OnOk result (S.at_end reader.new ≡ true) }
 {
     match (plan.ask(), plan.layout().form) {
         (Ask::Items, Form::Fimi) => report_items(rt, alloc, plan, reader),
@@ -83,7 +86,8 @@ fn report_input<R: RandomSource + Threads + Sync, S: Source>(
     reader: &mut S,
 ) -> Result<PreparedReport, RunFault>
     requires { S.has_failed reader.old ≡ false }
-    ensures { MakesReport plan.now.question (S.left reader.old) (S.left reader.new) (S.has_failed reader.new) result }
+    ensures made { MakesReport plan.now.question (S.left reader.old) (S.left reader.new) (S.has_failed reader.new) result }
+    ensures ended { OnOk result (S.at_end reader.new ≡ true) }
 {
     let names = Names::none(alloc);
     match Contents::read(rt, alloc, plan.layout(), names, plan.workers(), reader) {

@@ -1,5 +1,5 @@
 //! The frequent items of an input whose baskets are counted while it is read.
-ghost use Rattle.std.specs.Prelude.{◌≡◌, false, List, IfOk};
+ghost use Rattle.std.specs.Prelude.{◌≡◌, false, true, List, IfOk, OnOk};
 ghost use Rattle.basket_read.specs.ItemCounts.{AreCountsOf, AreLightCounts};
 ghost use Rattle.basket_report.specs.Report.{report_of};
 ghost use Rattle.basket_report.specs.Style.{wording_of};
@@ -31,7 +31,8 @@ pub fn report_items<R: Threads + Sync, S: Source>(
     requires reader { S.has_failed reader.old ≡ false }
     requires items { plan.now.question.ask ≡ Ask.Items }
     requires lines { plan.now.question.layout.form ≡ Form.Fimi }
-    ensures { MakesReport plan.now.question (S.left reader.old) (S.left reader.new) (S.has_failed reader.new) result }
+    ensures made { MakesReport plan.now.question (S.left reader.old) (S.left reader.new) (S.has_failed reader.new) result }
+    ensures ended { OnOk result (S.at_end reader.new ≡ true) }
 {
     let counts = match count_fimi_shared(rt, alloc, reader, plan.workers()) {
         Ok(counts) => counts,
@@ -54,7 +55,8 @@ pub fn report_named_items<R: RandomSource + Threads + Sync, S: Source>(
     requires reader { S.has_failed reader.old ≡ false }
     requires items { plan.now.question.ask ≡ Ask.Items }
     requires records { plan.now.question.layout.form ≡ Form.Baskets }
-    ensures { MakesReport plan.now.question (S.left reader.old) (S.left reader.new) (S.has_failed reader.new) result }
+    ensures made { MakesReport plan.now.question (S.left reader.old) (S.left reader.new) (S.has_failed reader.new) result }
+    ensures ended { OnOk result (S.at_end reader.new ≡ true) }
 {
     let layout = plan.layout();
     let separator = layout.separator;

@@ -1,7 +1,8 @@
 //! Reading a list of counted sets.
-ghost use Rattle.std.specs.Prelude.{◌≡◌, false};
+ghost use Rattle.std.specs.Prelude.{◌≡◌, ◌≤◌, false, true, length, OnOk};
 ghost use Rattle.basket_counts.specs.Counts.{sets_of_bytes, counts_of, entries_in};
 ghost use Rattle.basket_counts.specs.ListedSets.{AreEntries};
+ghost use Rattle.basket_read.specs.Fimi.{MOST_BYTES};
 ghost use Rattle.basket_read.specs.Fault.{Reads, ReturnsBy, IsRead, IsDefinedList};
 
 use crate::halves::listed_shared;
@@ -22,7 +23,8 @@ pub fn read_sets<R: Threads + Sync, S: Source>(
     workers: u32,
 ) -> Result<Vec<Itemset>, ReadFault>
     requires { S.has_failed reader.old ≡ false }
-    ensures { Reads IsDefinedList sets_of_bytes IsRead (S.left reader.old) (S.has_failed reader.new) result }
+    ensures read { Reads IsDefinedList sets_of_bytes IsRead (S.left reader.old) (S.has_failed reader.new) result }
+    ensures ended { OnOk result (S.at_end reader.new ≡ true) }
 {
     let listed = read_listed(rt, alloc, reader, workers)?;
     listed.sets(alloc)
@@ -38,7 +40,8 @@ pub fn read_counts<R: Threads + Sync, S: Source>(
     workers: u32,
 ) -> Result<Vec<CountedLine>, ReadFault>
     requires { S.has_failed reader.old ≡ false }
-    ensures { Reads IsDefinedList counts_of IsRead (S.left reader.old) (S.has_failed reader.new) result }
+    ensures read { Reads IsDefinedList counts_of IsRead (S.left reader.old) (S.has_failed reader.new) result }
+    ensures ended { OnOk result (S.at_end reader.new ≡ true) }
 {
     let listed = read_listed(rt, alloc, reader, workers)?;
     listed.counts()
@@ -53,7 +56,8 @@ fn read_listed<R: Threads + Sync, S: Source>(
     workers: u32,
 ) -> Result<ListedSets, ReadFault>
     requires { S.has_failed reader.old ≡ false }
-    ensures { Reads AreEntries entries_in IsRead (S.left reader.old) (S.has_failed reader.new) result }
+    ensures read { Reads AreEntries entries_in IsRead (S.left reader.old) (S.has_failed reader.new) result }
+    ensures ended { OnOk result (S.at_end reader.new ≡ true) }
 {
     let bytes = take_in(alloc, reader)?;
     listed_of(rt, alloc, &bytes, workers)
@@ -66,7 +70,8 @@ fn listed_of<R: Threads + Sync>(
     bytes: &[u8],
     workers: u32,
 ) -> Result<ListedSets, ReadFault>
-    ensures { ReturnsBy AreEntries result (entries_in bytes.now) }
+    ensures said { ReturnsBy AreEntries result (entries_in bytes.now) }
+    ensures within { OnOk result (length bytes.now ≤ MOST_BYTES) }
 {
     let most = bytes.len().min(MAX_BYTES);
     let listed = listed_shared(rt, alloc, 0, text_of(&bytes[..most]), workers)?;

@@ -65,6 +65,7 @@ pub fn say<C: RecordCollector + Drop>(
     ensures said { (start : Start) → start.first ≡ first_number dialect.header → C.has_read collector start [] →
         ReturnsBy (C.finds start) result (bytes_say dialect.separator dialect.header (C.fault_of start) (C.said_of start) bytes.now) }
     ensures not_read { IfErr result (λ fault. fault ≢ Read) }
+    ensures within { OnOk result (length bytes.now ≤ MOST_BYTES) }
 {
     if bytes.len() > MAX_BYTES {
         return Err(ReadFault::TooLong);

@@ -1,5 +1,5 @@
 //! Reading a CSV input.
-ghost use Rattle.std.specs.Prelude.{◌≡◌, false, IfOk};
+ghost use Rattle.std.specs.Prelude.{◌≡◌, false, true, IfOk, OnOk};
 ghost use Rattle.basket_csv.specs.Counts.{named_counts_of};
 ghost use Rattle.basket_csv.specs.Csv.{baskets_of_csv, pairs_of_csv};
 ghost use Rattle.basket_read.specs.Fault.{Reads, IsDefined, AreDefined, IsRead};
@@ -32,7 +32,8 @@ pub fn read_baskets<R: RandomSource, S: Source>(
     known: Names,
 ) -> Result<(Database, Names), ReadFault>
     requires { S.has_failed reader.old ≡ false }
-    ensures { Reads IsDefined (baskets_of_csv dialect.separator dialect.header weight known) IsRead (S.left reader.old) (S.has_failed reader.new) result }
+    ensures read { Reads IsDefined (baskets_of_csv dialect.separator dialect.header weight known) IsRead (S.left reader.old) (S.has_failed reader.new) result }
+    ensures ended { OnOk result (S.at_end reader.new ≡ true) }
 {
     let bytes = take_in(alloc, reader)?;
     let baskets = Baskets::new(alloc, Seed::new(rt), weight, known, false)?;
@@ -51,6 +52,7 @@ pub fn count_baskets<R: RandomSource, S: Source>(
 ) -> Result<(ItemCounts, Names), ReadFault>
     requires { S.has_failed reader.old ≡ false }
     ensures counted { Reads AreCountsNamed (baskets_of_csv dialect.separator dialect.header weight known) IsRead (S.left reader.old) (S.has_failed reader.new) result }
+    ensures ended { OnOk result (S.at_end reader.new ≡ true) }
     ensures light { IfOk result (λ counted. AreLightCounts counted.0) }
 {
     let bytes = take_in(alloc, reader)?;
@@ -69,7 +71,8 @@ pub fn read_single<R: RandomSource, S: Source>(
     known: Names,
 ) -> Result<(Database, Names), ReadFault>
     requires { S.has_failed reader.old ≡ false }
-    ensures { Reads IsDefined (pairs_of_csv dialect.separator dialect.header known) IsRead (S.left reader.old) (S.has_failed reader.new) result }
+    ensures read { Reads IsDefined (pairs_of_csv dialect.separator dialect.header known) IsRead (S.left reader.old) (S.has_failed reader.new) result }
+    ensures ended { OnOk result (S.at_end reader.new ≡ true) }
 {
     let bytes = take_in(alloc, reader)?;
     let pairs = Pairs::new(alloc, Seed::new(rt), known)?;
@@ -88,7 +91,8 @@ pub fn read_named_counts<R: RandomSource, S: Source>(
     known: Names,
 ) -> Result<(Vec<CountedLine>, Names), ReadFault>
     requires { S.has_failed reader.old ≡ false }
-    ensures { Reads AreDefined (named_counts_of dialect.separator dialect.header known) IsRead (S.left reader.old) (S.has_failed reader.new) result }
+    ensures read { Reads AreDefined (named_counts_of dialect.separator dialect.header known) IsRead (S.left reader.old) (S.has_failed reader.new) result }
+    ensures ended { OnOk result (S.at_end reader.new ≡ true) }
 {
     let bytes = take_in(alloc, reader)?;
     let counts = Counts::new(alloc, Seed::new(rt), known)?;

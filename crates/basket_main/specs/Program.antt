@@ -1,5 +1,5 @@
 -- What a program does with the words of its command line.
-use Rattle.std.specs.Prelude.{◌≡◌, ◌≢◌, ℕ, Bool, true, List, [], ◌∷◌, ◌++◌, Option, Some, None, Ok, Err, string_bytes, ⊤}
+use Rattle.std.specs.Prelude.{◌≡◌, ◌≢◌, ℕ, Bool, true, false, List, [], ◌∷◌, ◌++◌, Option, Some, None, Ok, Err, string_bytes, ⊤}
 use Rattle.std.specs.Io.KnownBytes.{Appends, Keeps}
 use Rattle.basket.specs.Count.{IsCountFault, WritesCounts, WritesCountsPrefix}
 use Rattle.basket.specs.Engine.{IsReportFault, WritesPrefix, WritesReport}
@@ -63,6 +63,14 @@ Writes bytes (Ran invocation (Err Write)) flushed before after =
 Writes bytes (Refused (Help text)) flushed before after = Appends before after (string_bytes text)
 Writes bytes (Unanswered text) flushed before after = TakesPrefix before after (string_bytes text)
 Writes bytes _ flushed before after = Keeps before after
+
+-- nothing was asked of the output
+abbrev pub is_silent : Ending → Bool
+is_silent (Ran invocation (Ok x)) = false
+is_silent (Ran invocation (Err Write)) = false
+is_silent (Refused (Help text)) = false
+is_silent (Unanswered text) = false
+is_silent _ = true
 
 -- ---- the fault of a run
 

@@ -1,7 +1,7 @@
-ghost use Rattle.std.specs.Prelude.{◌≡◌, false, List, map, Option, Some, ℕ};
+ghost use Rattle.std.specs.Prelude.{◌≡◌, false, true, List, map, Option, Some, ℕ};
 ghost use Rattle.basket_main.specs.Ending.{explanation_of, is_cut_off};
 ghost use Rattle.basket_main.specs.Log.{Grows};
-ghost use Rattle.basket_main.specs.Program.{Follows, HasFault, IsRefusal, Writes};
+ghost use Rattle.basket_main.specs.Program.{Follows, HasFault, IsRefusal, Writes, is_silent};
 ghost use Rattle.basket_plan.specs.Command.{invocation_of_words};
 
 use crate::ending::Ending;
@@ -27,6 +27,7 @@ pub fn perform<R: RandomSource + Threads + Sync, I: Inputs, W: Sink, E: ErrorStr
     requires { W.has_failed output.old ≡ false }
     ensures asked { Follows (map (λ word. word.now) words.now) result (I.opened inputs.old) (I.opened inputs.new) }
     ensures written { Writes (I.bytes inputs.old) result (W.ends_in_flush output.new) (W.taken output.old) (W.taken output.new) }
+    ensures untouched { is_silent result ≡ true → output.new ≡ output.old }
     ensures failed { W.has_failed output.new ≡ is_cut_off result }
     ensures fault { HasFault I.Input.left I.Input.has_failed I.Sets.has_failed (I.bytes inputs.old) result }
     ensures explained { Grows (E.explained errors.old) (E.explained errors.new) (explanation_of result) }
@@ -42,6 +43,7 @@ pub fn refuse<W: Sink, E: ErrorStream>(fault: PlanFault, output: &mut W, errors:
     requires { W.has_failed output.old ≡ false }
     ensures refused { IsRefusal fault result }
     ensures written { (bytes : Option (List ℕ) → Option (List ℕ)) → Writes bytes result (W.ends_in_flush output.new) (W.taken output.old) (W.taken output.new) }
+    ensures untouched { is_silent result ≡ true → output.new ≡ output.old }
     ensures failed { W.has_failed output.new ≡ is_cut_off result }
     ensures explained { Grows (E.explained errors.old) (E.explained errors.new) (explanation_of result) }
 {
@@ -70,6 +72,7 @@ fn obey<R: RandomSource + Threads + Sync, I: Inputs, W: Sink>(
     requires { W.has_failed output.old ≡ false }
     ensures asked { Follows (map (λ word. word.now) words.now) result (I.opened inputs.old) (I.opened inputs.new) }
     ensures written { Writes (I.bytes inputs.old) result (W.ends_in_flush output.new) (W.taken output.old) (W.taken output.new) }
+    ensures untouched { is_silent result ≡ true → output.new ≡ output.old }
     ensures failed { W.has_failed output.new ≡ is_cut_off result }
     ensures fault { HasFault I.Input.left I.Input.has_failed I.Sets.has_failed (I.bytes inputs.old) result }
 {
@@ -84,6 +87,7 @@ fn answer<W: Sink>(fault: PlanFault, output: &mut W) -> Ending
     requires { W.has_failed output.old ≡ false }
     ensures refused { IsRefusal fault result }
     ensures written { (bytes : Option (List ℕ) → Option (List ℕ)) → Writes bytes result (W.ends_in_flush output.new) (W.taken output.old) (W.taken output.new) }
+    ensures untouched { is_silent result ≡ true → output.new ≡ output.old }
     ensures failed { W.has_failed output.new ≡ is_cut_off result }
 {
     match fault {
@@ -107,6 +111,7 @@ fn carry_out<R: RandomSource + Threads + Sync, I: Inputs, W: Sink>(
     requires { W.has_failed output.old ≡ false }
     ensures asked { (words : List (List ℕ)) → invocation_of_words words ≡ Some invocation → Follows words result (I.opened inputs.old) (I.opened inputs.new) }
     ensures written { Writes (I.bytes inputs.old) result (W.ends_in_flush output.new) (W.taken output.old) (W.taken output.new) }
+    ensures untouched { is_silent result ≡ true → output.new ≡ output.old }
     ensures failed { W.has_failed output.new ≡ is_cut_off result }
     ensures fault { HasFault I.Input.left I.Input.has_failed I.Sets.has_failed (I.bytes inputs.old) result }
 {
@@ -132,6 +137,7 @@ fn report<R: RandomSource + Threads + Sync, I: Inputs, W: Sink>(
     requires { W.has_failed output.old ≡ false }
     ensures asked { (words : List (List ℕ)) → invocation_of_words words ≡ Some (record { task = Task.Report plan; input = input }) → Follows words result (I.opened inputs.old) (I.opened inputs.new) }
     ensures written { Writes (I.bytes inputs.old) result (W.ends_in_flush output.new) (W.taken output.old) (W.taken output.new) }
+    ensures untouched { is_silent result ≡ true → output.new ≡ output.old }
     ensures failed { W.has_failed output.new ≡ is_cut_off result }
     ensures fault { HasFault I.Input.left I.Input.has_failed I.Sets.has_failed (I.bytes inputs.old) result }
 {
@@ -163,6 +169,7 @@ fn count<R: RandomSource + Threads + Sync, I: Inputs, W: Sink>(
     requires { W.has_failed output.old ≡ false }
     ensures asked { (words : List (List ℕ)) → invocation_of_words words ≡ Some (record { task = Task.Count counting.plan counting.sets; input = counting.input }) → Follows words result (I.opened inputs.old) (I.opened inputs.new) }
     ensures written { Writes (I.bytes inputs.old) result (W.ends_in_flush output.new) (W.taken output.old) (W.taken output.new) }
+    ensures untouched { is_silent result ≡ true → output.new ≡ output.old }
     ensures failed { W.has_failed output.new ≡ is_cut_off result }
     ensures fault { HasFault I.Input.left I.Input.has_failed I.Sets.has_failed (I.bytes inputs.old) result }
 {

@@ -1,5 +1,5 @@
 //! The sets that are asked for.
-ghost use Rattle.std.specs.Prelude.{◌≡◌, false, IfOk, map};
+ghost use Rattle.std.specs.Prelude.{◌≡◌, false, true, IfOk, OnOk, map};
 ghost use Rattle.basket_read.specs.Fault.{AreDefined, IsRead, Reads};
 ghost use Rattle.basket_outcome.specs.Contents.{asked_in, named_sets_of};
 
@@ -22,7 +22,8 @@ pub fn read_asked<R: RandomSource + Threads + Sync, S: Source>(
     reader: &mut S,
 ) -> Result<(Vec<Itemset>, Names), ReadFault>
     requires { S.has_failed reader.old ≡ false }
-    ensures { Reads AreDefined (asked_in layout) IsRead (S.left reader.old) (S.has_failed reader.new) result }
+    ensures read { Reads AreDefined (asked_in layout) IsRead (S.left reader.old) (S.has_failed reader.new) result }
+    ensures ended { OnOk result (S.at_end reader.new ≡ true) }
 {
     if layout.form.has_names() {
         return read_named_sets(rt, alloc, layout.separator, reader);
@@ -41,7 +42,8 @@ fn read_named_sets<R: RandomSource, S: Source>(
     reader: &mut S,
 ) -> Result<(Vec<Itemset>, Names), ReadFault>
     requires { S.has_failed reader.old ≡ false }
-    ensures { Reads AreDefined (named_sets_of separator) IsRead (S.left reader.old) (S.has_failed reader.new) result }
+    ensures read { Reads AreDefined (named_sets_of separator) IsRead (S.left reader.old) (S.has_failed reader.new) result }
+    ensures ended { OnOk result (S.at_end reader.new ≡ true) }
 {
     let dialect = Dialect {
         separator,

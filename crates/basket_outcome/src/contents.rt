@@ -1,5 +1,5 @@
 //! What an input says, whatever is asked of it.
-ghost use Rattle.std.specs.Prelude.{◌≡◌, false};
+ghost use Rattle.std.specs.Prelude.{◌≡◌, false, true, OnOk};
 ghost use Rattle.basket_counts.specs.Counts.{counts_of};
 ghost use Rattle.basket_csv.specs.Counts.{named_counts_of};
 ghost use Rattle.basket_parts.specs.CombinedCounts.{combined_of};
@@ -39,7 +39,8 @@ impl Contents {
         reader: &mut S,
     ) -> Result<Self, ReadFault>
         requires { S.has_failed reader.old ≡ false }
-        ensures { Reads IsDefined (contents_of layout known) (FailsIn layout.form (S.left reader.old) (S.left reader.new)) (S.left reader.old) (S.has_failed reader.new) result }
+        ensures read { Reads IsDefined (contents_of layout known) (FailsIn layout.form (S.left reader.old) (S.left reader.new)) (S.left reader.old) (S.has_failed reader.new) result }
+        ensures ended { OnOk result (S.at_end reader.new ≡ true) }
     {
         let dialect = Dialect {
             separator: layout.separator,
@@ -80,7 +81,8 @@ fn read_combined<R: Threads + Sync, S: Source>(
     workers: u32,
 ) -> Result<CombinedCounts, ReadFault>
     requires { S.has_failed reader.old ≡ false }
-    ensures { Reads IsDefined (λ bytes. result_and_then combined_of (counts_of bytes)) IsRead (S.left reader.old) (S.has_failed reader.new) result }
+    ensures read { Reads IsDefined (λ bytes. result_and_then combined_of (counts_of bytes)) IsRead (S.left reader.old) (S.has_failed reader.new) result }
+    ensures ended { OnOk result (S.at_end reader.new ≡ true) }
 {
     match read_counts(rt, alloc, reader, workers) {
         Ok(lines) => CombinedCounts::of(alloc, lines),
@@ -97,7 +99,8 @@ fn read_named_combined<R: RandomSource, S: Source>(
     known: Names,
 ) -> Result<(CombinedCounts, Names), ReadFault>
     requires { S.has_failed reader.old ≡ false }
-    ensures { Reads IsDefined (λ bytes. result_and_then named_combined_of (named_counts_of dialect.separator dialect.header known bytes)) IsRead (S.left reader.old) (S.has_failed reader.new) result }
+    ensures read { Reads IsDefined (λ bytes. result_and_then named_combined_of (named_counts_of dialect.separator dialect.header known bytes)) IsRead (S.left reader.old) (S.has_failed reader.new) result }
+    ensures ended { OnOk result (S.at_end reader.new ≡ true) }
 {
     let (lines, names) = match read_named_counts(rt, alloc, reader, dialect, known) {
         Ok(read) => read,

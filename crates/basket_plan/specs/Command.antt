@@ -1,5 +1,5 @@
 -- What words ask for.
-use Rattle.std.specs.Prelude.{List, [], ◌∷◌, ◌++◌, Bool, true, false, codes, if◌then◌else◌, option_and_then, Option, Some, None}
+use Rattle.std.specs.Prelude.{List, [], ◌∷◌, ◌&&◌, nat_lt, length, Bool, true, false, codes, if◌then◌else◌, option_and_then, Option, Some, None}
 use Rattle.std.specs.List.{list_any}
 use Rattle.std.specs.Str.{bytes_eq}
 use Rattle.clap.specs.Words.{Row, Text, subcommand_of}
@@ -48,10 +48,15 @@ if_taken (kind ∷ rest) invocation = None
 abbrev pub invocation_of_plain : List Text → Option Invocation
 invocation_of_plain words = if_taken (fault_of command_line words) (invocation_of_command (subcommand_of command_line words))
 
--- the words that `clap` is given: `help sets` stands for `sets --help`
+-- `help sets` stands for `sets --help`, and `help help` for `help`
+abbrev pub help_words : List Text → List Text
+help_words [] = codes "--help" ∷ []
+help_words (name ∷ rest) = if bytes_eq name (codes "help") then codes "--help" ∷ [] else name ∷ codes "--help" ∷ []
+
+-- the words that `clap` is given, which knows no command `help`: with more than one word after it, that is a mistake
 abbrev pub plain_words : List Text → List Text
 plain_words [] = []
-plain_words (first ∷ rest) = if bytes_eq first (codes "help") then rest ++ codes "--help" ∷ [] else first ∷ rest
+plain_words (first ∷ rest) = if bytes_eq first (codes "help") && nat_lt (length rest) 2 then help_words rest else first ∷ rest
 
 -- what words ask for, the program's name not among them
 abbrev pub invocation_of_words : List Text → Option Invocation

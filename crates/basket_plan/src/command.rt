@@ -94,13 +94,17 @@ pub fn invocation_of(alloc: Global, words: &[&str]) -> Result<Invocation, PlanFa
     invocation_of_plain(alloc, &words)
 }
 
-/// The words that `clap` is given: `help sets` stands for `sets --help`.
+/// The words that `clap` is given: `help sets` stands for `sets --help`, and `help help` for `help`.
+/// With more than one word after it, `help` is a command that `clap` doesn't know.
 fn plain_words<'a>(alloc: Global, words: &[&'a str]) -> Result<Vec<&'a str>, AllocError>
     ensures { IfOk result (λ plain. map (λ word. word.now) plain.items ≡ plain_words (map (λ word. word.now) words.now)) }
 {
     match words.split_first() {
-        Some((first, rest)) if *first == "help" => {
-            let mut plain = Vec::from_slice(alloc, rest)?;
+        Some((first, rest)) if *first == "help" && rest.len() < 2 => {
+            let mut plain = Vec::new(alloc);
+            if let Some(name) = rest.first() && *name != "help" {
+                plain.push(*name)?;
+            }
             plain.push("--help")?;
             Ok(plain)
         }

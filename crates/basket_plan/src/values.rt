@@ -164,10 +164,10 @@ fn sep_in(options: &ArgMatches<'_>) -> Option<u8>
     ensures in_range { IfSome result (λ sep. IsTrue (is_separator sep)) }
 {
     match options.get_str("sep")? {
-        "comma" => Some(b','),
-        "semicolon" => Some(b';'),
-        "tab" => Some(b'\t'),
-        "pipe" => Some(b'|'),
+        "comma" | "," => Some(b','),
+        "semicolon" | ";" => Some(b';'),
+        "tab" | "\t" => Some(b'\t'),
+        "pipe" | "|" => Some(b'|'),
         _ => None,
     }
 }

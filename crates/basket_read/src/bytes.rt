@@ -1,8 +1,8 @@
 //! The bytes of an input.
-ghost use Rattle.std.specs.Prelude.{◌≡◌, ◌<◌, ◌≤◌, ◌^◌, false, length, take, IfOk, OnErr};
+ghost use Rattle.std.specs.Prelude.{◌≡◌, ◌<◌, ◌≤◌, ◌^◌, false, true, length, take, IfOk, OnErr};
 ghost use Rattle.std.specs.Io.KnownBytes.{Consumes, IsAtEnd};
 ghost use Rattle.basket_read.specs.Bytes.{TakesIn};
-ghost use Rattle.basket_read.specs.Fimi.{text_of};
+ghost use Rattle.basket_read.specs.Fimi.{MOST_BYTES, text_of};
 
 use crate::fault::ReadFault;
 use crate::read::BLOCK;
@@ -18,7 +18,8 @@ pub(crate) const MARK: [u8; 3] = [0xEF, 0xBB, 0xBF];
 /// Reads the bytes of an input, or a prefix that is longer than an input may be.
 pub fn take_in<S: Source>(alloc: Global, reader: &mut S) -> Result<Vec<u8>, ReadFault>
     requires { S.has_failed reader.old ≡ false }
-    ensures { TakesIn (S.left reader.old) (S.has_failed reader.new) result }
+    ensures taken { TakesIn (S.left reader.old) (S.has_failed reader.new) result }
+    ensures ended { IfOk result (λ bytes. length bytes.items ≤ MOST_BYTES → S.at_end reader.new ≡ true) }
 {
     let mut bytes = Vec::new(alloc);
     let count = fill(reader, &mut bytes, MAX_BYTES + 1)?;
@@ -51,6 +52,7 @@ pub(crate) fn fill<S: Source>(
     ensures within { IfOk result (λ count. count ≤ length buffer.new.items) }
     ensures given { IfOk result (λ count. Consumes (S.left reader.old) (S.left reader.new) (take count buffer.new.items)) }
     ensures ended { IfOk result (λ count. S.has_failed reader.new ≡ false → count < most → IsAtEnd (S.left reader.new)) }
+    ensures stopped { IfOk result (λ count. S.has_failed reader.new ≡ false → count < most → S.at_end reader.new ≡ true) }
     ensures memory { OnErr result (S.has_failed reader.new ≡ false) }
 {
     let mut filled = 0;

@@ -1,5 +1,5 @@
 //! Reading a FIMI input.
-ghost use Rattle.std.specs.Prelude.{◌≡◌, ◌≤◌, IfOk, false};
+ghost use Rattle.std.specs.Prelude.{◌≡◌, ◌≤◌, IfOk, OnOk, false, true};
 ghost use Rattle.basket_read.specs.Fault.{IsDefined};
 ghost use Rattle.basket_read.specs.ItemCounts.{AreLightCounts, CountsDefined};
 ghost use Rattle.basket_read.specs.Read.{ReadsFimi};
@@ -29,7 +29,8 @@ const KEPT_BATCH: usize = BATCH / 4;
 /// Reads a FIMI input to its end, in blocks of 65,536 bytes.
 pub fn read_fimi<S: Source>(alloc: Global, reader: &mut S) -> Result<Database, ReadFault>
     requires { S.has_failed reader.old ≡ false }
-    ensures { ReadsFimi IsDefined (S.left reader.old) (S.left reader.new) (S.has_failed reader.new) result }
+    ensures read { ReadsFimi IsDefined (S.left reader.old) (S.left reader.new) (S.has_failed reader.new) result }
+    ensures ended { OnOk result (S.at_end reader.new ≡ true) }
 {
     read_fimi_by(alloc, reader, BLOCK)
 }
@@ -43,7 +44,8 @@ pub fn read_fimi_by<S: Source>(
     requires fresh { S.has_failed reader.old ≡ false }
     requires some { 1 ≤ block }
     requires few { block ≤ MAX_BLOCK }
-    ensures { ReadsFimi IsDefined (S.left reader.old) (S.left reader.new) (S.has_failed reader.new) result }
+    ensures read { ReadsFimi IsDefined (S.left reader.old) (S.left reader.new) (S.has_failed reader.new) result }
+    ensures ended { OnOk result (S.at_end reader.new ≡ true) }
 {
     read_batches(&Alone, alloc, reader, block, false).map(ItemCounts::into_rest)
 }
@@ -54,6 +56,7 @@ pub fn count_fimi<S: Source>(alloc: Global, reader: &mut S) -> Result<ItemCounts
     requires { S.has_failed reader.old ≡ false }
     ensures counted { ReadsFimi CountsDefined (S.left reader.old) (S.left reader.new) (S.has_failed reader.new) result }
     // Even if the reader doesn't report its bytes.
+    ensures ended { OnOk result (S.at_end reader.new ≡ true) }
     ensures light { IfOk result AreLightCounts }
 {
     read_batches(&Alone, alloc, reader, BLOCK, true)
@@ -67,7 +70,8 @@ pub fn read_fimi_shared<R: Threads + Sync, S: Source>(
     workers: u32,
 ) -> Result<Database, ReadFault>
     requires { S.has_failed reader.old ≡ false }
-    ensures { ReadsFimi IsDefined (S.left reader.old) (S.left reader.new) (S.has_failed reader.new) result }
+    ensures read { ReadsFimi IsDefined (S.left reader.old) (S.left reader.new) (S.has_failed reader.new) result }
+    ensures ended { OnOk result (S.at_end reader.new ≡ true) }
 {
     if workers < 2 {
         return read_fimi(alloc, reader);
@@ -86,6 +90,7 @@ pub fn count_fimi_shared<R: Threads + Sync, S: Source>(
     requires { S.has_failed reader.old ≡ false }
     ensures counted { ReadsFimi CountsDefined (S.left reader.old) (S.left reader.new) (S.has_failed reader.new) result }
     // Even if the reader doesn't report its bytes.
+    ensures ended { OnOk result (S.at_end reader.new ≡ true) }
     ensures light { IfOk result AreLightCounts }
 {
     if workers < 2 {

@@ -6,6 +6,11 @@ abbrev pub read_fails : {T E : Type 0} → Result T E → Bool
 read_fails (Ok x) = false
 read_fails (Err e) = true
 
+-- a read ends the input if it gives nothing to a buffer that has room
+abbrev pub read_ends : {E : Type 0} → Result ℕ E → List ℕ → Bool
+read_ends (Ok given) buffer = given == 0 && nat_lt 0 (length buffer)
+read_ends (Err e) buffer = false
+
 -- a write fails if it returns an error, or if it takes nothing of a nonempty piece
 abbrev pub write_fails : {E : Type 0} → Result ℕ E → List ℕ → Bool
 write_fails (Ok taken) bytes = taken == 0 && nat_lt 0 (length bytes)

@@ -11,13 +11,17 @@ use std::alloc::{AllocError, Global};
 #[derive(Debug, Drop)]
 pub struct SliceSource<'a> {
     rest: &'a [u8],
+    ended: bool,
 }
 
 impl<'a> SliceSource<'a> {
     pub fn new(bytes: &'a [u8]) -> Self
         ensures { ⟦<SliceSource<'a> as Source>⟧.left result ≡ Some bytes.now }
     {
-        SliceSource { rest: bytes }
+        SliceSource {
+            rest: bytes,
+            ended: false,
+        }
     }
 }
 
@@ -26,11 +30,14 @@ impl Source for SliceSource<'_> {
 
     ghost has_failed = { λ _. false };
 
+    ghost at_end = { λ s. s.ended };
+
     fn read(&mut self, buf: &mut [u8]) -> Result<usize, Failed> {
         let count = self.rest.len().min(buf.len());
         let (front, rest) = self.rest.split_at(count);
         buf[..count].copy_from_slice(front);
         self.rest = rest;
+        self.ended = count == 0 && !buf.is_empty();
         Ok(count)
     }
 
@@ -46,6 +53,7 @@ pub struct MemSource<'a> {
     greatest_piece: usize,
     reads_before_failure: Option<u64>,
     failed: bool,
+    ended: bool,
     ghost gives_some: { 0 < greatest_piece },
 }
 
@@ -62,6 +70,7 @@ impl<'a> MemSource<'a> {
             greatest_piece,
             reads_before_failure,
             failed: false,
+            ended: false,
         }
     }
 }
@@ -71,9 +80,12 @@ impl Source for MemSource<'_> {
 
     ghost has_failed = { λ s. s.failed };
 
+    ghost at_end = { λ s. s.ended };
+
     fn read(&mut self, buf: &mut [u8]) -> Result<usize, Failed> {
         match self.reads_before_failure {
             Some(0) => {
+                self.ended = false;
                 self.failed = true;
                 return Err(Failed);
             }
@@ -84,6 +96,7 @@ impl Source for MemSource<'_> {
         let (front, rest) = self.rest.split_at(count);
         buf[..count].copy_from_slice(front);
         self.rest = rest;
+        self.ended = count == 0 && !buf.is_empty();
         Ok(count)
     }
 

@@ -1,7 +1,7 @@
 ghost use Rattle.std.specs.Prelude.{◌≡◌, ◌<◌, false, None, Some, IfOk, List, Option, ℕ, Bool, length};
 ghost use Rattle.std.specs.Io.{ReadsAtMost};
 ghost use Rattle.std.specs.Io.KnownBytes.{ReadConsumes};
-ghost use Rattle.basket_stream.specs.Stream.{read_fails};
+ghost use Rattle.basket_stream.specs.Stream.{read_ends, read_fails};
 
 use crate::failed::Failed;
 use std::io::Read;
@@ -13,13 +13,17 @@ pub trait Source {
 
     ghost has_failed: { Self → Bool };
 
+    // Whether the last read gave nothing to a buffer that had room.
+    ghost at_end: { Self → Bool };
+
     /// Fills the buffer from its beginning, and returns how much of it: 0 only at the end or if the
     /// buffer is empty.
     fn read(&mut self, buf: &mut [u8]) -> Result<usize, Failed>
         requires { has_failed self.old ≡ false }
         ensures bound { ReadsAtMost result buf.new }
         ensures bytes { ReadConsumes (left self.old) (left self.new) result buf.new }
-        ensures failed { has_failed self.new ≡ read_fails result };
+        ensures failed { has_failed self.new ≡ read_fails result }
+        ensures ended { at_end self.new ≡ read_ends result buf.new };
 
     /// Whether a read has failed.
     fn failed(&self) -> bool
@@ -31,6 +35,7 @@ pub trait Source {
 pub struct StdSource<R> {
     reader: R,
     failed: bool,
+    ended: bool,
 }
 
 impl<R: Read> StdSource<R> {
@@ -41,6 +46,7 @@ impl<R: Read> StdSource<R> {
         StdSource {
             reader,
             failed: false,
+            ended: false,
         }
     }
 }
@@ -50,10 +56,16 @@ impl<R: Read> Source for StdSource<R> {
 
     ghost has_failed = { λ s. s.failed };
 
+    ghost at_end = { λ s. s.ended };
+
     fn read(&mut self, buf: &mut [u8]) -> Result<usize, Failed> {
         match self.reader.read(buf) {
-            Ok(count) => Ok(count),
+            Ok(count) => {
+                self.ended = count == 0 && !buf.is_empty();
+                Ok(count)
+            }
             Err(_) => {
+                self.ended = false;
                 self.failed = true;
                 Err(Failed)
             }

@@ -1,4 +1,5 @@
-use super::*;
+use std::alloc::{AllocError, Global};
+use std::test::Fail;
 use mine_rows::{BitRow, DiffList, Row as CoverRow, TidList, Weights};
 
 /// The supports of the sets 1 2, 1 3 and 1 2 3 in the nine baskets, by rows that are joined. The

@@ -13,8 +13,8 @@ taken (Some all) None bytes buffer count p e within end = absurd p
 taken (Some all) (Some rest) bytes buffer count p e within end =
     let size = ap length e ∙ length-take-le count buffer within in (rest, p ∙ ap (λ l. l ++ rest) (sym e), λ few. end (omega arith))
 
-pub returns : goal.returns
-returns g c =
+pub returns-clause-taken : goal.returns-clause-taken
+returns-clause-taken g c =
     let working = sym c.failed.ensures ∙ c.if-failed.false in (
       working,
       taken _ _ c.truncate.new.self.items c.fill.new.buffer.items c.in_ok-count.count c.in_ok-count.ensures.given c.truncate.ensures.items c.in_ok-count.ensures.within (c.in_ok-count.ensures.ended working),

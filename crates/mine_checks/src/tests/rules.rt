@@ -1,7 +1,8 @@
 //! Rules of a list that Apriori finds.
-use super::{Row, frequent};
-use basket_core::{Minimum, Share};
+use super::{Row, database};
+use basket_core::{Coded, Minimum, Share};
 use basket_rules::{Rule, rules, rules_with};
+use mine_apriori::apriori;
 use std::alloc::Global;
 use std::fmt::Write;
 use std::test::Fail;
@@ -27,7 +28,8 @@ fn text(alloc: Global, rules: &[Rule]) -> Result<String, Fail> {
 #[test]
 fn rules_stand_union_after_union_and_by_their_right_sides(rt: HostRuntime) -> Result<(), Fail> {
     let alloc = rt.alloc();
-    let frequent = frequent(alloc, FIVE_BASKETS, Minimum::Count(2))?;
+    let coded = Coded::of(alloc, &database(alloc, FIVE_BASKETS)?, Minimum::Count(2))?;
+    let (frequent, _candidates) = apriori(alloc, &coded, u32::MAX)?;
     let found = rules(alloc, &frequent, Share::new(3, 4).unwrap())?;
     assert_eq!(rt;
         text(alloc, &found)?.as_str(),
