@@ -196,6 +196,19 @@ class Advice(unittest.TestCase):
                     said = said_at_terminal([*words, str(pipe)])
                 self.assertTrue("".join(said).startswith(text), said)
 
+    def test_who_sits_before_standard_input_is_told_that_it_is_read(self) -> None:
+        above, below = pty.openpty()
+        with subprocess.Popen(
+            [PROGRAM, *SETS], stdin=below, stdout=subprocess.PIPE, stderr=below
+        ) as process:
+            os.close(below)
+            said = os.read(above, 65536).decode()
+            os.write(above, b"1 2\n1\n\x04")
+            report, _ = process.communicate(timeout=SECONDS)
+            os.close(above)
+        self.assertIn("hint: reading standard input; Ctrl-D", said)
+        self.assertEqual((report, process.returncode), (b"1 (2)\n", 0))
+
     def test_options_without_effect_are_named(self) -> None:
         self.assertEqual(
             said_at_terminal([*SETS, "--header", "--weight", SHOP]),

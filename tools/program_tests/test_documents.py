@@ -138,6 +138,7 @@ class Documents(unittest.TestCase):
                 text = run([*words, "--help"]).out.decode()
                 self.assertLessEqual(max(map(len, text.splitlines())), 100)
                 self.assertEqual(run(["help", *words]).out.decode(), text)
+        self.assertEqual(run(["help", "help"]), run(["--help"]))
 
     def test_pages_tell_one_rule_of_which_miner_suits_which_data(self) -> None:
         said = run(["--help"]).out.decode()
@@ -190,9 +191,13 @@ class Documents(unittest.TestCase):
                 ).stdout
                 self.assertEqual(said.decode().strip(), wanted)
 
-    def test_the_program_of_the_library_page_is_the_one_that_runs(self) -> None:
+    def test_the_program_of_the_library_page_is_the_one_that_is_tested(self) -> None:
         shown_there = re.findall(r"(?s)```rust\n(.*?)```", text_of("docs/LIBRARY.md"))
-        self.assertEqual(shown_there, [text_of("crates/basket_example/src/main.rt")])
+        functions = r"(?ms)^(?:///[^\n]*\n)?fn (?!main|the_)\w+.*?^}\n"
+        tested = text_of("crates/basket_runs/src/tests/library.rt")
+        found = re.findall(functions, tested)
+        self.assertEqual(re.findall(functions, "".join(shown_there)), found)
+        self.assertEqual(len(found), 3)
 
     def test_no_page_but_one_says_how_long_a_build_takes(self) -> None:
         pages = [*map(ROOT.glob, ("*.md", "Makefile", "tools/*.py", "man/*"))]

@@ -112,6 +112,8 @@ CSV = (
     ("items --form baskets --sep semicolon --min 1", b"a;b\na\n", "2;a|1;b|"),
     ("items --form baskets --sep comma --min 1", b'a;b,"c"""\n', '1,a;b|1,"c"""|'),
     ("items --form baskets --sep tab --min 1", b"a\tb,c\n", "1\ta|1\tb,c|"),
+    ("items --form baskets --sep ; --min 1", b"a;b\na\n", "2;a|1;b|"),
+    ("items --form baskets --sep=| --min 1", b"a|b\na\n", "2|a|1|b|"),
 )
 
 # Words, input, status and what is told.
@@ -212,7 +214,7 @@ MISTAKES: tuple[tuple[list[str], str], ...] = (
         "bad value for --form (fimi, baskets, single, counts, csv-counts)\n",
     ),
     (
-        ["sets", "--min", "1", "--sep", ","],
+        ["sets", "--min", "1", "--sep", ":"],
         "bad value for --sep (comma, semicolon, tab, pipe)\n",
     ),
     (
@@ -223,6 +225,9 @@ MISTAKES: tuple[tuple[list[str], str], ...] = (
     (["sets", "--conf", "1/2"], "'--conf'"),
     ([], "Usage: basket <COMMAND>\n"),
     (["things"], "'things'"),
+    (["help", "things"], "'things'"),
+    (["help", "sets", "extra"], "'help'"),
+    (["help", "items", "--min", "2"], "'help'"),
     (["items"], "--min <M>"),
     (["items", "--min"], "--min <M>"),
     (["items", "--min", "1", "a file", "more"], "'more'"),

@@ -1,6 +1,7 @@
 //! Advice on the fault of an input.
 use crate::place::Place;
-use basket::{Form, Layout, ReadFault};
+use basket_plan::{Form, Layout};
+use basket_read::ReadFault;
 use std::alloc::{AllocError, Global};
 
 /// Advice on a fault of an input that is not about reading its bytes.

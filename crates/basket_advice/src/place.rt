@@ -1,4 +1,4 @@
-use basket::{Form, Invocation, Layout, Task};
+use basket_plan::{Form, Invocation, Layout, Task};
 use basket_look::ShellWord;
 use std::alloc::{AllocError, Global};
 

@@ -2,7 +2,10 @@
 use crate::fault::input_advice;
 use crate::hints::Hints;
 use crate::place::Place;
-use basket::{Ask, Form, Invocation, MineFault, ReadFault, RunFault, Task};
+use basket_outcome::RunFault;
+use basket_plan::{Ask, Form, Invocation, Task};
+use basket_read::ReadFault;
+use mine_limit::MineFault;
 use std::alloc::{AllocError, Global};
 use std::io::Error;
 

@@ -7,7 +7,7 @@ use basket_main::{Ending, ErrorStream, Inputs};
 use either::Either;
 use std::cell::Cell;
 use std::fs::File;
-use std::io::{self, Stdin};
+use std::io::{self, IsTerminal, Stdin};
 
 /// The system's files and its standard input.
 #[derive(Drop)]
@@ -20,12 +20,16 @@ pub struct SystemInputs<'a> {
 /// A file or standard input.
 pub type Opened = Either<File, Stdin>;
 
-/// Opens a file, or standard input if there is no path.
+/// Opens a file, or standard input if there is no path. Who sits before it is told that it is read.
 pub fn open(rt: &HostRuntime, path: Option<&str>) -> io::Result<Opened> {
-    match path {
-        Some(path) => Ok(Either::Left(File::open(rt, path)?)),
-        None => Ok(Either::Right(rt.stdin())),
+    if let Some(path) = path {
+        return Ok(Either::Left(File::open(rt, path)?));
     }
+    let input = rt.stdin();
+    if input.is_terminal() && rt.stderr().is_terminal() {
+        let _ = eprint!(rt; "hint: reading standard input; Ctrl-D on a line of its own ends it\n");
+    }
+    Ok(Either::Right(input))
 }
 
 impl<'a> Inputs for SystemInputs<'a> {

@@ -1,5 +1,5 @@
 -- What the options' values mean, and the plan that they make.
-use Rattle.std.specs.Prelude.{List, [], ◌∷◌, ◌||◌, ℕ, Bool, false, codes, if◌then◌else◌, option_and_then, option_map, unwrap_or, Option, Some, None}
+use Rattle.std.specs.Prelude.{List, [], ◌∷◌, ℕ, Bool, false, codes, if◌then◌else◌, option_and_then, option_map, unwrap_or, Option, Some, None}
 use Rattle.std.specs.Str.{bytes_eq}
 use Rattle.std.specs.Str.Parse.{digits_value, without_leading_plus}
 use Rattle.clap.specs.Words.{Row, Text, first_of, one_of}
@@ -7,7 +7,7 @@ use Rattle.clap.specs.ValueTests.{is_unsigned_in}
 use Rattle.basket_sets.specs.Minimum.{minimum_of}
 use Rattle.basket_sets.specs.Share.{share_of}
 use Rattle.basket_sets.specs.declared.minimum.Minimum.{Minimum}
-use Rattle.basket_plan.specs.Plan.{Counting, GREATEST_LIMIT, Planned, Question}
+use Rattle.basket_plan.specs.Plan.{Counting, GREATEST_LIMIT, Planned, Question, is_separator}
 use Rattle.basket_plan.specs.declared.plan.TheConstants.{MOST_PIECES, MOST_WORKERS}
 use Rattle.basket_plan.specs.declared.layout.Layout.{Layout}
 use Rattle.basket_plan.specs.declared.plan.Ask.{Ask}
@@ -37,17 +37,18 @@ form_of text =
 abbrev pub origin_of : Text → Option Text
 origin_of text = if bytes_eq text (codes "-") then None else Some text
 
--- whether a text is a word, or this byte itself
-abbrev pub is_word_or_byte : Text → ℕ → Text → Bool
-is_word_or_byte word byte text = bytes_eq text word || bytes_eq text (byte ∷ [])
+-- a separator that stands for itself
+abbrev pub separator_itself : Text → Option ℕ
+separator_itself (byte ∷ []) = if is_separator byte then Some byte else None
+separator_itself _ = None
 
 -- the byte of a separator
 abbrev pub separator_of : Text → Option ℕ
 separator_of text =
-    if is_word_or_byte (codes "comma") 44 text then Some 44
-    else (if is_word_or_byte (codes "semicolon") 59 text then Some 59
-    else (if is_word_or_byte (codes "tab") 9 text then Some 9
-    else (if is_word_or_byte (codes "pipe") 124 text then Some 124 else None)))
+    if bytes_eq text (codes "comma") then Some 44
+    else (if bytes_eq text (codes "semicolon") then Some 59
+    else (if bytes_eq text (codes "tab") then Some 9
+    else (if bytes_eq text (codes "pipe") then Some 124 else separator_itself text)))
 
 -- the number that one or more digits write, maybe after a plus, from 1 to the greatest
 abbrev pub number_of : ℕ → Text → Option ℕ

@@ -1,7 +1,7 @@
 //! What the values of the options say.
 ghost use Rattle.std.specs.Prelude.{◌≡◌, ◌≤◌, IfErr, IfOk, IfSome, IsTrue};
 ghost use Rattle.clap.specs.Words.{found_of, rows_of};
-ghost use Rattle.basket_plan.specs.Values.{ask_in, conf_in, count_plan_of_rows, flag_in, form_in, layout_of_rows, min_in, miner_in, number_in, origin_in, plan_of_rows, question_of_rows, sep_in, work_of_rows};
+ghost use Rattle.basket_plan.specs.Values.{ask_in, conf_in, count_plan_of_rows, flag_in, form_in, layout_of_rows, min_in, miner_in, number_in, origin_in, plan_of_rows, question_of_rows, sep_in, separator_itself, separator_of, work_of_rows};
 ghost use Rattle.basket_plan.specs.Plan.{is_separator};
 ghost use Rattle.basket_plan.specs.declared.plan.TheConstants.{MOST_PIECES, MOST_WORKERS};
 ghost use Rattle.basket_sets.specs.Minimum.{IsMinimum};
@@ -163,13 +163,38 @@ fn sep_in(options: &ArgMatches<'_>) -> Option<u8>
     ensures found { result ≡ sep_in (rows_of (found_of options.now)) }
     ensures in_range { IfSome result (λ sep. IsTrue (is_separator sep)) }
 {
-    match options.get_str("sep")? {
-        "comma" | "," => Some(b','),
-        "semicolon" | ";" => Some(b';'),
-        "tab" | "\t" => Some(b'\t'),
-        "pipe" | "|" => Some(b'|'),
+    let text = options.get_str("sep")?;
+    separator_of(text)
+}
+
+fn separator_of(text: &str) -> Option<u8>
+    ensures found { result ≡ separator_of text.now }
+    ensures in_range { IfSome result (λ sep. IsTrue (is_separator sep)) }
+{
+    match text {
+        "comma" => Some(b','),
+        "semicolon" => Some(b';'),
+        "tab" => Some(b'\t'),
+        "pipe" => Some(b'|'),
+        _ => separator_itself(text),
+    }
+}
+
+/// A separator that stands for itself.
+fn separator_itself(text: &str) -> Option<u8>
+    ensures found { result ≡ separator_itself text.now }
+    ensures in_range { IfSome result (λ sep. IsTrue (is_separator sep)) }
+{
+    match text.as_bytes() {
+        [byte] if is_separator(*byte) => Some(*byte),
         _ => None,
     }
+}
+
+fn is_separator(byte: u8) -> bool
+    ensures { result ≡ is_separator byte }
+{
+    byte == b',' || byte == b';' || byte == b'\t' || byte == b'|'
 }
 
 /// Whether the flag of a name is given.

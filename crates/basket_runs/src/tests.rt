@@ -16,6 +16,7 @@ use std::thread::Threads;
 
 mod counts;
 mod gates;
+mod library;
 mod limits;
 mod mined;
 mod programs;
