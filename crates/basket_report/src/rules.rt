@@ -23,10 +23,10 @@ use std::thread::Threads;
 const PHASE: u32 = 3;
 
 /// Fewer unions are not worth a claim.
-const LEAST: usize = 1_024;
+const LEAST: usize = 64;
 
 /// Unions don't take equally long, so there are up to this many parts for each worker.
-const PARTS_FOR_EACH: u32 = 16;
+const PARTS_FOR_EACH: u32 = 128;
 
 /// The sets of a list as unions of rules, cut into parts, and what their reports need.
 #[derive(Drop)]

@@ -7,7 +7,7 @@ ghost use Rattle.mine_classes.specs.Mined.{MinesClass, class_size};
 ghost use Rattle.mine_conditional.specs.Tables.{AreTablesOf};
 ghost use Rattle.mine_fp.specs.Trees.{class_trees};
 
-use crate::pattern_base::PatternBase;
+use crate::pattern_base::{PatternBase, Trees};
 use basket_core::{Coded, CountedSets};
 use mine_baskets::ListBaskets;
 use mine_classes::laws::{
@@ -130,12 +130,13 @@ pub fn fp_class_with<T: Tally>(
         let none = forest.empty.empty_like(alloc)?;
         return Ok((none, 0));
     }
-    let below = all.below(alloc, rank, tables)?;
+    let mut trees = Trees::none();
+    let below = all.below(alloc, rank, tables, &mut trees)?;
     let class = Class {
         rank,
         support,
         below,
-        work: 1,
+        steps: trees,
     };
     class.list(alloc, all.coded, &forest.empty, tables, tally)
 }

@@ -1,5 +1,5 @@
 //! The conditional pattern base of a set.
-ghost use Rattle.std.specs.Prelude.{◌≡◌, ◌≤◌, ◌<◌, [], IfNone, IfOk, IfSome, length, map, vec_len};
+ghost use Rattle.std.specs.Prelude.{◌≡◌, ◌≤◌, ◌<◌, ◌+◌, [], IfNone, IfOk, IfSome, OnOk, length, map, vec_len};
 ghost use Rattle.std.proofs.Common.{◌∙◌, refl, subst, sym};
 ghost use Rattle.basket_sets.specs.Counts.{AllBelow};
 ghost use Rattle.mine_pairs.specs.Pairs.{named_pair, pairs_of};
@@ -23,25 +23,44 @@ pub struct PatternBase<'a> {
     pub least: u64,
 }
 
+/// How many conditional trees were made. Only the call that makes one adds to it.
+#[derive(Debug, Drop)]
+pub struct Trees {
+    number: u64,
+}
+
+impl Trees {
+    /// No tree yet.
+    pub fn none() -> Self
+        ensures { result.number ≡ 0 }
+    {
+        Trees { number: 0 }
+    }
+}
+
 impl<'a> PatternBase<'a> {
     /// The pattern base of the set with the rank of a number, unless no rank is frequent together
-    /// with that set.
+    /// with that set: its tree is the root alone then, which counts too.
     pub fn below(
         &self,
         alloc: Global,
         number: u32,
         tables: &mut Tables,
+        trees: &mut Trees,
     ) -> Result<Option<Self>, AllocError>
         requires inside { number < self.now.paths.ranks }
         requires long { vec_len self.now.ranks ≡ self.now.paths.ranks }
         requires slots { HaveSlots tables.old self.now }
+        requires few { trees.old.number < 18446744073709551615 }
         ensures none { IfOk result (λ below. IfNone below (pairs_of self.now.paths.baskets self.now.least number ≡ [])) }
         ensures below { IfOk result (λ below. IfSome below (IsBelow self.now number)) }
         ensures kept { KeepSlots tables.old tables.new }
+        ensures trees { OnOk result (trees.new.number ≡ trees.old.number + 1) }
     {
         let mut ranks = self
             .paths
             .pairs(alloc, &mut tables.sums, number, self.least)?;
+        trees.number += 1;
         if ranks.is_empty() {
             return Ok(None);
         }
@@ -59,6 +78,10 @@ impl<'a> PatternBase<'a> {
 
 impl<'a> Projected for PatternBase<'a> {
     type Scratch = Tables;
+
+    type Steps = Trees;
+
+    ghost number = { λ trees. trees.number };
 
     ghost gives = { IsBase };
 
@@ -87,12 +110,14 @@ impl<'a> Projected for PatternBase<'a> {
         alloc: Global,
         at: usize,
         scratch: &mut Tables,
-        work: &mut u64,
+        trees: &mut Trees,
     ) -> Result<Option<Self>, AllocError> {
         conditional_supports();
-        let below = self.below(alloc, at as u32, scratch)?;
-        *work += 1;
-        Ok(below)
+        self.below(alloc, at as u32, scratch, trees)
+    }
+
+    fn number_of(trees: &Trees) -> u64 {
+        trees.number
     }
 
     fn is_straight(&self) -> bool {

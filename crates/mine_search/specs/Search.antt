@@ -32,8 +32,8 @@ pub record Reached : Type 0 where
   pub limit : ℕ
   pub is_over : Bool
 
-abbrev pub reached : {T : Type 0} → (T → ℕ) → (T → ℕ) → (T → Bool) → Mined → T → Reached
-reached told_of limit_of is_over mined tally = record { sets = mined.sets; work = mined.work; told = told_of tally; limit = limit_of tally; is_over = is_over tally }
+abbrev pub reached : {S T : Type 0} → (S → ℕ) → (T → ℕ) → (T → ℕ) → (T → Bool) → Mined S → T → Reached
+reached number told_of limit_of is_over mined tally = record { sets = mined.sets; work = number mined.steps; told = told_of tally; limit = limit_of tally; is_over = is_over tally }
 
 -- the search may go on: the tally is not over, and the work is little enough for the sets
 pub record GoesOn (now : Reached) : Type 0 where

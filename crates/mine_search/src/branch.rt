@@ -17,16 +17,16 @@ pub fn read_off<P: Projected, T: Tally>(
     alloc: Global,
     base: &P,
     place: usize,
-    mined: &mut Mined,
+    mined: &mut Mined<P::Steps>,
     tally: &mut T,
 ) -> Result<(), MineFault>
     requires found { place < length mined.old.sets }
     requires given { (node : Node) × IsOf P.gives base.now (set_at mined.old.sets place) node }
     requires straight { (node : Node) → P.gives base.now node → IsStraight node }
-    requires going { GoesOn (reached T.told_of T.limit_of T.is_over mined.old tally.old) }
+    requires going { GoesOn (reached P.number T.told_of T.limit_of T.is_over mined.old tally.old) }
     ensures done { IsDone P.gives base.now (set_at mined.old.sets place)
-        (reached T.told_of T.limit_of T.is_over mined.old tally.old)
-        (reached T.told_of T.limit_of T.is_over mined.new tally.new) result }
+        (reached P.number T.told_of T.limit_of T.is_over mined.old tally.old)
+        (reached P.number T.told_of T.limit_of T.is_over mined.new tally.new) result }
 {
     let start = mined.sets.len();
     for at in 0..base.len() {
@@ -40,18 +40,18 @@ pub fn read_off<P: Projected, T: Tally>(
 }
 
 /// Adds each set between two places once more, with one more item and with another count.
-fn choose<T: Tally>(
+fn choose<S: Drop, T: Tally>(
     alloc: Global,
     places: (usize, usize),
     one: (u32, u64),
-    mined: &mut Mined,
+    mined: &mut Mined<S>,
     tally: &mut T,
 ) -> Result<(), MineFault>
     requires order { places.0 ≤ places.1 }
     requires within { places.1 ≤ length mined.old.sets }
     requires going { T.is_over tally.old ≡ false }
     ensures sets { OnOk result (mined.new.sets ≡ mined.old.sets ++ map (chosen one.0 one.1) (between places.0 places.1 mined.old.sets)) }
-    ensures work { mined.new.work ≡ mined.old.work }
+    ensures steps { mined.new.steps ≡ mined.old.steps }
     ensures told { OnOk result (T.told_of tally.new ≡ T.told_of tally.old + (places.1 - places.0)) }
     ensures going_on { OnOk result (T.is_over tally.new ≡ false) }
     ensures at_most { T.told_of tally.new ≤ T.told_of tally.old + (places.1 - places.0) }

@@ -15,11 +15,11 @@ use std::alloc::Global;
 /// A frequent rank with its support, its conditional database unless no rank is frequent there, and
 /// the work that it took so far.
 #[derive(Drop)]
-pub struct Class<P> {
+pub struct Class<P: Projected> {
     pub rank: u32,
     pub support: u64,
     pub below: Option<P>,
-    pub work: u64,
+    pub steps: P::Steps,
 }
 
 impl<P: Projected> Class<P> {
@@ -38,11 +38,11 @@ impl<P: Projected> Class<P> {
         requires rank { self.rank < length coded.now.items }
         requires class { (over : Supports) × IsClass P.gives coded.now self.rank self.support self.below over }
         requires lent { (inner : P) → self.below ≡ Some inner → P.serves scratch.old inner }
-        requires few { self.work ≤ MOST_SET_WORK }
+        requires few { P.number self.steps ≤ MOST_SET_WORK }
         requires going { T.is_over tally.old ≡ false }
         ensures class { MinesClass T.told_of T.limit_of T.is_over coded.now self.rank tally.old tally.new result }
         ensures work { IfOk result (λ mined. (over : Supports) → IsClass P.gives coded.now self.rank self.support self.below over
-            → mined.1 ≡ self.work + work_at (of_rank over self.rank)) }
+            → mined.1 ≡ P.number self.steps + work_at (of_rank over self.rank)) }
         ensures lent { OnOk result ((inner : P) → self.below ≡ Some inner → P.keeps inner scratch.old scratch.new) }
         ensures alone { self.below ≡ None → scratch.new ≡ scratch.old }
     {
@@ -51,16 +51,16 @@ impl<P: Projected> Class<P> {
             rank,
             support,
             below,
-            work,
+            steps,
         } = self;
-        let mut mined = Mined::like(alloc, empty)?;
-        mined.work = work;
+        let mut mined = Mined::like(alloc, empty, steps)?;
         let set = Itemset::from_items(alloc, &[coded.item(rank)])?;
         mined.add(set, support, tally)?;
         if let Some(inner) = below {
             extend(alloc, &inner, 0, scratch, &mut mined, tally)?;
             inner.give_back(scratch);
         }
-        Ok((mined.sets, mined.work))
+        let work = P::number_of(&mined.steps);
+        Ok((mined.sets, work))
     }
 }

@@ -8,22 +8,22 @@ use basket_core::{CountedSets, Itemset};
 use mine_limit::{MineFault, Tally};
 use std::alloc::{AllocError, Global};
 
-/// The sets that were found, and how much work they took.
+/// The sets that were found, and the steps that they took.
 #[derive(Debug, Drop)]
-pub struct Mined {
+pub struct Mined<S> {
     pub sets: CountedSets,
-    pub work: u64,
+    pub steps: S,
 }
 
-impl Mined {
-    /// Nothing yet. Sets of the items that a list knows are to come.
-    pub fn like(alloc: Global, list: &CountedSets) -> Result<Self, AllocError>
+impl<S: Drop> Mined<S> {
+    /// Nothing yet, after some steps. Sets of the items that a list knows are to come.
+    pub fn like(alloc: Global, list: &CountedSets, steps: S) -> Result<Self, AllocError>
         ensures sets { IfOk result (λ mined. mined.sets ≡ []) }
-        ensures work { IfOk result (λ mined. mined.work ≡ 0) }
+        ensures steps { IfOk result (λ mined. mined.steps ≡ steps) }
     {
         Ok(Mined {
             sets: list.empty_like(alloc)?,
-            work: 0,
+            steps,
         })
     }
 
@@ -36,7 +36,7 @@ impl Mined {
     ) -> Result<(), MineFault>
         requires { T.is_over tally.old ≡ false }
         ensures sets { OnOk result (self.new.sets ≡ self.old.sets ++ record { set = set; count = count } ∷ []) }
-        ensures work { self.new.work ≡ self.old.work }
+        ensures steps { self.new.steps ≡ self.old.steps }
         ensures few { OnOk result (length self.new.sets ≤ 4294967295) }
         ensures going_on { OnOk result (T.is_over tally.new ≡ false) }
         ensures told { T.told_of tally.new ≡ T.told_of tally.old + 1 }
@@ -69,7 +69,7 @@ impl Mined {
         requires going { T.is_over tally.old ≡ false }
         ensures place { IfOk result (λ longer. longer ≡ length self.old.sets) }
         ensures sets { OnOk result (self.new.sets ≡ self.old.sets ++ record { set = with_item item (set_at self.old.sets place); count = count } ∷ []) }
-        ensures work { self.new.work ≡ self.old.work }
+        ensures steps { self.new.steps ≡ self.old.steps }
         ensures few { OnOk result (length self.new.sets ≤ 4294967295) }
         ensures going_on { OnOk result (T.is_over tally.new ≡ false) }
         ensures told { OnOk result (T.told_of tally.new ≡ T.told_of tally.old + 1) }

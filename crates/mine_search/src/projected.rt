@@ -11,6 +11,11 @@ pub trait Projected: Drop + Sized {
     /// What is used again from database to database.
     type Scratch;
 
+    /// How many steps the search took: joins, or conditional trees. Only calls that make them add to it.
+    type Steps: Drop;
+
+    ghost number: { Self.Steps → ℕ };
+
     /// Whether it represents the extensions of a node's set.
     ghost gives: { Self → Node → Type 0 };
 
@@ -50,24 +55,27 @@ pub trait Projected: Drop + Sized {
         alloc: Global,
         at: usize,
         scratch: &mut Self::Scratch,
-        work: &mut u64,
+        steps: &mut Self::Steps,
     ) -> Result<Option<Self>, AllocError>
         requires inside { at < length (ranks self.now) }
         requires given { (node : Node) × gives self.now node }
         requires lent { serves scratch.old self.now }
         requires branching { straight self.now ≡ false }
-        requires few { work.old + 4294967295 ≤ 18446744073709551615 }
+        requires few { number steps.old + 4294967295 ≤ 18446744073709551615 }
         ensures below { IfOk result (λ below. IfSome below (λ inner. (node : Node) → gives self.now node
             → gives inner (child node (slice_index_or (ranks self.now) at 0)))) }
         ensures none { IfOk result (λ below. IfNone below ((node : Node) → gives self.now node
             → kept (child node (slice_index_or (ranks self.now) at 0)) ≡ [])) }
         ensures work { OnOk result ((node : Node) → gives self.now node
-            → work.new ≡ work.old + node.over.work (slice_index_or (ranks self.now) at 0 ∷ node.set)) }
-        ensures little { OnOk result (work.new ≤ work.old + 4294967295) }
+            → number steps.new ≡ number steps.old + node.over.work (slice_index_or (ranks self.now) at 0 ∷ node.set)) }
+        ensures little { OnOk result (number steps.new ≤ number steps.old + 4294967295) }
         ensures inner { IfOk result (λ below. IfSome below (serves scratch.new)) }
         ensures lent { OnOk result (keeps self.now scratch.old scratch.new) }
         ensures wider { IfOk result (λ below. IfSome below (λ inner. (before after : Self.Scratch)
             → keeps inner before after → keeps self.now before after)) };
+
+    fn number_of(steps: &Self::Steps) -> u64
+        ensures { result ≡ number steps.now };
 
     /// Whether its ranks are those of a single branch, from which the sets are read off.
     fn is_straight(&self) -> bool

@@ -17,16 +17,16 @@ pub fn extend<P: Projected, T: Tally>(
     base: &P,
     place: usize,
     scratch: &mut P::Scratch,
-    mined: &mut Mined,
+    mined: &mut Mined<P::Steps>,
     tally: &mut T,
 ) -> Result<(), MineFault>
     requires found { place < length mined.old.sets }
     requires given { (node : Node) × IsOf P.gives base.now (set_at mined.old.sets place) node }
-    requires going { GoesOn (reached T.told_of T.limit_of T.is_over mined.old tally.old) }
+    requires going { GoesOn (reached P.number T.told_of T.limit_of T.is_over mined.old tally.old) }
     requires lent { P.serves scratch.old base.now }
     ensures done { IsDone P.gives base.now (set_at mined.old.sets place)
-        (reached T.told_of T.limit_of T.is_over mined.old tally.old)
-        (reached T.told_of T.limit_of T.is_over mined.new tally.new) result }
+        (reached P.number T.told_of T.limit_of T.is_over mined.old tally.old)
+        (reached P.number T.told_of T.limit_of T.is_over mined.new tally.new) result }
     ensures lent { OnOk result (P.keeps base.now scratch.old scratch.new) }
 {
     if base.is_straight() {
@@ -36,7 +36,7 @@ pub fn extend<P: Projected, T: Tally>(
         let item = base.item(at);
         let support = base.support(at);
         let longer = mined.add_longer(alloc, place, item, support, tally)?;
-        let below = base.narrowed(alloc, at, scratch, &mut mined.work)?;
+        let below = base.narrowed(alloc, at, scratch, &mut mined.steps)?;
         if let Some(inner) = below {
             extend(alloc, &inner, longer, scratch, mined, tally)?;
             inner.give_back(scratch);

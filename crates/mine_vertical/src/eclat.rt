@@ -77,7 +77,7 @@ pub fn eclat_class_with<R: Row, T: Tally>(
         rank,
         support,
         below: Some(below),
-        work: joins.number(),
+        steps: joins,
     };
     class.list(alloc, coded, vertical.empty(), &mut room, tally)
 }

@@ -18,6 +18,10 @@ use std::rc::Rc;
 impl<'a, R: Row> Projected for Siblings<'a, R> {
     type Scratch = SearchScratch<R>;
 
+    type Steps = Joins;
+
+    ghost number = { λ joins. joins.number };
+
     ghost gives = { Extend R.stands };
 
     ghost ranks = { ranks_in };
@@ -45,22 +49,14 @@ impl<'a, R: Row> Projected for Siblings<'a, R> {
         alloc: Global,
         at: usize,
         room: &mut SearchScratch<R>,
-        work: &mut u64,
+        joins: &mut Joins,
     ) -> Result<Option<Self>, AllocError> {
         // The first sibling is joined with none.
         if at == 0 {
             return Ok(None);
         }
         let mut list = room.list(alloc);
-        let mut joins = Joins::none();
-        let kept = self.joined(
-            alloc,
-            at,
-            &mut list,
-            &mut room.marks[self.marks],
-            &mut joins,
-        )?;
-        *work += joins.number();
+        let kept = self.joined(alloc, at, &mut list, &mut room.marks[self.marks], joins)?;
         if kept == 0 {
             room.take_back(list);
             return Ok(None);
@@ -78,6 +74,10 @@ impl<'a, R: Row> Projected for Siblings<'a, R> {
         };
         room.take_back(list);
         Ok(Some(anew))
+    }
+
+    fn number_of(joins: &Joins) -> u64 {
+        joins.number()
     }
 
     fn is_straight(&self) -> bool {

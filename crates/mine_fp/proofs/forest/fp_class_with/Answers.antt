@@ -52,7 +52,8 @@ returns-clause-trees g c =
     let over = supports_in all.coded.now all.least in
     let class = class_of_rank c.forest.invariant c.args.rank here c.conditional_supports.ensures c.index.ensures (omega (arith, c.if-support-all.false)) c.in_ok-below.ensures.none c.in_ok-below.ensures.below in
     let made = trees_made c.forest.invariant c.args.rank here c.classes_are_listed.ensures c.index.ensures (omega (arith, c.if-support-all.false)) in
-    IfOk-weaker c.list.result _ (λ mined. mined.1 ≡ class_trees c.args.forest.now c.args.rank) (λ mined work. work over class ∙ made ∙ ap (λ (v : Coding). class_trees v c.args.rank) c.forest.view_is) c.list.ensures.work
+    IfOk-weaker c.list.result _ (λ mined. mined.1 ≡ class_trees c.args.forest.now c.args.rank)
+    (λ mined work. omega (arith, work over class, c.in_ok-below.ensures.trees, c.none-trees.ensures) ∙ made ∙ ap (λ (v : Coding). class_trees v c.args.rank) c.forest.view_is) c.list.ensures.work
 
 pub returns-clause-few : goal.returns-clause-few
 returns-clause-few g c =

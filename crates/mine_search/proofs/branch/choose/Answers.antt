@@ -13,7 +13,7 @@ loop-from-preserved g c =
     record {
       sets = chosen_more c.args.one.0 c.args.one.1 c.args.places.0 c.loop-from.from c.args.mined.now.sets c.loop-from.mined.sets _ c.loop-from.auto.from (omega (arith, c.loop-from-test.true, c.requires.within)) before.sets made.sets;
       long = omega (arith, before.long, c.loop-from.auto.from, ap length made.sets, length-append c.loop-from.mined.sets (one ∷ []));
-      work = c.add_longer.ensures.work ∙ before.work;
+      steps = c.add_longer.ensures.steps ∙ before.steps;
       told = omega (arith, before.told, made.told, c.loop-from.auto.from);
       limit = c.add_longer.ensures.limit ∙ before.limit;
       going = made.going_on;

@@ -57,7 +57,7 @@ loop-at-preserved g c =
     let rank = get_or (g.P.Projected.ranks c.args.base.now) c.loop-at.at 0 in
     let now = c.loop-at.mined in
     let one : Counted = record { set = with_item c.item-item.result (set_at now.sets c.args.place); count = c.support-support.result } in
-    let at = reached g.T.Tally.told_of g.T.Tally.limit_of g.T.Tally.is_over in
+    let at = reached g.P.Projected.number g.T.Tally.told_of g.T.Tally.limit_of g.T.Tally.is_over in
     let with_one = at c.add_longer.new.self c.add_longer.new.tally in
     let found : (node : Node) → IsOf g.P.Projected.gives c.args.base.now (set_at c.args.mined.now.sets c.args.place) node
     → FindsPart node (c.loop-at.at + 1) (at c.args.mined.now c.args.tally.now) (at c.choose.new.mined c.choose.new.tally)
@@ -67,11 +67,11 @@ loop-at-preserved g c =
     let part = c.loop-at.invariant.found node is in
     let none = free_one turn straight in
     let adds = adds_one one (node.over.work (rank ∷ node.set)) (at now c.loop-at.tally) with_one c.in_ok-add_longer.ensures.sets
-    (omega (arith, none, c.add_longer.ensures.work)) c.in_ok-add_longer.ensures.told c.in_ok-add_longer.ensures.going_on (omega (arith, none)) c.loop-at.invariant.going in
+    (omega (arith, none, ap g.P.Projected.number c.add_longer.ensures.steps)) c.in_ok-add_longer.ensures.told c.in_ok-add_longer.ensures.going_on (omega (arith, none)) c.loop-at.invariant.going in
     let all = extended turn c.args.place c.requires.found refl (c.item-item.ensures node is.given) (c.support-support.ensures node is.given) part
     c.in_ok-add_longer.ensures.place c.in_ok-add_longer.ensures.sets in
     let below = read_more turn straight part c.loop-at.invariant.start c.len-end.ensures {with_one = with_one} {after = at c.choose.new.mined c.choose.new.tally} one (c.item-item.ensures node is.given) (c.support-support.ensures node is.given)
-    c.in_ok-add_longer.ensures.sets adds.going c.in_ok-choose.ensures.sets c.choose.ensures.work c.in_ok-choose.ensures.told c.in_ok-choose.ensures.going_on in
+    c.in_ok-add_longer.ensures.sets adds.going c.in_ok-choose.ensures.sets (ap g.P.Projected.number c.choose.ensures.steps) c.in_ok-choose.ensures.told c.in_ok-choose.ensures.going_on in
     turn_adds turn one _ (at now c.loop-at.tally) with_one _ all.found part adds below
     in
     let (known, first) = c.requires.given in

@@ -7,7 +7,7 @@ use Rattle.mine_search.proofs.branch.read_off.Given as goal
 
 abbrev pub invariant-loop-at : goal.invariant-loop-at
 invariant-loop-at g l =
-    let at = reached g.T.Tally.told_of g.T.Tally.limit_of g.T.Tally.is_over in
+    let at = reached g.P.Projected.number g.T.Tally.told_of g.T.Tally.limit_of g.T.Tally.is_over in
     record {
       start : l.start ≡ length l.initial.mined.sets;
       limit : g.T.Tally.limit_of l.tally ≡ g.T.Tally.limit_of l.initial.tally;

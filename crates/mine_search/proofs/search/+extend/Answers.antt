@@ -42,10 +42,10 @@ extend-requires g t c = λ κs lives.
     let turn = turn_at g.P.Projected.ranks g.met.P.Projected.ranks_are is c.loop-at.at inside in
     let now = c.loop-at.mined in
     let one : Counted = record { set = with_item c.item-item.result (set_at now.sets c.args.place); count = c.support-support.result } in
-    let at = reached g.T.Tally.told_of g.T.Tally.limit_of g.T.Tally.is_over in
-    let with_one = at (record { sets = c.add_longer.new.self.sets; work = c.narrowed.new.work }) c.add_longer.new.tally in
+    let at = reached g.P.Projected.number g.T.Tally.told_of g.T.Tally.limit_of g.T.Tally.is_over in
+    let with_one = at (record { sets = c.add_longer.new.self.sets; steps = c.narrowed.new.steps }) c.add_longer.new.tally in
     let adds = adds_one one (node.over.work (rank ∷ node.set)) (at now c.loop-at.tally) with_one c.in_ok-longer.ensures.sets
-    (omega (arith, c.in_ok-below.ensures.work node is.given, c.add_longer.ensures.work)) c.in_ok-longer.ensures.told c.in_ok-longer.ensures.going_on
+    (omega (arith, c.in_ok-below.ensures.work node is.given, ap g.P.Projected.number c.add_longer.ensures.steps)) c.in_ok-longer.ensures.told c.in_ok-longer.ensures.going_on
     (omega (arith, c.in_ok-below.ensures.work node is.given, c.in_ok-below.ensures.little)) c.loop-at.invariant.going in
     let below = extended turn c.args.place c.requires.found refl (c.item-item.ensures node is.given) (c.support-support.ensures node is.given) (c.loop-at.invariant.found node is)
     c.in_ok-longer.ensures.place c.in_ok-longer.ensures.sets in
@@ -88,15 +88,15 @@ loop-at-preserved g t c =
     let rank = get_or (g.P.Projected.ranks c.args.base.now) c.loop-at.at 0 in
     let now = c.loop-at.mined in
     let one : Counted = record { set = with_item c.item-item.result (set_at now.sets c.args.place); count = c.support-support.result } in
-    let at = reached g.T.Tally.told_of g.T.Tally.limit_of g.T.Tally.is_over in
-    let with_one = at (record { sets = c.add_longer.new.self.sets; work = c.narrowed.new.work }) c.add_longer.new.tally in
+    let at = reached g.P.Projected.number g.T.Tally.told_of g.T.Tally.limit_of g.T.Tally.is_over in
+    let with_one = at (record { sets = c.add_longer.new.self.sets; steps = c.narrowed.new.steps }) c.add_longer.new.tally in
     let found : (node : Node) → IsOf g.P.Projected.gives c.args.base.now (set_at c.args.mined.now.sets c.args.place) node
     → FindsPart node (c.loop-at.at + 1) (at c.args.mined.now c.args.tally.now) (at c.match-below.mined c.match-below.tally)
     = λ node is.
     let turn = turn_at g.P.Projected.ranks g.met.P.Projected.ranks_are is c.loop-at.at inside in
     let part = c.loop-at.invariant.found node is in
     let adds = adds_one one (node.over.work (rank ∷ node.set)) (at now c.loop-at.tally) with_one c.in_ok-longer.ensures.sets
-    (omega (arith, c.in_ok-below.ensures.work node is.given, c.add_longer.ensures.work)) c.in_ok-longer.ensures.told c.in_ok-longer.ensures.going_on
+    (omega (arith, c.in_ok-below.ensures.work node is.given, ap g.P.Projected.number c.add_longer.ensures.steps)) c.in_ok-longer.ensures.told c.in_ok-longer.ensures.going_on
     (omega (arith, c.in_ok-below.ensures.work node is.given, c.in_ok-below.ensures.little)) c.loop-at.invariant.going in
     let all = extended turn c.args.place c.requires.found refl (c.item-item.ensures node is.given) (c.support-support.ensures node is.given) part
     c.in_ok-longer.ensures.place c.in_ok-longer.ensures.sets in
@@ -107,7 +107,7 @@ loop-at-preserved g t c =
           (w.in_ok-extend.ensures.done.found (child node rank) (record { given = (rw w.in-Some.is at c.in_ok-below.ensures.below) node is.given; is = all.inner })))
       | in_default w ↦
           subst (λ m. FindsAll with_one (at m c.match-below.tally) (child node rank)) (sym w.mined-is)
-          (subst (λ s. FindsAll with_one (at (record { sets = c.add_longer.new.self.sets; work = c.narrowed.new.work }) s) (child node rank)) (sym w.tally-is)
+          (subst (λ s. FindsAll with_one (at (record { sets = c.add_longer.new.self.sets; steps = c.narrowed.new.steps }) s) (child node rank)) (sym w.tally-is)
           (finds_none (child node rank) ((rw w.in_default.is at c.in_ok-below.ensures.none) node is.given) with_one adds.going))
     ] in
     turn_adds turn one _ (at now c.loop-at.tally) with_one _ all.found part adds below

@@ -10,7 +10,7 @@ decreases-extend g l = length (g.P.Projected.ranks l.base.now)
 
 abbrev pub invariant-loop-at : goal.invariant-loop-at
 invariant-loop-at g l =
-    let at = reached g.T.Tally.told_of g.T.Tally.limit_of g.T.Tally.is_over in
+    let at = reached g.P.Projected.number g.T.Tally.told_of g.T.Tally.limit_of g.T.Tally.is_over in
     record {
       lent : g.P.Projected.keeps l.base l.initial.scratch l.scratch;
       limit : g.T.Tally.limit_of l.tally ≡ g.T.Tally.limit_of l.initial.tally;

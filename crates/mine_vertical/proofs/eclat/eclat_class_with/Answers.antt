@@ -40,7 +40,7 @@ returns-clause-joins g c =
     (class_is coding least all c.least-least.ensures c.runs-runs.ensures.weights g.R.Row.stands _ c.args.rank baskets c.in_ok-weights.weights c.conditional_supports.ensures c.coded-coded.ensures.coding are
     c.coded-coded.ensures.coded refl c.in_ok-new.ensures.ok long c.requires.rank c.support-support.result c.support-support.ensures (omega (arith, c.if-support-least.false))) in
     let joins = joins_are coding least all c.least-least.ensures c.runs-runs.ensures.weights c.args.rank each c.requires.rank in
-    omega (arith, is, joins, c.number.ensures, c.in_ok-weights.ensures.joins, c.none-joins.ensures)) c.list.ensures.work
+    omega (arith, is, joins, c.in_ok-weights.ensures.joins, c.none-joins.ensures)) c.list.ensures.work
 
 pub returns-clause-class : goal.returns-clause-class
 returns-clause-class g c = subst (λ (v : Coding). MinesClass g.T.Tally.told_of g.T.Tally.limit_of g.T.Tally.is_over v c.args.rank c.args.tally.now c.list.new.tally c.list.result) c.coded-coded.ensures.coded c.list.ensures.class

@@ -18,7 +18,8 @@ returns-clause-none c = none_then c.in_ok-below.below c.in_ok-below.ensures.none
 pub returns-clause-work : goal.returns-clause-work
 returns-clause-work c = λ node is.
     let rank = get_or (ranks_of c.args.self.now) c.args.at 0 in
-    ap (λ n. c.args.work.now + n) (sym (ap (λ over. over.work (rank ∷ node.set)) is.numbered.over ∙ ap (λ b. cond b 1 0) (tree_more is c.requires.branching rank)))
+    let one = ap (λ over. over.work (rank ∷ node.set)) is.numbered.over ∙ ap (λ b. cond b 1 0) (tree_more is c.requires.branching rank) in
+    omega (arith, one, c.in_ok-below.ensures.trees)
 
 pub returns-clause-inner : goal.returns-clause-inner
 returns-clause-inner c = IfSome_then c.in_ok-below.below c.in_ok-below.ensures.below (λ below is_below.

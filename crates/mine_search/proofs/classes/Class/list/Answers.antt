@@ -45,13 +45,13 @@ returns-in_err-extend-clause-class g c =
 pub returns : goal.returns
 returns g c =
     let rank = c.args.self.rank in
-    let at = reached g.T.Tally.told_of g.T.Tally.limit_of g.T.Tally.is_over in
+    let at = reached g.P.Projected.number g.T.Tally.told_of g.T.Tally.limit_of g.T.Tally.is_over in
     let mid = at c.add.new.self c.add.new.tally in
     let after = at c.match-below-4.mined c.match-below-4.tally in
     let first : (over : Supports) → IsClass g.P.Projected.gives c.args.coded.now rank c.args.self.support c.args.self.below over → IsFirst over rank mid.sets
     = λ over is. first_is is.over_coding rank c.requires.rank c.in_ok-mined.ensures.sets c.in_ok-add.ensures.sets c.in_ok-set.ensures.ok c.item.ensures is.supported in
     let (known, class) = c.requires.class in
-    let going : GoesOn mid = record { going = c.in_ok-add.ensures.going_on; few = omega (arith, c.add.ensures.work, c.requires.few, ap length (first known class).first) } in
+    let going : GoesOn mid = record { going = c.in_ok-add.ensures.going_on; few = omega (arith, ap g.P.Projected.number c.add.ensures.steps, ap g.P.Projected.number c.in_ok-mined.ensures.steps, c.requires.few, ap length (first known class).first) } in
     let found : (over : Supports) → IsClass g.P.Projected.gives c.args.coded.now rank c.args.self.support c.args.self.below over → FindsAll mid after (of_rank over rank)
     = λ over is. elim c.match-below-4.branch [
       | in-Some+in_ok-extend w ↦
@@ -79,7 +79,7 @@ returns g c =
           | in_default w ↦ ap (λ tally. g.T.Tally.limit_of tally) w.tally-is ∙ c.add.ensures.limit
         ];
       });
-      work = λ over is. omega (arith, (found over is).worked, c.add.ensures.work);
+      work = λ over is. omega (arith, c.number_of.ensures, (found over is).worked, ap g.P.Projected.number c.add.ensures.steps, ap g.P.Projected.number c.in_ok-mined.ensures.steps);
       lent = λ inner is. elim c.match-below-4.branch [
         | in-Some+in_ok-extend w ↦
             subst (λ base. g.P.Projected.keeps base c.args.scratch.now c.match-below-4.scratch) (same_Some w.in-Some.inner inner (sym w.in-Some.is ∙ is))

@@ -10,10 +10,10 @@ returns-then-at-eq0-clause-none g c = λ node (baskets, set, is). none_first is 
 pub returns-then-at-eq0-clause-work : goal.returns-then-at-eq0-clause-work
 returns-then-at-eq0-clause-work g c = λ node (baskets, set, is). omega (arith, work_is is c.args.at c.requires.inside, c.if-at-eq0.true)
 
-pub overflow_add-work : goal.overflow_add-work
-overflow_add-work g c =
+pub joined-requires-clause-few : goal.joined-requires-clause-few
+joined-requires-clause-few g c =
     let (node, (baskets, set, is)) = c.requires.given in
-    omega (arith, c.number.ensures, c.in_ok-kept.ensures.joins, c.none-joins.ensures, few is c.args.at c.requires.inside, c.requires.few)
+    omega (arith, few is c.args.at c.requires.inside, c.requires.few)
 
 pub returns-then-kept-eq0-clause-none : goal.returns-then-kept-eq0-clause-none
 returns-then-kept-eq0-clause-none g c = λ node (baskets, set, is).
@@ -21,12 +21,12 @@ returns-then-kept-eq0-clause-none g c = λ node (baskets, set, is).
 
 pub returns-then-kept-eq0-clause-work : goal.returns-then-kept-eq0-clause-work
 returns-then-kept-eq0-clause-work g c = λ node (baskets, set, is).
-    omega (arith, c.number.ensures, c.in_ok-kept.ensures.joins, c.none-joins.ensures, work_is is c.args.at c.requires.inside)
+    omega (arith, c.in_ok-kept.ensures.joins, work_is is c.args.at c.requires.inside)
 
 pub returns-then-kept-eq0-clause-little : goal.returns-then-kept-eq0-clause-little
 returns-then-kept-eq0-clause-little g c =
     let (node, (baskets, set, is)) = c.requires.given in
-    omega (arith, c.number.ensures, c.in_ok-kept.ensures.joins, c.none-joins.ensures, few is c.args.at c.requires.inside)
+    omega (arith, c.in_ok-kept.ensures.joins, few is c.args.at c.requires.inside)
 
 pub made_anew-requires-clause-rises : goal.made_anew-requires-clause-rises
 made_anew-requires-clause-rises g c =
@@ -44,12 +44,12 @@ returns-in_default-clause-below g c = λ node (baskets, set, is).
 
 pub returns-in_default-clause-work : goal.returns-in_default-clause-work
 returns-in_default-clause-work g c = λ node (baskets, set, is).
-    omega (arith, c.number.ensures, c.in_ok-kept.ensures.joins, c.none-joins.ensures, work_is is c.args.at c.requires.inside)
+    omega (arith, c.in_ok-kept.ensures.joins, work_is is c.args.at c.requires.inside)
 
 pub returns-in_default-clause-little : goal.returns-in_default-clause-little
 returns-in_default-clause-little g c =
     let (node, (baskets, set, is)) = c.requires.given in
-    omega (arith, c.number.ensures, c.in_ok-kept.ensures.joins, c.none-joins.ensures, few is c.args.at c.requires.inside)
+    omega (arith, c.in_ok-kept.ensures.joins, few is c.args.at c.requires.inside)
 
 pub returns-in_default-clause-inner : goal.returns-in_default-clause-inner
 returns-in_default-clause-inner g c =
@@ -70,12 +70,12 @@ returns-clause-below g c = λ node (baskets, set, is).
 
 pub returns-clause-work : goal.returns-clause-work
 returns-clause-work g c = λ node (baskets, set, is).
-    omega (arith, c.number.ensures, c.in_ok-kept.ensures.joins, c.none-joins.ensures, work_is is c.args.at c.requires.inside)
+    omega (arith, c.in_ok-kept.ensures.joins, work_is is c.args.at c.requires.inside)
 
 pub returns-clause-little : goal.returns-clause-little
 returns-clause-little g c =
     let (node, (baskets, set, is)) = c.requires.given in
-    omega (arith, c.number.ensures, c.in_ok-kept.ensures.joins, c.none-joins.ensures, few is c.args.at c.requires.inside)
+    omega (arith, c.in_ok-kept.ensures.joins, few is c.args.at c.requires.inside)
 
 pub returns-clause-inner : goal.returns-clause-inner
 returns-clause-inner g c =
