@@ -112,7 +112,7 @@ def _data_of(rules: pd.DataFrame) -> dict[str, Any]:
     columns = [itemsets_of(rules, name) for name in ("antecedents", "consequents")]
     texts = {side: _names(side) for column in columns for side in column}
     # Capital letters and small ones stand together.
-    sides = sorted(texts, key=lambda it: (str(texts[it]).casefold(), texts[it]))
+    sides = sorted(texts, key=lambda it: ([*map(str.casefold, texts[it])], texts[it]))
     places = {side: place for place, side in enumerate(sides)}
     left, right = ([places[side] for side in column] for column in columns)
     return {
