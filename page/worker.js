@@ -110,10 +110,20 @@ function answerTo({ id, words, input, sets }) {
   return { id, status, report, explanation, milliseconds, memory: memory ? memory.buffer.byteLength : 0 };
 }
 
+// Whether the module can be run here: a browser may lack memory of 64 bits.
+function readiness(module) {
+  miner = module;
+  try {
+    const { status, explanation } = answerTo({ words: ["--version"], input: [], sets: null });
+    return status === 0 ? { ready: true } : { ready: false, why: explanation };
+  } catch (error) {
+    return { ready: false, why: error.message };
+  }
+}
+
 onmessage = ({ data }) => {
   if (data.module) {
-    miner = data.module;
-    postMessage({ ready: true });
+    postMessage(readiness(data.module));
     return;
   }
   const answer = answerTo(data);

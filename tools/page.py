@@ -11,6 +11,7 @@ program gives the same bytes.
 
 import base64
 import gzip
+import hashlib
 import json
 import re
 import subprocess
@@ -28,7 +29,7 @@ TEMPLATE = Path("page/page.html")
 C_FILES = ("system", "heap")
 # The largest page that is made, in bytes, and the most memory that a browser gives WebAssembly.
 MOST, MOST_MEMORY = 1_000_000, 1 << 34
-STACK = 1 << 23
+STACK = 1 << 20
 # As the kit compiles for WebAssembly: the passes that are turned off have known faults.
 TARGET = (
     "--target=wasm64-unknown-unknown --no-default-config -mcpu=lime1 -msimd128 -mllvm -expand-div-rem-bits=64 "
@@ -89,28 +90,28 @@ def compiled(module: Path) -> Path:
     return part.replace(made)
 
 
-def linked(program: Path) -> bytes:
-    """The WebAssembly module of the program, over the C files of the page."""
+def linked(program: Path, *more: str) -> bytes:
+    """The WebAssembly module of the program, over the C files of the page, with more words for the linker."""
     with tempfile.TemporaryDirectory(prefix="basket-") as folder:
         objects: list[str | Path] = [program]
         for name in C_FILES:
             objects.append(Path(folder, f"{name}.o"))
             clang(*TARGET, *OF_C, f"page/{name}.c", "-o", objects[-1])
         made = Path(folder, "basket.wasm")
-        words: list[str | Path] = [
-            kit.home() / "toolchain/bin/ld.lld",
-            *LINKED,
-            "-o",
-            made,
-            *objects,
-        ]
+        linker = kit.home() / "toolchain/bin/ld.lld"
+        words: list[str | Path] = [linker, *LINKED, *more, "-o", made, *objects]
         subprocess.run(words, check=True)
         return made.read_bytes()
 
 
 def packed(wasm: bytes, facts: dict[str, str]) -> str:
-    """The page in one file: its template names the files that it has, and where the module and the facts stand."""
+    """The page in one file.
+
+    Its template names the files whose texts it has, and where the module and the facts stand. The digest, which its
+    policy has, is that of its script.
+    """
     texts = {
+        "digest": "{{digest}}",
         "module": base64.b64encode(gzip.compress(wasm, 9, mtime=0)).decode(),
         "facts": json.dumps(facts).replace("<", "\\u003c"),
     }
@@ -124,7 +125,10 @@ def packed(wasm: bytes, facts: dict[str, str]) -> str:
             )
         return text
 
-    return MARK.sub(text_of, TEMPLATE.read_text(encoding="utf-8"))
+    text = MARK.sub(text_of, TEMPLATE.read_text(encoding="utf-8"))
+    script = re.search(r"(?s)<script>(.*?)</script>", text)
+    digest = hashlib.sha256(script[1].encode() if script else b"").digest()
+    return text.replace("{{digest}}", base64.b64encode(digest).decode(), 1)
 
 
 def version() -> str:
