@@ -2,7 +2,6 @@
 // Runs the miner, which is a program for a command line. This worker is its system: each question has a fresh
 // memory, the words and files that were sent with it, and two streams that are sent back.
 const OUTPUT = 1;
-const FIRST_OPENED = 3;
 const OUT_OF_MEMORY = 6;
 const TRAPPED = 134;
 const utf8 = new TextEncoder();
@@ -23,7 +22,8 @@ class Files {
 
   open(name) {
     if (!this.named.has(name)) return -1;
-    const number = FIRST_OPENED + this.opened.size;
+    // The numbers below 3 are those of the input and of the streams.
+    const number = this.opened.size + 2;
     this.opened.set(number, { bytes: this.named.get(name), at: 0 });
     return number;
   }
@@ -95,7 +95,7 @@ function statusOf(run) {
 function answerTo({ id, words, input, sets }) {
   const streams = [[], []];
   const given = ["basket", ...words].map((word) => utf8.encode(word));
-  const files = new Files(new Uint8Array(input), sets);
+  const files = new Files(input instanceof Uint8Array ? input : new Uint8Array(input), sets);
   const begun = performance.now();
   let memory = null;
   const { status, cut } = statusOf(() => {

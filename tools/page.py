@@ -160,7 +160,8 @@ def unproved() -> Path:
 
 def proved(tree: Path) -> Path:
     """The page over the program that was proved in a folder."""
-    if not kit.is_new(kit.PROVED_MODULE):
+    if not kit.has_proved_module():
+        print("Proving the program's own crate once more, for its module.", flush=True)
         kit.make_proved(tree)
     return write(PAGE, kit.PROVED_MODULE, True)
 
@@ -171,7 +172,7 @@ def main(words: list[str]) -> int:
         unproved()
     elif words:
         sys.exit(__doc__)
-    elif kit.is_new(kit.PROVED_MODULE):
+    elif kit.has_proved_module():
         write(PAGE, kit.PROVED_MODULE, True)
     else:
         with tempfile.TemporaryDirectory(prefix="basket-") as tree:

@@ -30,7 +30,10 @@ let refused = 0, moves = 0;
 const must = (holds, what) => { if (!holds) throw new Error(what); };
 WebAssembly.instantiate(bytes, { page }).then(({ instance: { exports } }) => {
   const view = (block) => new Uint8Array(exports.memory.buffer, Number(block.at), block.size);
-  const isKept = (block, size) => view({ ...block, size }).every((byte) => byte === block.mark);
+  const isKept = (block, size) => {
+    for (const byte of view({ ...block, size })) if (byte !== block.mark) return false;
+    return true;
+  };
   const fill = (block) => view(block).fill(block.mark);
   const give = () => {
     const block = { size: size(), mark: below(256) };
