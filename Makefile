@@ -1,4 +1,4 @@
-.PHONY: all demo try check test test-python edits install uninstall package wheel bench pictures
+.PHONY: all demo try check test test-python edits install uninstall page package wheel bench pictures
 
 PREFIX ?= $(HOME)/.local
 PROGRAM := crates/basket_cli/out/basket_cli
@@ -55,8 +55,12 @@ uninstall:
 	rm -f $(PLACE)/bin/basket $(PLACE)/share/man/man1/basket.1 $(PLACE)/share/bash-completion/completions/basket \
 		$(PLACE)/share/zsh/site-functions/_basket $(PLACE)/share/fish/vendor_completions.d/basket.fish
 
-# A Debian package and a tar file of the proved program, under dist/.
-package: $(PROGRAM)
+# The page with the proved program in it, dist/basket.html, which mines in a browser.
+page:
+	tools/page.py
+
+# A Debian package and a tar file of the proved program, with the page, under dist/.
+package: $(PROGRAM) page
 	tools/package.py
 
 # The Python package with the proved program in it, under dist/.

@@ -1,7 +1,7 @@
 #!/usr/bin/env python3
-"""Makes a Debian package and a tar file of the proved program, each with its sum, under dist/.
+"""Makes a Debian package and a tar file of the proved program, with the page, each with its sum, under dist/.
 
-usage: tools/package.py    at the top of the repository, after `make`
+usage: tools/package.py    at the top of the repository, after `make` and `make page`
 
 The documents keep their places beside each other, so that their links hold: if one doesn't, it says which and
 packs nothing. The same program and commit give the same bytes: every file has the commit's time and root as its owner.
@@ -18,6 +18,7 @@ import tempfile
 from pathlib import Path
 
 PROGRAM = Path("crates/basket_cli/out/basket_cli")
+PAGE = Path("dist/basket.html")
 DOCUMENTS = (
     "*.md",
     "CITATION.cff",
@@ -113,8 +114,12 @@ License: Apache-2.0
 
 
 def fill(prefix: Path) -> None:
-    """Puts the program, its manual page, completions and documents below a prefix."""
-    places = {str(PROGRAM): "bin/basket", **PLACES}
+    """Puts the program, the page, the manual page, completions and documents below a prefix."""
+    places = {
+        str(PROGRAM): "bin/basket",
+        str(PAGE): "share/basket/basket.html",
+        **PLACES,
+    }
     places |= {name: f"{PLACE}/{name}" for name in documents()}
     for name, place in places.items():
         (prefix / place).parent.mkdir(parents=True, exist_ok=True)
@@ -167,8 +172,8 @@ def main() -> None:
     time = int(output_of("git", "log", "-1", "--format=%ct"))
     os.environ["SOURCE_DATE_EPOCH"] = str(time)
     os.umask(0o022)
-    dist = Path("dist")
-    dist.mkdir(exist_ok=True)
+    dist = PAGE.parent
+    sum_up(PAGE)
     with tempfile.TemporaryDirectory() as folder:
         name = f"basket-{version}-x86_64-linux"
         fill(Path(folder, name))

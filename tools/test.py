@@ -1,14 +1,15 @@
 #!/usr/bin/env python3
-"""The gate: every proof, then the tests of the program that was built, and those of the Python package over it.
+"""The gate: every proof, then the tests of the program that was built, of the page with it, and of the Python package.
 
 usage: tools/test.py            at the top of the repository
        tools/test.py --check    the same over the program built without its proofs
        tools/test.py --program  the tests of the program alone, as it is built now
+       tools/test.py --page     those of the page with the program in it, as both are built now
        tools/test.py --python   those of the package alone, by black, mypy and pytest over python/
 
 Proofs, with the tests of the crates, are of all crates but the bench. The must-fail edits are not tried here
 (tools/edits.py tries them): it is seen that each can be applied, and told which were last refused over
-another text. The variable BASKET names another program for the last two.
+another text. The variable BASKET names another program for the last three, and PAGE another page.
 """
 
 import os
@@ -22,6 +23,7 @@ from xml.etree import ElementTree
 
 import edits
 import kit
+import page
 from cost import Cost, processors
 from crates import built, listed
 from prove import prove
@@ -29,7 +31,7 @@ from prove import prove
 BESIDE = ("basket_bench",)
 # The system's Python, which has Debian's packages.
 PYTHON = "/usr/bin/python3"
-FOLDERS = ("python", "tools", "bench")
+FOLDERS = ("python", "tools", "bench", "page")
 STRICT = ("--strict", "--config-file=python/pyproject.toml")
 CHECKS = (("black", "--check", *FOLDERS), ("mypy", *STRICT, *FOLDERS))
 
@@ -43,11 +45,13 @@ class Sum(NamedTuple):
 
 
 def proved(_program: Path) -> Sum:
-    """Proves the crates, and runs their tests and programs."""
+    """Proves the crates, runs their tests and programs, and makes the page."""
     kit.demand()
     names = [name for name in listed() if name not in BESIDE]
     with tempfile.TemporaryDirectory(prefix="basket-") as tree:
         report = prove(names, Path(tree))
+        if report.failed == 0:
+            page.proved(Path(tree))
     return Sum(report.passed, report.failed, report.share())
 
 
@@ -65,7 +69,11 @@ def tested(folder: str, program: Path) -> Sum:
         ended = subprocess.run(
             [PYTHON, *words],
             cwd=folder,
-            env={**os.environ, "BASKET": str(program)},
+            env={
+                "PAGE": str(page.PAGE.resolve()),
+                **os.environ,
+                "BASKET": str(program),
+            },
             check=False,
         )
         if not summary.exists():
@@ -83,6 +91,10 @@ def of_program(program: Path) -> Sum:
     return tested("tools", program)
 
 
+def of_page(program: Path) -> Sum:
+    return tested("page", program)
+
+
 def of_package(program: Path) -> Sum:
     """Has black and mypy read all Python here, and runs the tests of the package."""
     passed, failed = 0, 0
@@ -96,9 +108,10 @@ def of_package(program: Path) -> Sum:
 
 Part = Callable[[Path], Sum]
 PARTS: dict[str, tuple[Part, ...]] = {
-    "": (applied, proved, of_program, of_package),
-    "--check": (of_program, of_package),
+    "": (applied, proved, of_program, of_page, of_package),
+    "--check": (of_program, of_page, of_package),
     "--program": (of_program,),
+    "--page": (of_page,),
     "--python": (of_package,),
 }
 
@@ -112,6 +125,7 @@ def main(words: list[str]) -> int:
     cost = Cost()
     if which == "--check":
         program = kit.unproved()
+        os.environ["PAGE"] = str(page.unproved().resolve())
     else:
         program = Path(os.environ.get("BASKET", built(kit.PROGRAM))).resolve()
     passed, failed, said = 0, 0, []

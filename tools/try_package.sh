@@ -13,6 +13,7 @@ inside dpkg --install /basket.deb
 inside basket --version
 printf '1 2 5\n2 4\n2 3\n' | inside basket items --min 2 | tee "$root/report"
 [ "$(cat "$root/report")" = "2 (3)" ]
+inside grep -q '<script type="application/octet-stream" id="module">' /usr/share/basket/basket.html
 # A system may be set up to leave out documents, except for the copyright file.
 inside grep -q '^Format: .*copyright-format/1.0/$' /usr/share/doc/basket/copyright
 inside dpkg --purge basket

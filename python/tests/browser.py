@@ -14,8 +14,8 @@ from selenium.webdriver.common.by import By
 
 
 @contextlib.contextmanager
-def opened() -> Iterator[webdriver.Chrome]:
-    """Debian's Chromium. As root it runs without its sandbox: its pages are our own."""
+def opened(*more: str, log: str = "browser") -> Iterator[webdriver.Chrome]:
+    """Debian's Chromium, with more words if need be. As root it runs without its sandbox: its pages are our own."""
     options = webdriver.ChromeOptions()
     with tempfile.TemporaryDirectory(prefix="basket-browser-") as folder:
         for word in (
@@ -25,9 +25,10 @@ def opened() -> Iterator[webdriver.Chrome]:
             "--disable-dev-shm-usage",
             "--window-size=1400,1000",
             f"--user-data-dir={folder}",
+            *more,
         ):
             options.add_argument(word)
-        options.set_capability("goog:loggingPrefs", {"browser": "ALL"})
+        options.set_capability("goog:loggingPrefs", {log: "ALL"})
         service = Service(shutil.which("chromedriver") or "chromedriver")
         browser = webdriver.Chrome(service=service, options=options)
         try:

@@ -1,6 +1,7 @@
 """The built program, and what a run of it gives."""
 
 import os
+import pty
 import shlex
 import subprocess
 import tempfile
@@ -58,6 +59,32 @@ def run_between(words: list[str], given: str, taken: str) -> Run:
     finally:
         os.close(opened)
     return Run(b"", ended.stderr.decode(), ended.returncode)
+
+
+def run_at_terminal(words: list[str], given: bytes, place: str | Path = ".") -> Run:
+    """Runs the program in a folder, with a terminal as its standard error."""
+    above, below = pty.openpty()
+    with subprocess.Popen(
+        [PROGRAM, *words],
+        cwd=place,
+        stdin=subprocess.PIPE,
+        stdout=subprocess.PIPE,
+        stderr=below,
+    ) as process:
+        os.close(below)
+        out, _ = process.communicate(given, timeout=SECONDS)
+    said = b""
+    while True:
+        try:
+            piece = os.read(above, 65536)
+        except OSError:
+            break
+        if not piece:
+            break
+        said += piece
+    os.close(above)
+    # A terminal ends a line with a carriage return too.
+    return Run(out, said.decode().replace("\r\n", "\n"), process.returncode)
 
 
 def run_script(script: str, place: Path) -> Run:

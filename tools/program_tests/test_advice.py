@@ -1,13 +1,12 @@
 """Advice at a terminal, and that nothing of it is there without one."""
 
 import os
-import pty
 import subprocess
 import tempfile
 import unittest
 from pathlib import Path
 
-from .program import PROGRAM, ROOT, SECONDS, run, run_script
+from .program import ROOT, run, run_at_terminal, run_script
 
 SETS = ["sets", "--min", "2"]
 SHOP = str(ROOT / "examples/shop.dat")
@@ -16,26 +15,7 @@ RECEIPTS = str(ROOT / "examples/receipts.csv")
 
 def said_at_terminal(words: list[str], given: bytes = b"") -> list[str]:
     """The lines that the program writes to a terminal as its standard error."""
-    above, below = pty.openpty()
-    with subprocess.Popen(
-        [PROGRAM, *words],
-        stdin=subprocess.PIPE,
-        stdout=subprocess.DEVNULL,
-        stderr=below,
-    ) as process:
-        os.close(below)
-        process.communicate(given, timeout=SECONDS)
-    said = b""
-    while True:
-        try:
-            piece = os.read(above, 65536)
-        except OSError:
-            break
-        if not piece:
-            break
-        said += piece
-    os.close(above)
-    return said.decode().splitlines()
+    return run_at_terminal(words, given).said.splitlines()
 
 
 def look_at(file: str) -> str:

@@ -1,0 +1,1 @@
+"""Tests of the page with the program in it, in a browser without a window."""
