@@ -159,6 +159,12 @@ class PrepareOptions(PartLayout, total=False):
     progress: Annotated[
         bool, Keyword(False, "shows the engine's bar while a bag or a frame is read.")
     ]
+    timeout: Annotated[
+        float | None,
+        Keyword(
+            None, "after so many seconds the reading is given up, and TimedOut raised."
+        ),
+    ]
 
 
 def keywords_of(kind: type) -> Mapping[str, tuple[Any, Keyword]]:

@@ -3,6 +3,7 @@
 
 import subprocess
 import sys
+import time
 from pathlib import Path
 from typing import Any
 
@@ -14,7 +15,7 @@ from dask.delayed import delayed
 from distributed import Client, worker_client
 
 import basket_miner
-from basket_miner import DataError, cluster
+from basket_miner import DataError, TimedOut, cluster
 from cut_files import cut, written
 
 ROOT = Path(__file__).parents[2]
@@ -119,9 +120,35 @@ def test_the_current_client_is_asked(client: Client, tmp_path: Path) -> None:
     assert report == cluster.report(files, "sets", "--min=20%", client=client)
 
 
+def test_a_timeout_ends_the_reading_of_parts_and_leaves_the_cluster_free(
+    client: Client, tmp_path: Path
+) -> None:
+    go = tmp_path / "go"
+
+    def slow(rows: Any) -> Any:
+        while not go.exists():
+            time.sleep(0.05)
+        return rows
+
+    rows = [client.submit(slow, part) for part in ROWS]
+    lists = [client.submit(slow, [["tea", "milk"], ["tea"]])]
+    given: list[tuple[Any, Any]] = [(rows, COLUMNS), (lists, {})]
+    for parts, columns in given:
+        with pytest.raises(TimedOut, match="timeout= was over"):
+            cluster.prepare(parts, timeout=0.5, **columns)
+        with pytest.raises(TimedOut, match="timeout= was over"):
+            cluster.rules(parts, 2, "1/2", timeout=0.5, **columns)
+    with pytest.raises(DataError, match="timeout is a number of seconds above 0"):
+        cluster.prepare(lists, timeout=0)
+    go.touch()
+    same(cluster.rules(rows, 2, "1/2", timeout=60, **COLUMNS), RULES)
+    prepared = cluster.prepare(lists, timeout=60)
+    assert cluster.sets(prepared, 2)["itemsets"].tolist() == [{"tea"}]
+
+
 def test_without_a_client_the_question_says_how_to_make_one() -> None:
     script = """
-from basket_miner import DataError, cluster
+from basket_miner import DataError, TimedOut, cluster
 try:
     cluster.sets(["part"], 2)
 except DataError as fault:

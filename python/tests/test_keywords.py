@@ -25,7 +25,7 @@ CALLS: list[tuple[Callable[..., Any], str, dict[str, Any]]] = [
     (miner.maximal, "data minimum", LAYOUT | WORK),
     (miner.rules, "data minimum confidence", LAYOUT | WORK),
     (miner.count, "data sets", LAYOUT | RUN),
-    (cluster.prepare, "parts", {**PART, "progress": False}),
+    (cluster.prepare, "parts", {**PART, "progress": False, "timeout": None}),
     (cluster.sets, "parts minimum", PART | WORK),
     (cluster.closed, "parts minimum", PART | WORK),
     (cluster.maximal, "parts minimum", PART | WORK),

@@ -79,9 +79,10 @@ def prepare(
     Raises:
         DataError: the parts are none of these, there is none, they have bad values, or a keyword
             does not go with them.
+        TimedOut: the labels of all parts are not known in time.
     """
-    asked = client_of(client)
-    return prepared(parts, asked, keywords, keywords.get("progress", False))
+    asked, until = client_of(client), end_of(keywords.get("timeout"))
+    return prepared(parts, asked, keywords, keywords.get("progress", False), until)
 
 
 def report(
@@ -177,7 +178,7 @@ def _frame(
 ) -> pd.DataFrame:
     least, until = minimum_of(minimum), end_of(options.get("timeout"))
     asked, run_so = client_of(client), filled(Run, options)
-    ready = prepared(parts, asked, options, run_so["progress"])
+    ready = prepared(parts, asked, options, run_so["progress"], until)
     if isinstance(least, Fraction) and not is_short(least):
         # What all baskets weigh together, as each question finds out.
         weighing = question_of(["items", "--min=1/1"])

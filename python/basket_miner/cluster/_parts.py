@@ -62,17 +62,33 @@ class Parts:
         return "--form=csv-counts", f"--sep={SEPARATOR_WORDS[self.separator]}"
 
 
+@dataclass(frozen=True)
+class _Waiting:
+    """How the client waits: with the engine's bar, and until a time of `time.monotonic`."""
+
+    progress: bool
+    until: float | None
+
+    def result(self, future: Future) -> Any:
+        return awaited(future, self.progress, self.until)
+
+
 def prepared(
-    parts: Any, client: Client, keywords: PartLayout, progress: bool = False
+    parts: Any,
+    client: Client,
+    keywords: PartLayout,
+    progress: bool = False,
+    until: float | None = None,
 ) -> Parts:
     """The parts of whatever a public call takes.
 
     Raises:
+        TimedOut: the labels of all parts are not known at the time of `time.monotonic` that `until` is.
         DataError: they are none of these, there is none, they have bad values, or a keyword does
             not go with them.
         ProgramMissing: a worker lacks something, which is named.
     """
-    layout = filled(Layout, keywords)
+    layout, waiting = filled(Layout, keywords), _Waiting(progress, until)
     demand_program(client)
     if isinstance(parts, Parts):
         if changed(Layout, layout):
@@ -80,9 +96,9 @@ def prepared(
         return parts
     if isinstance(parts, Bag):
         lists = [delayed(list)(part) for part in parts.to_delayed()]
-        return _baskets(lists, client, layout, progress)
+        return _baskets(lists, client, layout, waiting)
     if is_dask_collection(parts) and type(parts).__name__ == "DataFrame":
-        return _frame(parts, client, layout, progress)
+        return _frame(parts, client, layout, waiting)
     is_one = isinstance(parts, (str, bytes, os.PathLike)) or is_dask_collection(parts)
     if is_one or not isinstance(parts, Iterable):
         raise DataError(
@@ -91,7 +107,7 @@ def prepared(
         )
     listed = list(parts)
     if listed and all(isinstance(part, (Delayed, Future)) for part in listed):
-        return _listed(listed, client, layout, progress)
+        return _listed(listed, client, layout, waiting)
     return _files(listed, layout)
 
 
@@ -119,11 +135,11 @@ def _files(names: list[Any], layout: Layout) -> Parts:
 
 
 def _listed(
-    parts: list[Delayed | Future], client: Client, layout: Layout, progress: bool
+    parts: list[Delayed | Future], client: Client, layout: Layout, waiting: _Waiting
 ) -> Parts:
     """Delayed parts and futures: frames with a row for each item, which may cut baskets, or whole baskets."""
     if layout["basket"] is None and layout["item"] is None:
-        return _baskets(parts, client, layout, progress)
+        return _baskets(parts, client, layout, waiting)
     # Here, since it takes a second.
     from dask.dataframe import from_delayed  # type: ignore[attr-defined]
 
@@ -132,9 +148,9 @@ def _listed(
         client.submit(rows_of, part, f"part {number} of {len(parts)}", names)
         for number, part in enumerate(_futures(parts, client), 1)
     ]
-    meta = awaited(client.submit(no_rows, frames[0]), progress)
+    meta = waiting.result(client.submit(no_rows, frames[0]))
     frame = from_delayed(frames, meta=meta, verify_meta=False)
-    return _frame(frame, client, layout, progress)
+    return _frame(frame, client, layout, waiting)
 
 
 def _futures(parts: Iterable[Delayed | Future], client: Client) -> list[Future]:
@@ -144,7 +160,7 @@ def _futures(parts: Iterable[Delayed | Future], client: Client) -> list[Future]:
 
 
 def _baskets(
-    parts: Iterable[Delayed | Future], client: Client, layout: Layout, progress: bool
+    parts: Iterable[Delayed | Future], client: Client, layout: Layout, waiting: _Waiting
 ) -> Parts:
     """Parts that have whole baskets each: iterables of them, frames with a column for each item, matrices."""
     read_so = [
@@ -152,15 +168,15 @@ def _baskets(
         for part in _futures(parts, client)
     ]
     found = [client.submit(labels_of, part, pure=False) for part in read_so]
-    content = _all_labels(found, client, progress)
+    content = _all_labels(found, client, waiting)
     numbering = client.submit(same, content, pure=False)
     texts = [client.submit(text_of, part, numbering, pure=False) for part in read_so]
     return Parts(texts, unpacked(content))
 
 
-def _frame(frame: Any, client: Client, layout: Layout, progress: bool) -> Parts:
+def _frame(frame: Any, client: Client, layout: Layout, waiting: _Waiting) -> Parts:
     if layout["basket"] is None and layout["item"] is None:
-        return _baskets(frame.to_delayed(), client, layout, progress)
+        return _baskets(frame.to_delayed(), client, layout, waiting)
     names = _columns(layout)
     for name in names:
         place_of(frame.columns, name)
@@ -169,7 +185,7 @@ def _frame(frame: Any, client: Client, layout: Layout, progress: bool) -> Parts:
         client.submit(labels_of_rows, part, layout, pure=False)
         for part in client.compute(kept.to_delayed())
     ]
-    content = _all_labels(found, client, progress)
+    content = _all_labels(found, client, waiting)
     numbering = client.submit(same, content, pure=False)
     meta = numbered_rows(frame._meta, packed([]), layout)
     # The shuffle for several machines, by tasks, which the engine can repeat.
@@ -188,12 +204,12 @@ def _columns(layout: Layout) -> list[Hashable]:
     return [layout["basket"], layout["item"], *weight]
 
 
-def _all_labels(parts: list[Future], client: Client, progress: bool) -> bytes:
+def _all_labels(parts: list[Future], client: Client, waiting: _Waiting) -> bytes:
     """All of the labels of parts, packed, by first appearance over the parts in their order.
 
     The client has them, and a task whose words they are gives them to the workers. So they stay
     the same whatever is lost: the order of a set differs from process to process.
     """
     submit = partial(client.submit, pure=False)
-    content: bytes = awaited(tree(submit, joined, parts), progress)
+    content: bytes = waiting.result(tree(submit, joined, parts))
     return content

@@ -28,6 +28,7 @@ class PrepareCall(Protocol):
         header: bool = ...,
         weighted: bool = ...,
         progress: bool = ...,
+        timeout: float | None = ...,
     ) -> Parts:
         ...
 
