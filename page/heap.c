@@ -1,10 +1,10 @@
-/* The heap. Blocks lie side by side, each behind its head. Free blocks are in lists by their size, and free
+/* The heap. Blocks lie side by side, each after its head. Free blocks are in lists by their size, and free
    neighbours become one block. The memory grows as it is needed, and where it can't, no block is given. */
 #include "types.h"
 
 struct block {
     struct block *before; /* the block that ends where this one begins, if there is one */
-    u64 size;             /* the bytes behind the head, a multiple of 16, and a bit that says that they are free */
+    u64 size;             /* the bytes after the head, a multiple of 16, and a bit that says that they are free */
     /* These two are among the bytes of the block, and have a meaning while it is free. */
     struct block *next, *previous;
 };
@@ -17,13 +17,13 @@ void *memcpy(void *restrict to, const void *restrict from, u64 count);
 
 static struct block *free_blocks[LISTS];
 static u64 has_blocks[LISTS / 64]; /* a bit for each list that is not empty */
-static struct block *last;         /* the block behind which the memory is unused */
+static struct block *last;         /* the block after which the memory is unused */
 static u64 top, end;               /* where the unused memory begins and ends */
 
 static u64 size_of(const struct block *block) { return block->size & ~(u64)IS_FREE; }
 static u8 *bytes_of(struct block *block) { return (u8 *)block + HEAD; }
 static struct block *of_bytes(u8 *bytes) { return (struct block *)(bytes - HEAD); }
-static struct block *behind(struct block *block) { return (struct block *)(bytes_of(block) + size_of(block)); }
+static struct block *after(struct block *block) { return (struct block *)(bytes_of(block) + size_of(block)); }
 
 /* The size of a block for so many bytes. */
 static u64 rounded(u64 count) { return count <= LEAST ? LEAST : (count + 15) & ~15ul; }
@@ -69,17 +69,17 @@ static struct block *found(u64 size) {
     }
 }
 
-/* Sets how large a block is, and tells the block behind it. */
+/* Sets how large a block is, and tells the block after it. */
 static void resize(struct block *block, u64 size) {
     block->size = size;
     if (block == last) {
-        top = (u64)behind(block);
+        top = (u64)after(block);
     } else {
-        behind(block)->before = block;
+        after(block)->before = block;
     }
 }
 
-/* Makes one block of a block and the free one behind it. */
+/* Makes one block of a block and the free one after it. */
 static void join(struct block *block, struct block *next) {
     take(next);
     if (next == last) last = block;
@@ -87,7 +87,7 @@ static void join(struct block *block, struct block *next) {
 }
 
 static void release(struct block *block) {
-    if (block != last && behind(block)->size & IS_FREE) join(block, behind(block));
+    if (block != last && after(block)->size & IS_FREE) join(block, after(block));
     struct block *before = block->before;
     if (before && before->size & IS_FREE) {
         take(before);
@@ -174,7 +174,7 @@ void *realloc(void *bytes, u64 count) {
     struct block *block = of_bytes(bytes);
     u64 size = rounded(count);
     if (size > size_of(block) && block != last) {
-        struct block *next = behind(block);
+        struct block *next = after(block);
         int helps = next == last || size_of(block) + HEAD + size_of(next) >= size;
         if (next->size & IS_FREE && helps) join(block, next);
     }

@@ -17,7 +17,7 @@ import signal
 import subprocess
 import sys
 import tempfile
-from collections.abc import Iterator
+from collections.abc import Callable, Iterator
 from pathlib import Path
 
 import kit
@@ -112,8 +112,11 @@ class Report:
         return f"{len(self.proved)} of {whole} crates proved now, {len(self.kept)} kept from earlier runs"
 
 
-def prove(names: list[str], tree: Path) -> Report:
-    """Proves these crates in the folder, with a line for each, and puts their programs into their folders out/."""
+def prove(
+    names: list[str], tree: Path, then: Callable[[str], object] = lambda _: None
+) -> Report:
+    """Proves these crates in the folder, with a line for each, and puts each program into its folder out/, and then
+    does something."""
     crates = listed()
     copy_to(tree, names, crates)
     cost, report = Cost(), Report()
@@ -124,15 +127,20 @@ def prove(names: list[str], tree: Path) -> Report:
                 say(
                     f"{name}: proved, {done} of {len(names)} after {clock(cost.seconds())}"
                 )
+                if is_program(name):
+                    take_built(name, tree)
+                    then(name)
     except subprocess.CalledProcessError:
         say(f"Not proved. What the checker said:\n{report.text()}")
-        return report
-    for program in filter(is_program, names):
-        made = built(program)
-        made.parent.mkdir(exist_ok=True)
-        shutil.copy2(tree / made, made)
-        say(f"{made}: built")
     return report
+
+
+def take_built(program: str, tree: Path) -> None:
+    """Puts a program that was proved in the folder into its folder out/."""
+    made = built(program)
+    made.parent.mkdir(exist_ok=True)
+    shutil.copy2(tree / made, made)
+    say(f"{made}: built")
 
 
 def main(programs: list[str]) -> int:

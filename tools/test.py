@@ -16,7 +16,8 @@ import os
 import subprocess
 import sys
 import tempfile
-from collections.abc import Callable
+from collections.abc import Callable, Iterable
+from concurrent.futures import Future, ThreadPoolExecutor
 from pathlib import Path
 from typing import NamedTuple
 from xml.etree import ElementTree
@@ -44,15 +45,39 @@ class Sum(NamedTuple):
     said: str = ""
 
 
-def proved(_program: Path) -> Sum:
-    """Proves the crates, runs their tests and programs, and makes the page."""
+def proved(program: Path) -> Sum:
+    """Proves the crates, and runs their tests and programs. What is tested over the program begins once it is built."""
     kit.demand()
     names = [name for name in listed() if name not in BESIDE]
-    with tempfile.TemporaryDirectory(prefix="basket-") as tree:
-        report = prove(names, Path(tree))
-        if report.failed == 0:
-            page.proved(Path(tree))
-    return Sum(report.passed, report.failed, report.share())
+    over: list[Future[Sum]] = []
+    with tempfile.TemporaryDirectory(
+        prefix="basket-"
+    ) as tree, ThreadPoolExecutor() as beside:
+
+        def begin(name: str) -> None:
+            if name == kit.PROGRAM:
+                over.append(beside.submit(over_program, Path(tree), program))
+
+        report = prove(names, Path(tree), begin)
+        tests = [it.result() for it in over]
+    return added([Sum(report.passed, report.failed, report.share()), *tests])
+
+
+def over_program(tree: Path, program: Path) -> Sum:
+    """Makes the page over the program that was proved in a folder, and tests both and the package."""
+    page.proved(tree)
+    return added(part(program) for part in OVER_PROGRAM)
+
+
+def added(sums: Iterable[Sum]) -> Sum:
+    """Several sums as one, up to the first with a failure."""
+    passed, failed, said = 0, 0, []
+    for one in sums:
+        passed, failed = passed + one.passed, failed + one.failed
+        said += [one.said] * bool(one.said)
+        if failed:
+            break
+    return Sum(passed, failed, "; ".join(said))
 
 
 def applied(_program: Path) -> Sum:
@@ -107,9 +132,10 @@ def of_package(program: Path) -> Sum:
 
 
 Part = Callable[[Path], Sum]
+OVER_PROGRAM: tuple[Part, ...] = (of_program, of_page, of_package)
 PARTS: dict[str, tuple[Part, ...]] = {
-    "": (applied, proved, of_program, of_page, of_package),
-    "--check": (of_program, of_page, of_package),
+    "": (applied, proved),
+    "--check": OVER_PROGRAM,
     "--program": (of_program,),
     "--page": (of_page,),
     "--python": (of_package,),
@@ -128,13 +154,8 @@ def main(words: list[str]) -> int:
         os.environ["PAGE"] = str(page.unproved().resolve())
     else:
         program = Path(os.environ.get("BASKET", built(kit.PROGRAM))).resolve()
-    passed, failed, said = 0, 0, []
-    for part in PARTS[which]:
-        if failed == 0:
-            more = part(program)
-            passed, failed = passed + more.passed, more.failed
-            said += [more.said] * bool(more.said)
-    print("; ".join([str(cost), *said]))
+    passed, failed, said = added(part(program) for part in PARTS[which])
+    print("; ".join([str(cost), *[said] * bool(said)]))
     print(f"{passed} passed, {failed} failed")
     return int(failed > 0 or passed == 0)
 

@@ -1,12 +1,13 @@
 """Advice at a terminal, and that nothing of it is there without one."""
 
 import os
+import pty
 import subprocess
 import tempfile
 import unittest
 from pathlib import Path
 
-from .program import ROOT, run, run_at_terminal, run_script
+from .program import PROGRAM, ROOT, SECONDS, run, run_at_terminal, run_script
 
 SETS = ["sets", "--min", "2"]
 SHOP = str(ROOT / "examples/shop.dat")
