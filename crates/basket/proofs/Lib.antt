@@ -1,2 +1,3 @@
+mod ResultLemmas
 mod ItemLemmas
 mod CountLemmas

@@ -79,6 +79,7 @@ pub fn reported<R: RandomSource + Threads + Sync, S: Source>(
 }
 
 /// The report that the plan asks for, made from all that the input says.
+#[tactic(auto, using(crate::proofs::ResultLemmas::after_any))]
 fn report_input<R: RandomSource + Threads + Sync, S: Source>(
     rt: &R,
     alloc: Global,

@@ -1,4 +1,5 @@
 -- What is made of what was read.
+use Rattle.std.specs.Prelude.{OnOk}
 use Rattle.std.proofs.Common.{◌≡◌, ℕ, Bool, List, Option, Result, Ok, Err, ap, refl}
 use Rattle.basket_read.specs.Fault.{IsDefined, Reads, result_and_then}
 use Rattle.basket_read.specs.declared.fault.ReadFault.{ReadFault}
@@ -16,3 +17,10 @@ module _ {A : Type 0} (say : A → Contents) where
       → Reads IsDefined (λ bytes. result_and_then (λ a. Ok (say a)) (defined bytes)) fails left failed result
   contents_read defined fails left failed read result is =
       says IsDefined IsDefined say (result_and_then (λ a. Ok (say a))) (λ a answer. ap (result_and_then (λ a. Ok (say a)))) (λ fault. refl) defined fails left failed read result (as_said read result is)
+
+-- what holds after `Ok` of what was read holds after `Ok` of what is made of it
+pub still : {A P : Type 0} (next : A → Result Contents ReadFault) (read : Result A ReadFault) (result : Result Contents ReadFault) → result ≡ result_and_then next read → OnOk read P → OnOk result P
+still next (Ok a) (Ok contents) is held = held
+still next (Ok a) (Err fault) is held = tt
+still next (Err fault) (Ok contents) is held = absurd cc
+still next (Err fault) (Err other) is held = tt

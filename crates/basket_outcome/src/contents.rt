@@ -30,6 +30,7 @@ pub enum Contents {
 impl Contents {
     /// Reads an input to its end, FIMI and counted sets by this many workers. In CSV the known names
     /// have the first numbers.
+    #[tactic(auto, using(crate::proofs::ContentsLemmas::still))]
     pub fn read<R: RandomSource + Threads + Sync, S: Source>(
         rt: &R,
         alloc: Global,

@@ -12,8 +12,8 @@ use Rattle.basket_outcome.specs.Outcome.{outcome_of}
 use Rattle.basket.proofs.ItemLemmas.{counts_report, csv_counted, csv_of, csv_outcome, memory_refuses, reader_refuses}
 use Rattle.basket.proofs.items.report_named_items.Goals as goal
 
-pub returns-in-Err : goal.returns-in-Err
-returns-in-Err g c =
+pub returns-in-Err-clause-made : goal.returns-in-Err-clause-made
+returns-in-Err-clause-made g c =
     let left = g.S.Source.left c.args.reader.now in
     let after = g.S.Source.left c.count_baskets.new.reader in
     let question = c.args.plan.now.question in
@@ -22,8 +22,8 @@ returns-in-Err g c =
     (λ fails. subst (λ (form : Form). FailsIn form left after c.in-Err.fault) (sym c.requires.records) fails)
     (rw (c.layout-layout.ensures, c.none-known.ensures) at c.in-Err.ensures.counted)
 
-pub returns-in-Ok-report_counts : goal.returns-in-Ok-report_counts
-returns-in-Ok-report_counts g c =
+pub returns-in-Ok-report_counts-clause-made : goal.returns-in-Ok-report_counts-clause-made
+returns-in-Ok-report_counts-clause-made g c =
     let left = g.S.Source.left c.args.reader.now in
     let question = c.args.plan.now.question in
     let counts = c.in-Ok.counted.0 in
@@ -35,8 +35,8 @@ returns-in-Ok-report_counts g c =
           ∙ ap (λ (l : Layout). report_of (wording_with l.separator (Some names)) (frequent_items_of baskets question.minimum)) c.layout-layout.ensures),
     )
 
-pub returns : goal.returns
-returns g c =
+pub returns-clause-made : goal.returns-clause-made
+returns-clause-made g c =
     let left = g.S.Source.left c.args.reader.now in
     let question = c.args.plan.now.question in
     let counts = c.in-Ok.counted.0 in
