@@ -1,5 +1,5 @@
-use basket_plan::{Form, Invocation, Layout, Task};
 use basket_look::ShellWord;
+use basket_plan::{Form, Invocation, Layout, Task};
 use std::alloc::{AllocError, Global};
 
 /// An input, as advice speaks of it: its file, if it isn't standard input, and how it is written.

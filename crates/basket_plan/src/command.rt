@@ -102,7 +102,9 @@ fn plain_words<'a>(alloc: Global, words: &[&'a str]) -> Result<Vec<&'a str>, All
     match words.split_first() {
         Some((first, rest)) if *first == "help" && rest.len() < 2 => {
             let mut plain = Vec::new(alloc);
-            if let Some(name) = rest.first() && *name != "help" {
+            if let Some(name) = rest.first()
+                && *name != "help"
+            {
                 plain.push(*name)?;
             }
             plain.push("--help")?;

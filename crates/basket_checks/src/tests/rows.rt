@@ -1,6 +1,6 @@
+use mine_rows::{BitRow, DiffList, Row as CoverRow, TidList, Weights};
 use std::alloc::{AllocError, Global};
 use std::test::Fail;
-use mine_rows::{BitRow, DiffList, Row as CoverRow, TidList, Weights};
 
 /// The supports of the sets 1 2, 1 3 and 1 2 3 in the nine baskets, by rows that are joined. The
 /// covers are the places of the baskets that have 1, 2 and 3, read off by hand.

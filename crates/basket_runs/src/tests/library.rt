@@ -21,11 +21,19 @@ fn answers<R: Threads + Sync>(rt: &R, alloc: Global) -> anyhow::Result<String> {
 
 fn add_rules(alloc: Global, frequent: &Frequent, lines: &mut String) -> anyhow::Result<()> {
     let closed = closed(alloc, frequent)?.len();
-    writeln!(lines, "{closed} of {} sets are closed", frequent.sets().len())?;
+    writeln!(
+        lines,
+        "{closed} of {} sets are closed",
+        frequent.sets().len()
+    )?;
     let confidence = Share::new(7, 10).unwrap();
     for rule in &rules(alloc, frequent, confidence)? {
         let (antecedent, consequent) = (rule.antecedent.items(), rule.consequent.items());
-        writeln!(lines, "{antecedent:?} => {consequent:?}: {}", rule.confidence)?;
+        writeln!(
+            lines,
+            "{antecedent:?} => {consequent:?}: {}",
+            rule.confidence
+        )?;
     }
     Ok(())
 }
@@ -44,7 +52,9 @@ fn the_program_of_the_library_page_finds_these_rules_and_sets(rt: HostRuntime) -
     let Ok(found) = answers(&rt, rt.alloc()) else {
         return Err(Fail::new(format_args!("it ends with a fault")));
     };
-    assert_eq!(rt; found.as_str(), "9 of 13 sets are closed\n\
+    assert_eq!(rt;
+        found.as_str(),
+        "9 of 13 sets are closed\n\
 [5] => [1]: 1/1\n\
 [4] => [2]: 1/1\n\
 [5] => [2]: 1/1\n\
@@ -63,6 +73,7 @@ fn the_program_of_the_library_page_finds_these_rules_and_sets(rt: HostRuntime) -
 [2, 4]: 2 of 9\n\
 [2, 5]: 2 of 9\n\
 [1, 2, 3]: 2 of 9\n\
-[1, 2, 5]: 2 of 9\n");
+[1, 2, 5]: 2 of 9\n"
+    );
     Ok(())
 }
