@@ -52,7 +52,7 @@ extend-requires g t c = λ κs lives.
     let inner : g.P.Projected.gives c.in-Some.inner (child node rank) = (rw c.in-Some.is at c.in_ok-below.ensures.below) node is.given in
     let less = fewer turn in
     let more = ap length c.in_ok-longer.ensures.sets ∙ length-append now.sets (one ∷ []) in
-    (omega (arith, c.decreases, less, ap length (g.met.P.Projected.ranks_are c.in-Some.inner (child node rank) inner), ap length (g.met.P.Projected.ranks_are c.args.base.now node is.given)), (lives.0, (lives.1.0, (lives.1.1, (omega (arith, c.in_ok-longer.ensures.place, more), ((child node rank, record { given = inner; is = below.inner }), (adds.going, rw c.in-Some.is at c.in_ok-below.ensures.inner)))))))
+    (omega (arith, c.decreases, less, ap length (g.met.P.Projected.ranks_are c.in-Some.inner (child node rank) inner), ap length (g.met.P.Projected.ranks_are c.args.base.now node is.given)), (lives.0, (lives.1.0, (lives.1.1.0, (lives.1.1.1, (omega (arith, c.in_ok-longer.ensures.place, more), ((child node rank, record { given = inner; is = below.inner }), (adds.going, rw c.in-Some.is at c.in_ok-below.ensures.inner))))))))
 
 pub returns-in_err-extend-clause-done : goal.returns-in_err-extend-clause-done
 returns-in_err-extend-clause-done g t c =

@@ -79,7 +79,7 @@ returns g c =
           | in_default w ↦ ap (λ tally. g.T.Tally.limit_of tally) w.tally-is ∙ c.add.ensures.limit
         ];
       });
-      work = λ over is. omega (arith, c.number_of.ensures, (found over is).worked, ap g.P.Projected.number c.add.ensures.steps, ap g.P.Projected.number c.in_ok-mined.ensures.steps);
+      work = λ over is. omega (arith, c.number_of-work.ensures, (found over is).worked, ap g.P.Projected.number c.add.ensures.steps, ap g.P.Projected.number c.in_ok-mined.ensures.steps);
       lent = λ inner is. elim c.match-below-4.branch [
         | in-Some+in_ok-extend w ↦
             subst (λ base. g.P.Projected.keeps base c.args.scratch.now c.match-below-4.scratch) (same_Some w.in-Some.inner inner (sym w.in-Some.is ∙ is))
