@@ -65,7 +65,16 @@ pub fn report_named_items<R: RandomSource + Threads + Sync, S: Source>(
         header: layout.header,
     };
     let known = Names::none(alloc);
-    let (counts, names) = match count_baskets(rt, alloc, reader, dialect, layout.weighted, known) {
+    let workers = plan.workers();
+    let (counts, names) = match count_baskets(
+        rt,
+        alloc,
+        reader,
+        dialect,
+        layout.weighted,
+        known,
+        workers,
+    ) {
         Ok(counted) => counted,
         Err(fault) => return Err(RunFault::Input(fault)),
     };

@@ -22,7 +22,7 @@ use Rattle.basket_csv.proofs.NamesLemmas.{numbers_stay, all_among}
 
 -- ---- one record more
 
-all_names_more : (weighted : Bool) (rows : List (List (List ℕ))) (row : List (List ℕ)) → all_names weighted (rows ++ row ∷ []) ≡ all_names weighted rows ++ names_in weighted row
+pub all_names_more : (weighted : Bool) (rows : List (List (List ℕ))) (row : List (List ℕ)) → all_names weighted (rows ++ row ∷ []) ≡ all_names weighted rows ++ names_in weighted row
 all_names_more weighted rows row = flat_map-append (names_in weighted) rows (row ∷ []) ∙ ap (λ ns. all_names weighted rows ++ ns) (append-nil (names_in weighted row))
 
 pub names_more : (weighted : Bool) (known : List (List ℕ)) (rows : List (List (List ℕ))) (row : List (List ℕ))
@@ -55,42 +55,35 @@ baskets_more weighted known rows row =
     flat_map-append (basket_of weighted new) rows (row ∷ []) ∙ ap (λ bs. flat_map (basket_of weighted new) rows ++ bs) (append-nil (basket_of weighted new row))
     ∙ ap (λ bs. bs ++ basket_of weighted new row) stay
 
--- what a record that was added or refused says of its fault
-abbrev pub FaultIs : {X : Type 0} → Result X ReadFault → Bool → ℕ → List (List ℕ) → Type 0
-FaultIs r weighted nth row = MatchResult r (λ _. basket_fault weighted nth row ≡ None) (λ fault. ReturnsFault fault (basket_fault weighted nth row))
-
 -- how many fields come before the names, as a number in the code
 pub before_names : (weighted : Bool) (first : ℕ) → first ≡ bool_byte weighted → first ≡ fields_before weighted
 before_names true first e = e
 before_names false first e = e
 
 -- a record of texts with a weight has no fault
-pub no_fault : {X : Type 0} (weighted : Bool) (nth : ℕ) (row : List (List ℕ)) (first weight : ℕ) (r : Result X ReadFault)
+pub no_fault : (weighted : Bool) (nth : ℕ) (row : List (List ℕ)) (first weight : ℕ)
     → first ≡ fields_before weighted → true ≡ is_text (drop first row) → is_text row ≡ is_text (drop (fields_before weighted) row) → Some weight ≡ weight_of weighted row
-    → IfErr r (λ fault. fault ≡ Memory) → FaultIs r weighted nth row
-no_fault weighted nth row first weight (Err fault) f text whole w err = λ some. absurd (some err)
-no_fault weighted nth row first weight (Ok x) f text whole w err =
+    → basket_fault weighted nth row ≡ None
+no_fault weighted nth row first weight f text whole w =
     let is : is_text row ≡ true = whole ∙ ap (λ n. is_text (drop n row)) (sym f) ∙ sym text in
     ap (λ b. cond b (weight_fault nth (weight_of weighted row)) (Some (NotText nth))) is ∙ ap (weight_fault nth) (sym w)
 
 -- a record was added: its basket comes after those before
-pub added : {X : Type 0} (old new : Baskets) (start : Start) (rows : List (List (List ℕ))) (row : List (List ℕ)) (first weight : ℕ) (numbers : List ℕ) (r : Result X ReadFault)
-    → first ≡ fields_before old.weighted → Some weight ≡ weight_of old.weighted row → new.weighted ≡ old.weighted
-    → new.names ≡ fold with_name old.names (names_of (drop first row)) → numbers ≡ map (number_in new.names) (names_of (drop first row))
+pub added : {X : Type 0} (old new : Baskets) (start : Start) (rows : List (List (List ℕ))) (row : List (List ℕ)) (weight : ℕ) (numbers : List ℕ) (r : Result X ReadFault)
+    → Some weight ≡ weight_of old.weighted row → new.weighted ≡ old.weighted
+    → new.names ≡ fold with_name old.names (names_in old.weighted row) → numbers ≡ map (number_in new.names) (names_in old.weighted row)
     → ((counting : Bool) (baskets : List Weighted) → HasGathered old.gathered counting baskets → OnOk r (HasGathered new.gathered counting (baskets ++ basket_of_numbers numbers weight)))
     → HasRead old start rows → OnOk r (HasRead new start (rows ++ row ∷ []))
-added old new start rows row first weight numbers (Err fault) f w same names ns gathers h = tt
-added old new start rows row first weight numbers (Ok x) f w same names ns gathers h =
+added old new start rows row weight numbers (Err fault) w same names ns gathers h = tt
+added old new start rows row weight numbers (Ok x) w same names ns gathers h =
     let weighted = start.weighted in
     let known = start.known in
-    let before : first ≡ fields_before weighted = f ∙ ap fields_before h.weighted in
-    let has_weight : Some weight ≡ weight_of weighted row = w ∙ ap (λ b. weight_of b row) h.weighted in
     let order = in_order (known ++ all_names weighted (rows ++ row ∷ [])) in
     let all : new.names ≡ order =
-    names ∙ ap (λ n. fold with_name old.names (names_of (drop n row))) before ∙ ap (λ o. fold with_name o (names_in weighted row)) h.names ∙ sym (names_more weighted known rows row) in
+    names ∙ ap (λ b. fold with_name old.names (names_in b row)) h.weighted ∙ ap (λ o. fold with_name o (names_in weighted row)) h.names ∙ sym (names_more weighted known rows row) in
     let basket : basket_of_numbers numbers weight ≡ basket_of weighted order row =
-    ap (λ k. basket_of_numbers k weight) (ns ∙ ap (λ n. map (number_in new.names) (names_of (drop n row))) before ∙ ap (λ o. map (number_in o) (names_in weighted row)) all)
-    ∙ ap (λ o. basket_of_numbers (map (number_in order) (names_in weighted row)) (unwrap_or o 1)) has_weight in
+    ap (λ k. basket_of_numbers k weight) (ns ∙ ap (λ b. map (number_in new.names) (names_in b row)) h.weighted ∙ ap (λ o. map (number_in o) (names_in weighted row)) all)
+    ∙ ap (λ o. basket_of_numbers (map (number_in order) (names_in weighted row)) (unwrap_or o 1)) (w ∙ ap (λ b. weight_of b row) h.weighted) in
     record {
       weighted = same ∙ h.weighted;
       names = all;

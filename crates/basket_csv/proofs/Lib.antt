@@ -4,6 +4,8 @@ mod KeyLemmas
 mod RecentLemmas
 mod FieldLemmas
 mod RecordLemmas
+mod PartLemmas
+mod CutLemmas
 mod RowLemmas
 mod BasketLemmas
 mod ReadLemmas
@@ -11,3 +13,7 @@ mod CountLemmas
 mod PairLemmas
 mod LawLemmas
 mod NamedLemmas
+mod TogetherLemmas
+mod InPartsLemmas
+mod GatherLemmas
+mod SharedLemmas

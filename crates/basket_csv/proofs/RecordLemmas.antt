@@ -1,7 +1,9 @@
 -- A record takes two bytes, except that the last may take one, so that a text has only so many.
 use Rattle.std.proofs.Common.{◌≡◌, ℕ, zero, suc, ◌+◌, ◌-◌, ◌*◌, ◌≤◌, ◌<◌, Bool, true, false, cond, eqb, ◌&&◌, List, [], ◌∷◌, ◌++◌, length, Option, Some, None, unwrap_or, Bor, refl, sym, ap, ◌∙◌, subst, arith}
 use Rattle.csv.specs.Machine.{Read, next_record, step, in_field, start_field, start_record, after_end, ends_with, is_byte, ends_at_end, is_end, fields_after, field_after}
-use Rattle.csv.specs.Reading.{records_from, records_next, source_of, ReadRecord, Reached, strip_bom, is_bom}
+use Rattle.std.specs.Prelude.{slice_get}
+use Rattle.csv.specs.Records.{field_at}
+use Rattle.csv.specs.Reading.{records, records_from, records_next, source_of, ReadRecord, Reached, strip_bom, is_bom}
 use Rattle.csv.specs.declared.reader.Reader.{Reader}
 use Rattle.csv.proofs.ReadFacts.{rows-more, rows-end}
 use Rattle.csv.specs.declared.parser.Config.{Config}
@@ -13,7 +15,7 @@ use Rattle.csv.specs.declared.parser.Terminator.{Terminator}
 use Rattle.csv.specs.declared.parser.Terminator.TheVariants as term
 use Rattle.basket_read.specs.Fimi.{MOST_BYTES}
 use Rattle.basket_csv.specs.Csv.{after_header}
-use Rattle.basket_csv.specs.Records.{MOST_RECORDS, config_of, records_of}
+use Rattle.basket_csv.specs.Records.{MOST_RECORDS, config_of, last_after, may_go_on, records_of}
 
 -- a step that ends a record leaves a state at which the end of the text ends none
 abbrev Ends : State × Action → Type 0
@@ -78,7 +80,7 @@ leaves cfg s fields field (c ∷ bytes) read e =
 -- ---- the records of a text, of which no more are read than it has bytes
 
 -- a record that was read of some bytes leaves fewer
-fewer_left : (cfg : Config) (s : State) (bytes : List ℕ) (read : Read) → ends_at_end s ≡ false → next_record cfg s [] [] bytes ≡ Some read → length read.2 < length bytes
+pub fewer_left : (cfg : Config) (s : State) (bytes : List ℕ) (read : Read) → ends_at_end s ≡ false → next_record cfg s [] [] bytes ≡ Some read → length read.2 < length bytes
 unfolding next_record
 fewer_left cfg s [] read begins e =
     let none : next_record cfg s [] [] [] ≡ None = ap (λ b. cond b (Some ([] ++ ([] ∷ []), st.StartRecord, [])) None) begins in
@@ -239,23 +241,57 @@ stripped (a ∷ b ∷ c ∷ bytes) = stripped_mark a b c bytes (is_bom a b c)
 pub known_bytes : (o : Option (List ℕ)) (bytes : List ℕ) → o ≡ Some bytes → o ≡ Some (unwrap_or o [])
 known_bytes o bytes e = e ∙ ap (λ p. Some (unwrap_or p [])) (sym e)
 
--- a reader of bytes in memory has half as many records left as bytes at most, rounded up
-pub few_left : (r : Reader (Bor (List ℕ))) (bytes : List ℕ) → ends_at_end r.state ≡ false → source_of (λ s. Some s.now) r ≡ Some bytes
-    → 2 * length (records_from r.config (length (unwrap_or (source_of (λ s. Some s.now) r) []) + 1) r.state (unwrap_or (source_of (λ s. Some s.now) r) [])) ≤ length bytes + 1
-few_left r bytes begins e =
-    let few = few_records r.config (length (left r) + 1) r.state (left r) begins in
-    let same : length (left r) ≡ length bytes = ap (λ o. length (unwrap_or o [])) e in
-    omega (arith, few, same)
+-- a new reader of bytes in memory has all their records left
+pub all_left : (r : Reader (Bor (List ℕ))) (cfg : Config) (bytes : List ℕ) → r.config ≡ cfg → r.state ≡ st.StartRecord → source_of (λ s. Some s.now) r ≡ Some bytes
+    → records_from r.config (length (unwrap_or (source_of (λ s. Some s.now) r) []) + 1) r.state (unwrap_or (source_of (λ s. Some s.now) r) []) ≡ records cfg bytes
+all_left r cfg bytes config state e =
+    ap (λ o. records_from r.config (length (unwrap_or o []) + 1) r.state (unwrap_or o [])) e ∙ ap (λ s. records_from r.config (length bytes + 1) s bytes) state
+    ∙ ap (λ cfg. records_from cfg (length bytes + 1) st.StartRecord bytes) config
 
 -- a text that is not too long has no more records than that
-pub few_of_text : (separator : ℕ) (header : Bool) (bytes : List ℕ) → length bytes ≤ MOST_BYTES → length (after_header header (records_of separator bytes)) ≤ MOST_RECORDS
-few_of_text separator header bytes short =
+pub few_records_of : (separator : ℕ) (bytes : List ℕ) → length bytes ≤ MOST_BYTES → length (records_of separator bytes) ≤ MOST_RECORDS
+few_records_of separator bytes short =
     let few = few_records (config_of separator) (length (strip_bom bytes) + 1) st.StartRecord (strip_bom bytes) refl in
     let less = stripped bytes in
-    let all : length (records_of separator bytes) ≤ MOST_RECORDS = omega (arith, few, less, short) in
-    at header (records_of separator bytes) all
+    omega (arith, few, less, short)
+
+pub few_of_text : (separator : ℕ) (header : Bool) (bytes : List ℕ) → length bytes ≤ MOST_BYTES → length (after_header header (records_of separator bytes)) ≤ MOST_RECORDS
+few_of_text separator header bytes short = at header (records_of separator bytes) (few_records_of separator bytes short)
   where
     at : (header : Bool) (rows : List (List (List ℕ))) → length rows ≤ MOST_RECORDS → length (after_header header rows) ≤ MOST_RECORDS
     at false rows few = few
     at true [] few = few
     at true (row ∷ rows) few = omega (arith, few)
+
+-- ---- how a record ends
+
+last_field : (field : List ℕ) (fields : List (List ℕ)) → field_at (field ∷ fields) (length fields) ≡ Some (last_after field fields)
+unfolding field_at
+last_field field [] = refl
+last_field field (next ∷ fields) = last_field next fields
+
+last_byte : (byte : ℕ) (bytes : List ℕ) → slice_get (byte ∷ bytes) (length bytes) ≡ Some (last_after byte bytes)
+last_byte byte [] = refl
+last_byte byte (next ∷ bytes) = last_byte next bytes
+
+last_in : (field : List ℕ) → unwrap_or (slice_get field (length field - 1)) 0 ≡ last_after 0 field
+last_in [] = refl
+last_in (byte ∷ bytes) =
+    let place : length (byte ∷ bytes) - 1 ≡ length bytes = omega arith in
+    ap (λ n. unwrap_or (slice_get (byte ∷ bytes) n) 0) place ∙ ap (λ o. unwrap_or o 0) (last_byte byte bytes)
+
+-- a record may go on if its last field has a last byte, which is a line feed
+pub some_field : (fields : List (List ℕ)) (place : ℕ) (field : List ℕ) (byte : Option ℕ) → place ≡ length fields - 1 → Some field ≡ field_at fields place
+    → byte ≡ slice_get field (length field - 1) → may_go_on fields ≡ eqb (unwrap_or byte 0) 10
+unfolding field_at
+some_field [] place field byte at_place is ends = absurd cc
+some_field (first ∷ fields) place field byte at_place is ends =
+    let last : place ≡ length fields = omega (arith, at_place) in
+    let same : last_after first fields ≡ field = ap (λ o. unwrap_or o []) (sym (is ∙ ap (field_at (first ∷ fields)) last ∙ last_field first fields)) in
+    ap (λ f. eqb (last_after 0 f) 10) same ∙ ap (λ c. eqb c 10) (sym (last_in field)) ∙ ap (λ o. eqb (unwrap_or o 0) 10) (sym ends)
+
+pub no_field : (fields : List (List ℕ)) (place : ℕ) → place ≡ length fields - 1 → None ≡ field_at fields place → may_go_on fields ≡ false
+no_field [] place at_place is = refl
+no_field (first ∷ fields) place at_place is =
+    let last : place ≡ length fields = omega (arith, at_place) in
+    absurd (let none : ◌≡◌ {A = Option (List ℕ)} None (Some (last_after first fields)) = is ∙ ap (field_at (first ∷ fields)) last ∙ last_field first fields in cc)

@@ -4,12 +4,16 @@ pub mod Key
 pub mod Recent
 pub mod Records
 pub mod Csv
+pub mod Parts
 pub mod Row
 pub mod RecordCollector
 pub mod Baskets
 pub mod Counts
 pub mod Read
 pub mod Pairs
+pub mod Part
+pub mod Renumbered
+pub mod Shared
 pub mod Worked
 pub mod Named
 pub mod Laws

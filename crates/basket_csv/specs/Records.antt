@@ -1,11 +1,24 @@
 -- The records of a CSV text.
-use Rattle.std.specs.Prelude.{◌≡◌, ◌≤◌, ℕ, ◌+◌, true, false, List, [], length, Option, Some, unwrap_or}
+use Rattle.std.specs.Prelude.{◌≡◌, ◌≤◌, ℕ, ◌+◌, Bool, true, false, List, [], length, fold, Option, Some, unwrap_or}
 use Rattle.csv.specs.Machine.{ends_at_end}
 use Rattle.csv.specs.Reading.{Ready, source_of, default_config, records, records_from, strip_bom, is_flexible, reader_config, reader_state, reader_trim}
 use Rattle.csv.specs.Records.{fields_of}
 use Rattle.csv.specs.declared.parser.Config.{Config}
 use Rattle.csv.specs.declared.reader.Trim.TheVariants as trim
+use Rattle.basket_read.specs.Fimi.{is_line_feed}
 use Rattle.basket_csv.specs.declared.records.Records.{Records}
+
+-- the last of a list, and of an empty one what stands before it
+abbrev pub last_after : {X : Type 0} → X → List X → X
+last_after before xs = fold (λ _ x. x) before xs
+
+-- whether a record may go on after a text that ends with a line feed: its last field does too
+abbrev pub may_go_on : List (List ℕ) → Bool
+may_go_on row = is_line_feed (last_after 0 (last_after [] row))
+
+-- whether the last of some records may, and if there is none what was so before
+abbrev pub last_may_go_on : Bool → List (List (List ℕ)) → Bool
+last_may_go_on before rows = fold (λ _ row. may_go_on row) before rows
 
 -- how `csv` reads with a separator
 abbrev pub config_of : ℕ → Config
@@ -28,6 +41,10 @@ records_left r = records_from (reader_config r.reader) (length (bytes_left r) + 
 
 abbrev pub records_taken : Records → ℕ
 records_taken r = r.taken
+
+-- whether the record that was read last may go on after the bytes
+abbrev pub goes_on : Records → Bool
+goes_on r = r.goes_on
 
 abbrev pub record_read : Records → List (List ℕ)
 record_read r = fields_of r.row

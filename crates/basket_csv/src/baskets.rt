@@ -1,8 +1,11 @@
 //! Records that have a basket each.
-ghost use Rattle.std.specs.Prelude.{◌≡◌, ◌≤◌, [], drop, MatchResult, IfOk, IfErr, IfSome, false};
+ghost use Rattle.std.specs.Prelude.{◌≡◌, ◌≢◌, ◌≤◌, [], drop, fold, map, MatchResult, OnOk, IfOk, IfErr, IfSome, None, Some, false};
 ghost use Rattle.csv.specs.Records.{fields_of};
+ghost use Rattle.basket_read.specs.Fault.{ReturnsFault};
+ghost use Rattle.basket_read.specs.declared.fault.ReadFault.TheVariants.{Read};
 ghost use Rattle.basket_csv.specs.RecordCollector.{Start};
-ghost use Rattle.basket_csv.specs.Csv.{Named, is_text, weight_of, weight_written, fields_before, basket_fault, baskets_said};
+ghost use Rattle.basket_csv.specs.Csv.{Named, is_text, weight_of, weight_written, names_in, fields_before, basket_fault, baskets_said};
+ghost use Rattle.basket_csv.specs.Names.{number_in, with_name};
 ghost use Rattle.basket_csv.specs.Baskets.{AreNamedCounts, HasRead};
 
 use crate::collector::RecordCollector;
@@ -38,6 +41,34 @@ fn weight_of(weighted: bool, nth: u32, row: &ByteRecord) -> Result<Option<u32>, 
     match text_at(row, 0) {
         Some(text) => Ok(weight_in(trim(text).as_bytes())),
         None => Err(ReadFault::NotText { nth }),
+    }
+}
+
+/// Numbers the names of a record, and returns its weight. If it has a fault, `names` and `numbers` are
+/// lost.
+#[inline]
+pub fn number_basket(
+    weighted: bool,
+    nth: u32,
+    row: &ByteRecord,
+    names: &mut Numbering,
+    numbers: &mut Vec<u32>,
+) -> Result<u32, ReadFault>
+    ensures fault { MatchResult result (λ _. basket_fault weighted nth (fields_of row.now) ≡ None) (λ fault. ReturnsFault fault (basket_fault weighted nth (fields_of row.now))) }
+    ensures names { OnOk result (names.new ≡ fold with_name names.old (names_in weighted (fields_of row.now))) }
+    ensures numbers { OnOk result (numbers.new.items ≡ map (number_in names.new) (names_in weighted (fields_of row.now))) }
+    ensures weight { IfOk result (λ weight. Some weight ≡ weight_of weighted (fields_of row.now)) }
+    ensures some { IfOk result (λ weight. 1 ≤ weight) }
+    ensures not_read { IfErr result (λ fault. fault ≢ Read) }
+{
+    let weight = weight_of(weighted, nth, row)?;
+    let first = usize::from(weighted);
+    if !number_names(row, first, names, numbers)? {
+        return Err(ReadFault::NotText { nth });
+    }
+    match weight {
+        Some(weight) => Ok(weight),
+        None => Err(ReadFault::Weight { nth }),
     }
 }
 
@@ -86,15 +117,8 @@ impl RecordCollector for Baskets {
     ghost has_read = { λ baskets start rows. HasRead baskets start rows };
 
     fn add(&mut self, nth: u32, row: &ByteRecord) -> Result<(), ReadFault> {
-        let weight = weight_of(self.weighted, nth, row)?;
-        let first = usize::from(self.weighted);
-        if !number_names(row, first, &mut self.names, &mut self.numbers)? {
-            return Err(ReadFault::NotText { nth });
-        }
-        match weight {
-            Some(weight) => self.gathered.add(&self.numbers, weight),
-            None => Err(ReadFault::Weight { nth }),
-        }
+        let weight = number_basket(self.weighted, nth, row, &mut self.names, &mut self.numbers)?;
+        self.gathered.add(&self.numbers, weight)
     }
 
     fn finish(self) -> Result<(ItemCounts, Names), ReadFault> {

@@ -12,11 +12,15 @@ mod key;
 pub mod laws;
 mod names;
 mod pairs;
+mod part;
+mod parts;
 mod read;
 mod recent;
 mod records;
+mod renumbered;
 mod row;
 mod seed;
+mod shared;
 pub mod worked;
 
 pub use dialect::Dialect;

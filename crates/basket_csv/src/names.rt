@@ -1,5 +1,5 @@
 //! Names, and their numbers by first appearance.
-ghost use Rattle.std.specs.Prelude.{◌≡◌, ◌↔◌, [], length, slice_get, option_map, IsTrue, IfOk, IfErr, IfSome, OnOk};
+ghost use Rattle.std.specs.Prelude.{◌≡◌, ◌↔◌, [], fold, length, map, slice_get, option_map, IsTrue, IfOk, IfErr, IfSome, OnOk};
 ghost use Rattle.basket_csv.specs.Key.{IsKeyOf};
 ghost use Rattle.basket_csv.specs.Names.{in_order, number_in, with_name, IsKnown};
 ghost use Rattle.basket_csv.specs.Recent.{IsNumberAt};
@@ -165,6 +165,19 @@ impl Numbering {
             names,
             recent: Recent::new(alloc),
         })
+    }
+
+    /// The numbers of some names, which are new or known.
+    pub fn numbers_of(&mut self, names: &Names) -> Result<Vec<u32>, ReadFault>
+        ensures names { OnOk result (self.new ≡ fold with_name self.old names.now) }
+        ensures numbers { IfOk result (λ numbers. numbers.items ≡ map (number_in self.new) names.now) }
+        ensures err { IfErr result (λ fault. fault ≡ ReadFault.Memory) }
+    {
+        let mut numbers = Vec::with_capacity(self.alloc, names.len())?;
+        for name in &names.names {
+            numbers.push(self.number(name.as_str())?)?;
+        }
+        Ok(numbers)
     }
 
     /// The names by their numbers.

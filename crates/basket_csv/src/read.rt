@@ -6,49 +6,58 @@ ghost use Rattle.basket_read.specs.Fault.{Reads, IsDefined, AreDefined, IsRead};
 ghost use Rattle.basket_csv.specs.Read.{AreCountsNamed};
 ghost use Rattle.basket_read.specs.ItemCounts.{AreLightCounts};
 
-use crate::baskets::Baskets;
 use crate::collector::say;
 use crate::counts::Counts;
 use crate::dialect::Dialect;
 use crate::names::Names;
 use crate::pairs::Pairs;
 use crate::seed::Seed;
+use crate::shared::{Reading, say_shared};
 use basket_read::{CountedLine, ItemCounts, ReadFault, take_in};
 use basket_sets::Database;
 use basket_stream::Source;
 use std::alloc::Global;
 use std::random::RandomSource;
+use std::thread::Threads;
 
-/// Reads a CSV input to its end. Each record is a basket of names: its fields, without the
-/// spaces and tabs at their ends and without the empty ones. With `weight` the first field of each
-/// record except the header is the basket's weight. The known names keep their numbers, and new
-/// ones are numbered after them.
-pub fn read_baskets<R: RandomSource, S: Source>(
+/// Reads a CSV input to its end, by this many workers. Each record is a basket of names: its fields,
+/// without the spaces and tabs at their ends and without the empty ones. With `weight` the first
+/// field of each record except the header is the basket's weight. The known names keep their
+/// numbers, and new ones are numbered after them.
+pub fn read_baskets<R: RandomSource + Threads + Sync, S: Source>(
     rt: &R,
     alloc: Global,
     reader: &mut S,
     dialect: Dialect,
     weight: bool,
     known: Names,
+    workers: u32,
 ) -> Result<(Database, Names), ReadFault>
     requires { S.has_failed reader.old ≡ false }
     ensures read { Reads IsDefined (baskets_of_csv dialect.separator dialect.header weight known) IsRead (S.left reader.old) (S.has_failed reader.new) result }
     ensures ended { OnOk result (S.at_end reader.new ≡ true) }
 {
     let bytes = take_in(alloc, reader)?;
-    let baskets = Baskets::new(alloc, Seed::new(rt), weight, known, false)?;
-    let (counts, names) = say(alloc, &bytes, dialect, baskets)?;
+    let reading = Reading {
+        alloc,
+        seed: Seed::new(rt),
+        dialect,
+        weighted: weight,
+        counting: false,
+    };
+    let (counts, names) = say_shared(rt, reading, &bytes, known, workers)?;
     Ok((counts.rest, names))
 }
 
 /// Reads a CSV input to its end, as `read_baskets` does, and counts the items of its baskets.
-pub fn count_baskets<R: RandomSource, S: Source>(
+pub fn count_baskets<R: RandomSource + Threads + Sync, S: Source>(
     rt: &R,
     alloc: Global,
     reader: &mut S,
     dialect: Dialect,
     weight: bool,
     known: Names,
+    workers: u32,
 ) -> Result<(ItemCounts, Names), ReadFault>
     requires { S.has_failed reader.old ≡ false }
     ensures counted { Reads AreCountsNamed (baskets_of_csv dialect.separator dialect.header weight known) IsRead (S.left reader.old) (S.has_failed reader.new) result }
@@ -56,8 +65,14 @@ pub fn count_baskets<R: RandomSource, S: Source>(
     ensures light { IfOk result (λ counted. AreLightCounts counted.0) }
 {
     let bytes = take_in(alloc, reader)?;
-    let baskets = Baskets::new(alloc, Seed::new(rt), weight, known, true)?;
-    say(alloc, &bytes, dialect, baskets)
+    let reading = Reading {
+        alloc,
+        seed: Seed::new(rt),
+        dialect,
+        weighted: weight,
+        counting: true,
+    };
+    say_shared(rt, reading, &bytes, known, workers)
 }
 
 /// Reads a CSV input to its end. Each record is a pair: the id of a basket and a name in it,

@@ -1,11 +1,16 @@
-use Rattle.std.proofs.Common.{true, refl}
-use Rattle.basket_csv.proofs.ReadLemmas.{counted, reads, starting}
+use Rattle.std.proofs.Common.{◌≤◌, true, length, subst}
+use Rattle.std.proofs.lemmas.Result.{on_ok_weaker}
+use Rattle.basket_read.specs.Fimi.{MOST_BYTES}
+use Rattle.basket_csv.proofs.ReadLemmas.{counted, reads}
 use Rattle.basket_csv.proofs.read.count_baskets.Goals as goal
 
-pub say-requires : goal.say-requires
-say-requires g c = (starting c.args.dialect.header c.args.weight c.args.known true, refl, c.in_ok-baskets.ensures.read _ refl refl refl)
+pub returns-clause-counted : goal.returns-clause-counted
+returns-clause-counted g c =
+    let (read, light) = counted true c.say_shared.result _ c.say_shared.ensures.said in
+    reads _ _ _ _ _ _ _ c.deref.ensures.value c.in_ok-bytes.ensures.taken c.say_shared.ensures.not_read read
 
-pub returns : goal.returns
-returns g c =
-    let (read, light) = counted true c.say.result _ (c.say.ensures.said (starting c.args.dialect.header c.args.weight c.args.known true) refl (c.in_ok-baskets.ensures.read _ refl refl refl)) in
-    record { counted = reads _ _ _ _ _ _ _ c.deref.ensures.value c.in_ok-bytes.ensures c.say.ensures.not_read read; light = light }
+pub returns-clause-ended : goal.returns-clause-ended
+returns-clause-ended g c = on_ok_weaker c.say_shared.result (λ short. c.in_ok-bytes.ensures.ended (subst (λ l. length l ≤ MOST_BYTES) c.deref.ensures.value short)) c.say_shared.ensures.within
+
+pub returns-clause-light : goal.returns-clause-light
+returns-clause-light g c = (counted true c.say_shared.result _ c.say_shared.ensures.said).1

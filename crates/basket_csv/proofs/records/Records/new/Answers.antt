@@ -1,7 +1,9 @@
-use Rattle.std.proofs.Common.{inr, ap, ◌∙◌, arith}
+use Rattle.std.proofs.Common.{length, inr, ap, ◌∙◌, arith}
 use Rattle.csv.specs.Machine.{ends_at_end}
-use Rattle.csv.specs.Reading.{strip_bom, builder_is_flexible, builder_trim, builder_names_headers}
-use Rattle.basket_csv.proofs.RecordLemmas.{stripped, few_left, known_bytes}
+use Rattle.csv.specs.Reading.{strip_bom, builder_config, builder_is_flexible, builder_trim, builder_names_headers}
+use Rattle.csv.specs.declared.parser.Config.{Config}
+use Rattle.basket_csv.specs.Records.{config_of}
+use Rattle.basket_csv.proofs.RecordLemmas.{all_left, known_bytes}
 use Rattle.basket_csv.proofs.records.Records.new.Goals as goal
 
 pub returns-clause-reading : goal.returns-clause-reading
@@ -15,8 +17,9 @@ returns-clause-reading c =
       begins = begins;
       known = known_bytes _ (strip_bom c.args.bytes.now) fr.source;
       few =
-          let some = few_left c.from_reader-reader.result (strip_bom c.args.bytes.now) begins fr.source in
-          let less = stripped c.args.bytes.now in
+          let config = fr.config ∙ ap builder_config c.flexible.ensures ∙ ap builder_config c.has_headers.ensures ∙ ap builder_config c.delimiter.ensures
+          ∙ ap (λ (cfg : Config). record cfg { delimiter = c.args.separator }) c.new.ensures.config in
+          let all = ap length (all_left c.from_reader-reader.result (config_of c.args.separator) (strip_bom c.args.bytes.now) config fr.state fr.source) in
           let few = c.requires in
-          omega (arith, some, less, few);
+          omega (arith, all, few);
     }

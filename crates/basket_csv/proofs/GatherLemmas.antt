@@ -1,0 +1,255 @@
+-- The baskets of parts, one after another.
+use Rattle.std.proofs.Common.{◌≡◌, ◌≢◌, ℕ, suc, ◌+◌, ◌≤◌, ◌<◌, Bool, true, false, cond, List, [], ◌∷◌, ◌++◌, Option, Some, None, Result, Ok, Err, ◌⊎◌, drop, get_or, leb, length, ltb, map, take, unwrap_or, refl, sym, ap, ◌∙◌, subst, append_assoc, append-nil, inl, inr, arith}
+use Rattle.std.specs.List.{flat_map, list_all}
+use Rattle.std.specs.Result.{OnOk}
+use Rattle.std.proofs.lemmas.Bool.{and_parts, cases_Bool, le-leb, leb-false, leb-true, ltb-true}
+use Rattle.std.proofs.lemmas.List.{at_drop_more, get_or-map, length-append, length-map, length-take, take-append-drop, take_more}
+use Rattle.std.proofs.lemmas.List.Concat.{flat_map-append}
+use Rattle.std.proofs.lemmas.List.Folds.{list_all-append}
+use Rattle.basket_sets.specs.declared.weighted.Weighted.{Weighted}
+use Rattle.basket_sets.specs.Database.{MOST_BASKETS, MOST_WEIGHT}
+use Rattle.basket_sets.specs.ItemTable.{HasCounted}
+use Rattle.basket_sets.specs.Number.{number_of}
+use Rattle.basket_sets.specs.Support.{total_of}
+use Rattle.basket_sets.proofs.theory.Support.{support-append}
+use Rattle.basket_read.specs.Fimi.{basket_of_numbers, if_light, MOST_NUMBER}
+use Rattle.basket_read.specs.declared.fault.ReadFault.{ReadFault}
+use Rattle.basket_read.specs.declared.fault.ReadFault.TheVariants.{Heavy, Memory}
+use Rattle.basket_read.specs.Fault.{ReturnsBy}
+use Rattle.basket_read.specs.declared.item_counts.ItemCounts.{ItemCounts}
+use Rattle.basket_read.specs.GatheredBaskets.{AreGathered, Gathers, HasGathered}
+use Rattle.basket_read.specs.declared.gathered.GatheredBaskets.{GatheredBaskets}
+use Rattle.basket_read.proofs.theory.Numbers.{one_basket}
+use Rattle.basket_read.proofs.theory.Gathered.{kept_few, one_each}
+use Rattle.basket_csv.specs.declared.part.RecordSize.{RecordSize}
+use Rattle.basket_csv.specs.declared.renumbered.RenumberedRecords.{RenumberedRecords}
+use Rattle.basket_csv.specs.Csv.{all_names, basket_of, field_in, names_in, positive, weight_of}
+use Rattle.basket_csv.specs.Field.{trimmed}
+use Rattle.basket_csv.specs.Names.{number_in}
+use Rattle.basket_csv.specs.Part.{InParts, Rows, size_of}
+use Rattle.basket_csv.specs.Renumbered.{AreRenumbered, GathersParts, HaveRows}
+use Rattle.basket_csv.proofs.InPartsLemmas.{in_halves}
+
+-- a list whose images are those of two lists is cut between them
+cut_images : {X Y : Type 0} (f : X → ℕ) (g : Y → ℕ) (left : List X) (own rest : List Y) → map f left ≡ map g (own ++ rest)
+    → (map f (take (length own) left) ≡ map g own) × (map f (drop (length own) left) ≡ map g rest)
+cut_images f g left [] rest e = (refl, e)
+cut_images f g [] (y ∷ own) rest e = absurd cc
+cut_images f g (x ∷ left) (y ∷ own) rest e =
+    let head : f x ≡ g y = cc in
+    let tail : map f left ≡ map g (own ++ rest) = cc in
+    let h = cut_images f g left own rest tail in
+    (ap (λ n. n ∷ map f (take (length own) left)) head ∙ ap (λ ns. g y ∷ ns) h.0, h.1)
+
+-- a record's weight is at least 1
+some_weight : (number : Option ℕ) → 1 ≤ unwrap_or (positive number) 1
+some_weight None = omega arith
+some_weight (Some number) = elim (cases_Bool (ltb 0 number)) [
+  | inl e ↦ let some = ltb-true 0 number e in subst (λ b. 1 ≤ unwrap_or (cond b (Some number) None) 1) (sym e) some
+  | inr e ↦ subst (λ b. 1 ≤ unwrap_or (cond b (Some number) None) 1) (sym e) (omega arith)
+]
+
+weighs : (weighted : Bool) (row : List (List ℕ)) → 1 ≤ unwrap_or (weight_of weighted row) 1
+weighs true row = some_weight (number_of MOST_NUMBER (trimmed (field_in row 0)))
+weighs false row = omega arith
+
+module _ (weighted : Bool) (names : List (List ℕ)) (renumbering : List ℕ) (counting : Bool) (baskets : List Weighted) (rows : Rows) where
+  -- the baskets of the records up to a place were gathered, and these are the numbers of the others
+  pub record GathersUpTo (at : ℕ) (now : GatheredBaskets) (rest : List ℕ) : Type 0 where
+    pub gathered : HasGathered now counting (baskets ++ flat_map (basket_of weighted names) (take at rows))
+    pub left : map (λ number. get_or renumbering number 0) rest ≡ map (number_in names) (all_names weighted (drop at rows))
+    pub below : list_all (λ number. ltb number (length renumbering)) rest ≡ true
+
+  module _ (at : ℕ) (gathered : GatheredBaskets) (left : List ℕ) (sizes : List RecordSize) (size none : RecordSize) (within : at < length sizes) (same : sizes ≡ map (size_of weighted) rows)
+      (is : size ≡ get_or sizes at none) (h : GathersUpTo at gathered left) where
+    abbrev row : List (List ℕ)
+    row = get_or rows at []
+
+    inside : at < length rows
+    inside = let long = ap length same ∙ length-map rows (size_of weighted) in omega arith
+
+    own_size : size ≡ size_of weighted row
+    own_size = is ∙ ap (λ s. get_or s at none) same ∙ get_or-map (size_of weighted) rows at [] none inside
+
+    here : map (λ number. get_or renumbering number 0) left ≡ map (number_in names) (names_in weighted row ++ all_names weighted (drop (at + 1) rows))
+    here = h.left ∙ ap (map (number_in names)) (at_drop_more (all_names weighted) rows at [] inside)
+
+    parts : (map (λ number. get_or renumbering number 0) (take size.names left) ≡ map (number_in names) (names_in weighted row))
+        × (map (λ number. get_or renumbering number 0) (drop size.names left) ≡ map (number_in names) (all_names weighted (drop (at + 1) rows)))
+    parts =
+        subst (λ n. (map (λ number. get_or renumbering number 0) (take n left) ≡ map (number_in names) (names_in weighted row)) × (map (λ number. get_or renumbering number 0) (drop n left) ≡ map (number_in names) (all_names weighted (drop (at + 1) rows))))
+        (sym (ap (λ s. s.names) own_size)) (cut_images (λ number. get_or renumbering number 0) (number_in names) left (names_in weighted row) (all_names weighted (drop (at + 1) rows)) here)
+
+    both_below : (list_all (λ number. ltb number (length renumbering)) (take size.names left) ≡ true) × (list_all (λ number. ltb number (length renumbering)) (drop size.names left) ≡ true)
+    both_below =
+        let test = list_all (λ number. ltb number (length renumbering)) in
+        and_parts (test (take size.names left)) (test (drop size.names left))
+        (sym (list_all-append (λ number. ltb number (length renumbering)) (take size.names left) (drop size.names left)) ∙ ap test (take-append-drop size.names left) ∙ h.below)
+
+    pub enough : size.names ≤ length left
+    enough =
+        let long = ap length here ∙ length-map (names_in weighted row ++ all_names weighted (drop (at + 1) rows)) (number_in names) in
+        omega (arith, long, length-map left (λ number. get_or renumbering number 0), length-append (names_in weighted row) (all_names weighted (drop (at + 1) rows)), ap (λ s. s.names) own_size)
+
+    pub own_below : (own : List ℕ) → own ≡ take size.names left → list_all (λ number. ltb number (length renumbering)) own ≡ true
+    own_below own e = ap (list_all (λ number. ltb number (length renumbering))) e ∙ both_below.0
+
+    pub size_weighs : 1 ≤ size.weight
+    size_weighs = subst (λ s. 1 ≤ s.weight) (sym own_size) (weighs weighted row)
+
+    pub gathers_more : (new : GatheredBaskets) (own others numbers : List ℕ) → own ≡ take size.names left → others ≡ drop size.names left → numbers ≡ map (λ number. get_or renumbering number 0) own
+        → ((all : List Weighted) → HasGathered gathered counting all → HasGathered new counting (all ++ basket_of_numbers numbers size.weight)) → GathersUpTo (at + 1) new others
+    gathers_more new own others numbers front back renamed add =
+        let of = basket_of weighted names in
+        let done = flat_map of (take at rows) in
+        let ns : numbers ≡ map (number_in names) (names_in weighted row) = renamed ∙ ap (map (λ number. get_or renumbering number 0)) front ∙ parts.0 in
+        let basket : basket_of_numbers numbers size.weight ≡ of row = ap (λ n. basket_of_numbers n size.weight) ns ∙ ap (λ s. basket_of_numbers (map (number_in names) (names_in weighted row)) s.weight) own_size in
+        let next : flat_map of (take (at + 1) rows) ≡ done ++ of row =
+        ap (flat_map of) (take_more rows at [] inside) ∙ flat_map-append of (take at rows) (row ∷ []) ∙ ap (λ bs. done ++ bs) (append-nil (of row)) in
+        record {
+          gathered = subst (HasGathered new counting) (append_assoc baskets done (basket_of_numbers numbers size.weight) ∙ ap (λ bs. baskets ++ (done ++ bs)) basket ∙ ap (λ bs. baskets ++ bs) (sym next)) (add (baskets ++ done) h.gathered);
+          left = ap (map (λ number. get_or renumbering number 0)) back ∙ parts.1;
+          below = ap (list_all (λ number. ltb number (length renumbering))) back ∙ both_below.1;
+        }
+
+    -- at most so many baskets are kept
+    pub few_kept : gathered.heavy ≡ false → length gathered.baskets + 1 ≤ length baskets + length sizes
+    few_kept light =
+        let each = one_each (basket_of weighted names) (λ row. one_basket _ _) (take at rows) in
+        omega (arith, kept_few _ _ _ h.gathered light, each, length-append baskets (flat_map (basket_of weighted names) (take at rows)), length-take at rows, within, inside)
+
+-- ---- baskets after others
+
+regrouped : (a b c d : List Weighted) → (b ≡ []) ⊎ (c ≡ []) → (a ++ b) ++ (c ++ d) ≡ (a ++ c) ++ (b ++ d)
+regrouped a b c d (inl e) = ap (λ l. (a ++ l) ++ (c ++ d)) e ∙ ap (λ l. l ++ (c ++ d)) (append-nil a) ∙ sym (append_assoc a c d) ∙ ap (λ l. (a ++ c) ++ (l ++ d)) (sym e)
+regrouped a b c d (inr e) = ap (λ l. (a ++ b) ++ (l ++ d)) e ∙ append_assoc a b d ∙ ap (λ l. l ++ (b ++ d)) (sym (append-nil a)) ∙ ap (λ l. (a ++ l) ++ (b ++ d)) (sym e)
+
+no_more : (a b : List Weighted) → b ≡ a ++ b → a ≡ []
+no_more [] b e = refl
+no_more (x ∷ a) b e = absurd (let long = ap length e in let sum = length-append (x ∷ a) b in omega arith)
+
+-- the counts of baskets and of those after them are the counts of all
+pub counts_joined : (counting : Bool) (first later all : ItemCounts) (baskets more : List Weighted) → AreGathered counting first baskets → AreGathered counting later more → (counting ≡ true → first.rest ≡ [])
+    → ((a b : List Weighted) → HasCounted first.table a → HasCounted later.table b → HasCounted all.table (a ++ b)) → all.rest ≡ first.rest ++ later.rest
+    → first.table.total + total_of first.rest + later.table.total + total_of later.rest ≤ MOST_WEIGHT → Gathers counting all (if_light (baskets ++ more))
+counts_joined counting first later all baskets more ((a, has_a, is_a), light_a, kept_a) ((b, has_b, is_b), light_b, kept_b) none counted rest weight =
+    let sum = support-append baskets more [] in
+    let sum_a : total_of baskets ≡ total_of a + total_of first.rest = ap total_of is_a ∙ support-append a first.rest [] in
+    let sum_b : total_of more ≡ total_of b + total_of later.rest = ap total_of is_b ∙ support-append b later.rest [] in
+    let light : total_of (baskets ++ more) ≤ MOST_WEIGHT = omega (arith, sum, sum_a, sum_b, has_a.total, has_b.total, weight) in
+    let one : (first.rest ≡ []) ⊎ (b ≡ []) = elim (cases_Bool counting) [
+      | inl counts ↦ inl (none counts)
+      | inr keeps ↦ inr (no_more b later.rest (kept_b keeps ∙ is_b))
+    ] in (
+      baskets ++ more,
+      ap (λ fits. cond fits (Ok (baskets ++ more)) (Err Heavy)) (le-leb (total_of (baskets ++ more)) MOST_WEIGHT light),
+      (
+        (a ++ b, counted a b has_a has_b, ap (λ l. l ++ more) is_a ∙ ap (λ l. (a ++ first.rest) ++ l) is_b ∙ regrouped a first.rest b later.rest one ∙ ap (λ l. (a ++ b) ++ l) (sym rest)),
+        light,
+        λ keeps. rest ∙ ap (λ l. l ++ later.rest) (kept_a keeps) ∙ ap (λ l. baskets ++ l) (kept_b keeps),
+      ),
+    )
+
+-- ---- the baskets of parts
+
+-- the baskets of some parts were gathered, and others are left
+abbrev pub GathersTo : Bool → List (List ℕ) → Rows → Bool → GatheredBaskets → List RenumberedRecords → Type 0
+GathersTo weighted names rows counting gathered left =
+    (done : Rows) × (rest : Rows) × (rows ≡ done ++ rest) × HasGathered gathered counting (flat_map (basket_of weighted names) done) × InParts (AreRenumbered weighted names) left rest
+
+pub part_room : (weighted : Bool) (names : List (List ℕ)) (rows : Rows) (counting : Bool) (gathered : GatheredBaskets) (left others : List RenumberedRecords) (part : RenumberedRecords)
+    → left ≡ part ∷ others → length rows ≤ MOST_BASKETS → GathersTo weighted names rows counting gathered left
+    → (x : Bool) × (baskets : List Weighted) × HasGathered gathered x baskets × (length baskets + length part.records.sizes.items ≤ MOST_BASKETS)
+part_room weighted names rows counting gathered left others part is few (done, rest, same, has, parts) =
+    let (own, later, first, mine, in_rest) = subst (λ l. InParts (AreRenumbered weighted names) l rest) is parts in
+    let each = one_each (basket_of weighted names) (λ row. one_basket _ _) done in (
+      counting,
+      flat_map (basket_of weighted names) done,
+      has,
+      omega (arith, each, few, ap length same, length-append done rest, ap length first, length-append own later, ap length mine.sizes, length-map own (size_of weighted)),
+    )
+
+pub part_more : (weighted : Bool) (names : List (List ℕ)) (rows : Rows) (counting : Bool) (gathered new : GatheredBaskets) (left others : List RenumberedRecords) (part : RenumberedRecords)
+    → left ≡ part ∷ others
+    → ((baskets : List Weighted) (own : Rows) → HasGathered gathered counting baskets → AreRenumbered weighted names part own → HasGathered new counting (baskets ++ flat_map (basket_of weighted names) own))
+    → GathersTo weighted names rows counting gathered left → GathersTo weighted names rows counting new others
+part_more weighted names rows counting gathered new left others part is add (done, rest, same, has, parts) =
+    let (own, later, first, mine, in_rest) = subst (λ l. InParts (AreRenumbered weighted names) l rest) is parts in (
+      done ++ own,
+      later,
+      same ∙ ap (λ r. done ++ r) first ∙ sym (append_assoc done own later),
+      subst (HasGathered new counting) (sym (flat_map-append (basket_of weighted names) done own)) (add (flat_map (basket_of weighted names) done) own has mine),
+      in_rest,
+    )
+
+-- ---- the baskets of two halves
+
+-- baskets that may be had are light
+light_is : (baskets found : List Weighted) → if_light baskets ≡ Ok found → baskets ≡ found
+light_is baskets found e = at (leb (total_of baskets) MOST_WEIGHT) e
+  where
+    at : (light : Bool) → cond light (Ok baskets) (Err Heavy) ≡ Ok found → baskets ≡ found
+    at true same = cc
+    at false same = absurd cc
+
+not_leb : (a b : ℕ) → b < a → leb a b ≡ false
+not_leb a b above = elim (cases_Bool (leb a b)) [ inl e ↦ absurd (let below = leb-true a b e in omega arith) | inr e ↦ e ]
+
+-- what weighs too much does so with more
+heavy_more : (baskets all : List Weighted) (fault : ReadFault) → total_of baskets ≤ total_of all → if_light baskets ≡ Err fault → if_light all ≡ Err fault
+heavy_more baskets all fault more e = at (leb (total_of baskets) MOST_WEIGHT) refl e
+  where
+    at : (light : Bool) → leb (total_of baskets) MOST_WEIGHT ≡ light → cond light (Ok baskets) (Err Heavy) ≡ Err fault → if_light all ≡ Err fault
+    at true is same = absurd cc
+    at false is same =
+        let above = leb-false (total_of baskets) MOST_WEIGHT is in
+        ap (λ light. cond light (Ok all) (Err Heavy)) (not_leb (total_of all) MOST_WEIGHT (omega arith)) ∙ same
+
+module _ (counting weighted : Bool) (names : List (List ℕ)) (parts front back : List RenumberedRecords) (rows : Rows) (halves : parts ≡ front ++ back) (all : InParts (AreRenumbered weighted names) parts rows) where
+  abbrev of : List (List (List ℕ)) → List Weighted
+  of own = flat_map (basket_of weighted names) own
+
+  both : (first : Rows) × (others : Rows) × (rows ≡ first ++ others) × InParts (AreRenumbered weighted names) front first × InParts (AreRenumbered weighted names) back others
+  both = in_halves (AreRenumbered weighted names) front back rows (subst (λ l. InParts (AreRenumbered weighted names) l rows) halves all)
+
+  pub front_heavy : (result : Result ItemCounts ReadFault) (fault : ReadFault) → result ≡ Err fault → GathersParts counting front result → fault ≢ Memory → if_light (of rows) ≡ Err fault
+  front_heavy result fault is has other =
+      let (first, others, same, in_front, in_back) = both in
+      let sum = ap total_of (ap of same ∙ flat_map-append (basket_of weighted names) first others) ∙ support-append (of first) (of others) [] in
+      heavy_more (of first) (of rows) fault (omega (arith, sum)) (subst (λ r. ReturnsBy (Gathers counting) r (if_light (of first))) is (has weighted names first in_front) other)
+
+  pub back_heavy : (result : Result ItemCounts ReadFault) (fault : ReadFault) → result ≡ Err fault → GathersParts counting back result → fault ≢ Memory → if_light (of rows) ≡ Err fault
+  back_heavy result fault is has other =
+      let (first, others, same, in_front, in_back) = both in
+      let sum = ap total_of (ap of same ∙ flat_map-append (basket_of weighted names) first others) ∙ support-append (of first) (of others) [] in
+      heavy_more (of others) (of rows) fault (omega (arith, sum)) (subst (λ r. ReturnsBy (Gathers counting) r (if_light (of others))) is (has weighted names others in_back) other)
+
+  -- the counts of the halves are those of their baskets, which are those of all
+  pub halves_found : (a b : Result ItemCounts ReadFault) (counts later : ItemCounts) → a ≡ Ok counts → b ≡ Ok later → GathersParts counting front a → GathersParts counting back b
+      → (baskets : List Weighted) × (more : List Weighted) × AreGathered counting counts baskets × AreGathered counting later more × (of rows ≡ baskets ++ more)
+  halves_found a b counts later is_a is_b has_a has_b =
+      let (first, others, same, in_front, in_back) = both in
+      let (baskets, light, gathered) = subst (λ r. ReturnsBy (Gathers counting) r (if_light (of first))) is_a (has_a weighted names first in_front) in
+      let (more, light_too, gathered_too) = subst (λ r. ReturnsBy (Gathers counting) r (if_light (of others))) is_b (has_b weighted names others in_back) in (
+        baskets,
+        more,
+        gathered,
+        gathered_too,
+        ap of same ∙ flat_map-append (basket_of weighted names) first others ∙ ap (λ l. l ++ of others) (light_is (of first) baskets light) ∙ ap (λ l. baskets ++ l) (light_is (of others) more light_too),
+      )
+
+  -- no more baskets than records
+  pub few_found : (baskets more : List Weighted) → of rows ≡ baskets ++ more → length rows ≤ MOST_BASKETS → length baskets + length more ≤ MOST_BASKETS
+  few_found baskets more is few =
+      let each = one_each (basket_of weighted names) (λ row. one_basket _ _) rows in
+      omega (arith, each, few, ap length is, length-append baskets more)
+
+  pub front_rows : length rows ≤ MOST_BASKETS → HaveRows front
+  front_rows few =
+      let (first, others, same, in_front, in_back) = both in
+      (weighted, names, first, in_front, omega (arith, few, ap length same, length-append first others))
+
+  pub back_rows : length rows ≤ MOST_BASKETS → HaveRows back
+  back_rows few =
+      let (first, others, same, in_front, in_back) = both in
+      (weighted, names, others, in_back, omega (arith, few, ap length same, length-append first others))

@@ -1,0 +1,285 @@
+-- A part of a text, none of whose records goes on after it, is read as a text of its own.
+use Rattle.std.proofs.Common.{◌≡◌, ◌⊎◌, inl, inr, ⊎_elim, ℕ, zero, suc, ◌+◌, ◌<◌, Bool, true, false, cond, eqb, ◌&&◌, ◌||◌, List, [], ◌∷◌, ◌++◌, length, Option, Some, None, refl, sym, ap, ◌∙◌, subst, arith, append-nil}
+use Rattle.std.proofs.lemmas.Bool.{eqb-true, or_parts}
+use Rattle.csv.specs.Machine.{Read, next_record, step, in_field, start_field, start_record, ends_at_end, is_end, fields_after, field_after}
+use Rattle.csv.specs.Reading.{records_from, strip_bom, is_bom}
+use Rattle.csv.specs.declared.parser.State.{State}
+use Rattle.csv.specs.declared.parser.State.TheVariants as st
+use Rattle.csv.specs.declared.parser.Action.{Action}
+use Rattle.csv.specs.declared.parser.Action.TheVariants as act
+use Rattle.basket_csv.specs.Csv.{after_header}
+use Rattle.basket_csv.specs.Parts.{IsWhole}
+use Rattle.basket_csv.specs.Records.{config_of, records_of, last_after, may_go_on, last_may_go_on}
+use Rattle.basket_csv.proofs.RecordLemmas.{leaves, fewer_left, records_none, records_some}
+
+-- ---- bytes
+
+last_push : {X : Type 0} (d x : X) (xs : List X) → last_after d (xs ++ x ∷ []) ≡ x
+last_push d x [] = refl
+last_push d x (y ∷ xs) = last_push y x xs
+
+other_byte : (c d : ℕ) → eqb d 10 ≡ false → eqb c d ≡ true → eqb c 10 ≡ false
+other_byte c d other same = ap (λ x. eqb x 10) (eqb-true c d same) ∙ other
+
+no_line_feed : (c : ℕ) → (eqb c 13 || eqb c 10) ≡ false → eqb c 10 ≡ false
+no_line_feed c none = (or_parts (eqb c 13) (eqb c 10) none).1
+
+-- ---- the state after a byte, which is a line feed where a record may go on only inside quotes
+
+abbrev Fits : ℕ → State → List (List ℕ) → List ℕ → Type 0
+Fits last st.StartRecord fields field = (fields ≡ []) × (field ≡ [])
+Fits last st.AfterCr fields field = (eqb last 10 ≡ false) × (fields ≡ []) × (field ≡ [])
+Fits last st.StartField fields field = eqb last 10 ≡ false
+Fits last st.InField fields field = eqb last 10 ≡ false
+Fits last st.InQuoted fields field = eqb last 10 ≡ true → eqb (last_after 0 field) 10 ≡ true
+Fits last st.AfterQuote fields field = eqb last 10 ≡ false
+Fits last st.InEscape fields field = ⊥
+Fits last st.InComment fields field = ⊥
+
+-- the same of a step: a record that ends leaves no field
+abbrev Follows : ℕ → List (List ℕ) → List ℕ → State × Action → Type 0
+Follows c fields field (s, act.EndRecord) = Fits c s [] []
+Follows c fields field (s, act.EndField) = Fits c s (fields ++ field ∷ []) []
+Follows c fields field (s, act.Skip) = Fits c s fields field
+Follows c fields field (s, act.Copy) = Fits c s fields (field ++ c ∷ [])
+
+follows_if : (c : ℕ) (fields : List (List ℕ)) (field : List ℕ) (b : Bool) (x y : State × Action)
+    → (b ≡ true → Follows c fields field x) → (b ≡ false → Follows c fields field y) → Follows c fields field (cond b x y)
+follows_if c fields field true x y h k = h refl
+follows_if c fields field false x y h k = k refl
+
+follows-in_field : (separator c : ℕ) (fields : List (List ℕ)) (field : List ℕ) → eqb separator 10 ≡ false → Follows c fields field (in_field (config_of separator) c)
+follows-in_field separator c fields field other =
+    follows_if c fields field (eqb c separator) _ _ (other_byte c separator other)
+    (λ _. follows_if c fields field (eqb c 13 || eqb c 10) _ _ (λ _. ended (eqb c 13) refl) (no_line_feed c))
+  where
+    ended : (b : Bool) → eqb c 13 ≡ b → Follows c fields field (cond b st.AfterCr st.StartRecord, act.EndRecord)
+    ended true is = (other_byte c 13 refl is, refl, refl)
+    ended false is = (refl, refl)
+
+follows-start_field : (separator c : ℕ) (fields : List (List ℕ)) (field : List ℕ) → eqb separator 10 ≡ false → Follows c fields field (start_field (config_of separator) c)
+follows-start_field separator c fields field other =
+    follows_if c fields field (eqb c 34) _ _ (λ is line_feed. absurd (let no = other_byte c 34 refl is in cc)) (λ _. follows-in_field separator c fields field other)
+
+follows-start_record : (separator c : ℕ) → eqb separator 10 ≡ false → Follows c [] [] (start_record (config_of separator) c)
+follows-start_record separator c other =
+    follows_if c [] [] (eqb c 13 || eqb c 10) _ _ (λ _. (refl, refl)) (λ _. follows-start_field separator c [] [] other)
+
+follows-step : (separator last c : ℕ) (s : State) (fields : List (List ℕ)) (field : List ℕ) → eqb separator 10 ≡ false → Fits last s fields field
+    → Follows c fields field (step (config_of separator) s c)
+follows-step separator last c st.StartRecord fields field other fits = rw (fits.0, fits.1) (follows-start_record separator c other)
+follows-step separator last c st.AfterCr fields field other fits =
+    rw (fits.1, fits.2) (follows_if c [] [] (eqb c 10) _ _ (λ _. (refl, refl)) (λ _. follows-start_record separator c other))
+follows-step separator last c st.StartField fields field other fits = follows-start_field separator c fields field other
+follows-step separator last c st.InField fields field other fits = follows-in_field separator c fields field other
+follows-step separator last c st.InQuoted fields field other fits =
+    follows_if c fields field (eqb c 34) _ _ (other_byte c 34 refl) (λ _ line_feed. ap (λ x. eqb x 10) (last_push 0 c field) ∙ line_feed)
+follows-step separator last c st.AfterQuote fields field other fits =
+    follows_if c fields field (eqb c 34) _ _ (λ is line_feed. absurd (let no = other_byte c 34 refl is in cc)) (λ _. follows-in_field separator c fields field other)
+follows-step separator last c st.InEscape fields field other fits = absurd fits
+follows-step separator last c st.InComment fields field other fits = absurd fits
+
+follows-end : (c : ℕ) (fields : List (List ℕ)) (field : List ℕ) (s : State) (a : Action) → is_end a ≡ true → Follows c fields field (s, a) → Fits c s [] []
+follows-end c fields field s act.EndRecord e h = h
+follows-end c fields field s act.EndField e h = absurd cc
+follows-end c fields field s act.Skip e h = absurd cc
+follows-end c fields field s act.Copy e h = absurd cc
+
+follows-more : (c : ℕ) (fields : List (List ℕ)) (field : List ℕ) (s : State) (a : Action) → is_end a ≡ false → Follows c fields field (s, a) → Fits c s (fields_after a fields field) (field_after a c field)
+follows-more c fields field s act.EndRecord e h = absurd cc
+follows-more c fields field s act.EndField e h = h
+follows-more c fields field s act.Skip e h = h
+follows-more c fields field s act.Copy e h = h
+
+-- ---- the next record of a text that ends with a line feed, and that of the text with more after it
+
+abbrev next : ℕ → State → List (List ℕ) → List ℕ → List ℕ → Option Read
+next separator s fields field bytes = next_record (config_of separator) s fields field bytes
+
+-- it ends in the text
+record Ended (separator : ℕ) (s : State) (fields : List (List ℕ)) (field bytes more : List ℕ) : Type 0 where
+  read : Read
+  last : ℕ
+  here : next separator s fields field bytes ≡ Some read
+  there : next separator s fields field (bytes ++ more) ≡ Some (read.0, read.1, read.2 ++ more)
+  fits : Fits last read.1 [] []
+  ends : eqb (last_after last read.2) 10 ≡ true
+
+-- there is none in the text
+record NoneLeft (separator : ℕ) (s : State) (fields : List (List ℕ)) (field bytes more : List ℕ) : Type 0 where
+  here : next separator s fields field bytes ≡ None
+  there : next separator s fields field (bytes ++ more) ≡ next separator st.StartRecord [] [] more
+
+-- it may go on after the text
+record GoesOn (separator : ℕ) (s : State) (fields : List (List ℕ)) (field bytes : List ℕ) : Type 0 where
+  done : List (List ℕ)
+  last : List ℕ
+  here : next separator s fields field bytes ≡ Some (done ++ last ∷ [], st.StartRecord, [])
+  ends : eqb (last_after 0 last) 10 ≡ true
+
+abbrev Next : ℕ → State → List (List ℕ) → List ℕ → List ℕ → List ℕ → Type 0
+Next separator s fields field bytes more = Ended separator s fields field bytes more ⊎ NoneLeft separator s fields field bytes more ⊎ GoesOn separator s fields field bytes
+
+at_end : (separator last : ℕ) (s : State) (fields : List (List ℕ)) (field more : List ℕ) → Fits last s fields field → eqb last 10 ≡ true → Next separator s fields field [] more
+unfolding next_record
+at_end separator last st.StartRecord fields field more fits ends = inr (inl (record { here = refl; there = rw (fits.0, fits.1) refl }))
+at_end separator last st.InQuoted fields field more fits ends = inr (inr (record { done = fields; last = field; here = refl; ends = fits ends }))
+at_end separator last st.AfterCr fields field more fits ends = absurd (let no = fits.0 in cc)
+at_end separator last st.StartField fields field more fits ends = absurd cc
+at_end separator last st.InField fields field more fits ends = absurd cc
+at_end separator last st.AfterQuote fields field more fits ends = absurd cc
+at_end separator last st.InEscape fields field more fits ends = absurd fits
+at_end separator last st.InComment fields field more fits ends = absurd fits
+
+next_of : (separator last : ℕ) (s : State) (fields : List (List ℕ)) (field bytes more : List ℕ) → eqb separator 10 ≡ false → Fits last s fields field → eqb (last_after last bytes) 10 ≡ true
+    → Next separator s fields field bytes more
+unfolding next_record
+next_of separator last s fields field [] more other fits ends = at_end separator last s fields field more fits ends
+next_of separator last s fields field (c ∷ bytes) more other fits ends =
+    let cfg = config_of separator in
+    at (is_end (step cfg s c).1) refl (next_of separator c (step cfg s c).0 (fields_after (step cfg s c).1 fields field) (field_after (step cfg s c).1 c field) bytes more other)
+  where
+    s2 : State
+    s2 = (step (config_of separator) s c).0
+
+    a : Action
+    a = (step (config_of separator) s c).1
+
+    follows : Follows c fields field (s2, a)
+    follows = follows-step separator last c s fields field other fits
+
+    choose : Bool → List ℕ → Option Read
+    choose b bytes = cond b (Some (fields_after a fields field, s2, bytes)) (next separator s2 (fields_after a fields field) (field_after a c field) bytes)
+
+    at : (b : Bool) → is_end a ≡ b
+        → (Fits c s2 (fields_after a fields field) (field_after a c field) → eqb (last_after c bytes) 10 ≡ true → Next separator s2 (fields_after a fields field) (field_after a c field) bytes more)
+        → Next separator s fields field (c ∷ bytes) more
+    at true e later = inl (record {
+      read = (fields_after a fields field, s2, bytes);
+      last = c;
+      here = ap (λ b. choose b bytes) e;
+      there = ap (λ b. choose b (bytes ++ more)) e;
+      fits = follows-end c fields field s2 a e follows;
+      ends = ends;
+    })
+    at false e later = ⊎_elim
+        (λ r. inl (record { read = r.read; last = r.last; here = ap (λ b. choose b bytes) e ∙ r.here; there = ap (λ b. choose b (bytes ++ more)) e ∙ r.there; fits = r.fits; ends = r.ends }))
+        (⊎_elim
+        (λ r. inr (inl (record { here = ap (λ b. choose b bytes) e ∙ r.here; there = ap (λ b. choose b (bytes ++ more)) e ∙ r.there })))
+        (λ r. inr (inr (record { done = r.done; last = r.last; here = ap (λ b. choose b bytes) e ∙ r.here; ends = r.ends }))))
+        (later (follows-more c fields field s2 a e follows) ends)
+
+-- ---- the records of a text and of more after it
+
+abbrev rows : ℕ → State → List ℕ → List (List (List ℕ))
+rows separator s bytes = records_from (config_of separator) (length bytes + 1) s bytes
+
+-- whether the last of some records may go on is the same, or not so, with others before them
+last_alone : (before : Bool) (rows : List (List (List ℕ))) → last_may_go_on before rows ≡ false → last_may_go_on false rows ≡ false
+last_alone before [] none = refl
+last_alone before (row ∷ rows) none = none
+
+joined : (separator n last : ℕ) (s : State) (bytes more : List ℕ) → eqb separator 10 ≡ false → length bytes < n → Fits last s [] [] → ends_at_end s ≡ false
+    → eqb (last_after last bytes) 10 ≡ true → last_may_go_on false (rows separator s bytes) ≡ false
+    → rows separator s (bytes ++ more) ≡ rows separator s bytes ++ rows separator st.StartRecord more
+unfolding next_record
+joined separator zero last s bytes more other few fits begins ends whole = absurd (omega (arith, few))
+joined separator (suc n) last s bytes more other few fits begins ends whole =
+    ⊎_elim
+    (λ (r : Ended separator s [] [] bytes more).
+    let cfg = config_of separator in
+    let here = records_some cfg s bytes r.read begins r.here in
+    let there = records_some cfg s (bytes ++ more) (r.read.0, r.read.1, r.read.2 ++ more) begins r.there in
+    let fewer = fewer_left cfg s bytes r.read begins r.here in
+    let later = joined separator n r.last r.read.1 r.read.2 more other (omega (arith, fewer, few)) r.fits (leaves cfg s [] [] bytes r.read r.here).begins r.ends
+    (last_alone (may_go_on r.read.0) (rows separator r.read.1 r.read.2) (sym (ap (last_may_go_on false) here) ∙ whole)) in
+    there ∙ ap (λ l. r.read.0 ∷ l) later ∙ ap (λ l. l ++ rows separator st.StartRecord more) (sym here))
+    (⊎_elim
+    (λ (r : NoneLeft separator s [] [] bytes more).
+    same_next separator s st.StartRecord (bytes ++ more) more begins refl r.there ∙ ap (λ l. l ++ rows separator st.StartRecord more) (sym (records_none (config_of separator) s bytes r.here)))
+    (λ (r : GoesOn separator s [] [] bytes).
+    let here = records_some (config_of separator) s bytes (r.done ++ r.last ∷ [], st.StartRecord, []) begins r.here in
+    let none = records_none (config_of separator) st.StartRecord [] (no_bytes separator) in
+    let ends : may_go_on (r.done ++ r.last ∷ []) ≡ true = ap (λ field. eqb (last_after 0 field) 10) (last_push [] r.last r.done) ∙ r.ends in
+    let goes_on : last_may_go_on false (rows separator s bytes) ≡ true = ap (last_may_go_on false) here ∙ ap (last_may_go_on (may_go_on (r.done ++ r.last ∷ []))) none ∙ ends in
+    absurd cc))
+    (next_of separator last s [] [] bytes more other fits ends)
+  where
+    no_bytes : (separator : ℕ) → next separator st.StartRecord [] [] [] ≡ None
+    no_bytes separator = refl
+
+    same_next : (separator : ℕ) (s t : State) (a b : List ℕ) → ends_at_end s ≡ false → ends_at_end t ≡ false → next separator s [] [] a ≡ next separator t [] [] b → rows separator s a ≡ rows separator t b
+    same_next separator s t a b begins begins2 same = at (next separator t [] [] b) refl
+      where
+        at : (o : Option Read) → next separator t [] [] b ≡ o → rows separator s a ≡ rows separator t b
+        at None e = records_none (config_of separator) s a (same ∙ e) ∙ sym (records_none (config_of separator) t b e)
+        at (Some read) e = records_some (config_of separator) s a read begins (same ∙ e) ∙ sym (records_some (config_of separator) t b read begins2 e)
+
+-- ---- the mark at the start of a text
+
+-- a mark at the start of a text that ends with a line feed is in that text
+pub stripped_part : (bytes more : List ℕ) → eqb (last_after 10 bytes) 10 ≡ true → strip_bom more ≡ more → strip_bom (bytes ++ more) ≡ strip_bom bytes ++ more
+unfolding strip_bom
+stripped_part [] more ends none = none
+stripped_part (a ∷ []) more ends none = subst (λ x. strip_bom (x ∷ more) ≡ x ∷ more) (sym (eqb-true a 10 ends)) (at more)
+  where
+    at : (more : List ℕ) → strip_bom (10 ∷ more) ≡ 10 ∷ more
+    at [] = refl
+    at (b ∷ []) = refl
+    at (b ∷ c ∷ more) = refl
+stripped_part (a ∷ b ∷ []) more ends none = subst (λ x. strip_bom (a ∷ x ∷ more) ≡ a ∷ x ∷ more) (sym (eqb-true b 10 ends)) (at more)
+  where
+    at : (more : List ℕ) → strip_bom (a ∷ 10 ∷ more) ≡ a ∷ 10 ∷ more
+    at [] = refl
+    at (c ∷ more) = first (eqb a 0xEF) (eqb c 0xBF)
+      where
+        first : (x y : Bool) → cond ((x && false) && y) more (a ∷ 10 ∷ c ∷ more) ≡ a ∷ 10 ∷ c ∷ more
+        first true true = refl
+        first true false = refl
+        first false true = refl
+        first false false = refl
+stripped_part (a ∷ b ∷ c ∷ bytes) more ends none = at (is_bom a b c)
+  where
+    at : (is : Bool) → cond is (bytes ++ more) (a ∷ b ∷ c ∷ (bytes ++ more)) ≡ cond is bytes (a ∷ b ∷ c ∷ bytes) ++ more
+    at true = refl
+    at false = refl
+
+-- and what is left ends with a line feed too
+ends_stripped : (bytes : List ℕ) → eqb (last_after 10 bytes) 10 ≡ true → eqb (last_after 10 (strip_bom bytes)) 10 ≡ true
+unfolding strip_bom
+ends_stripped [] ends = ends
+ends_stripped (a ∷ []) ends = ends
+ends_stripped (a ∷ b ∷ []) ends = ends
+ends_stripped (a ∷ b ∷ c ∷ bytes) ends = at (is_bom a b c) bytes ends
+  where
+    at : (is : Bool) (bytes : List ℕ) → eqb (last_after c bytes) 10 ≡ true → eqb (last_after 10 (cond is bytes (a ∷ b ∷ c ∷ bytes))) 10 ≡ true
+    at true [] ends = refl
+    at true (d ∷ bytes) ends = ends
+    at false bytes ends = ends
+
+-- ---- the law
+
+no_records : (separator : ℕ) → records_of separator [] ≡ []
+unfolding strip_bom records_from next_record
+no_records separator = refl
+
+-- a part is whole if its last record doesn't end with a line feed, and if the header is in it
+pub whole_part : (separator : ℕ) (header : Bool) (part : List ℕ) → eqb separator 10 ≡ false → last_may_go_on false (records_of separator part) ≡ false
+    → (header ≡ true → 0 < length (records_of separator part)) → IsWhole separator header part
+whole_part separator header part other whole has more (inl none) =
+    ap (λ l. after_header header (records_of separator (part ++ l))) none ∙ ap (λ l. after_header header (records_of separator l)) (append-nil part)
+    ∙ sym (append-nil _) ∙ ap (λ l. after_header header (records_of separator part) ++ l) (sym (no_records separator) ∙ ap (records_of separator) (sym none))
+whole_part separator header part other whole has more (inr cut) =
+    let ends = ap (λ x. eqb x 10) cut.0 in
+    ap (λ l. after_header header (records_from (config_of separator) (length l + 1) st.StartRecord l)) (stripped_part part more ends cut.1)
+    ∙ ap (after_header header) (joined separator (length (strip_bom part) + 1) 10 st.StartRecord (strip_bom part) more other (omega arith) (refl, refl) refl (ends_stripped part ends) whole)
+    ∙ passed header (records_of separator part) has
+    ∙ ap (λ l. after_header header (records_of separator part) ++ rows separator st.StartRecord l) (sym cut.1)
+  where
+    others : List (List (List ℕ))
+    others = rows separator st.StartRecord more
+
+    passed : (header : Bool) (first : List (List (List ℕ))) → (header ≡ true → 0 < length first) → after_header header (first ++ others) ≡ after_header header first ++ others
+    passed false first has = refl
+    passed true [] has = absurd (let some = has refl in omega (arith, some))
+    passed true (row ∷ first) has = refl

@@ -1,0 +1,12 @@
+use Rattle.std.proofs.Common.{ℕ, Bool, List}
+use Rattle.basket_sets.specs.declared.weighted.Weighted.{Weighted}
+use Rattle.basket_read.specs.GatheredBaskets.{HasGathered}
+use Rattle.basket_csv.specs.Part.{Rows}
+use Rattle.basket_csv.specs.Renumbered.{AreRenumbered}
+use Rattle.basket_csv.proofs.GatherLemmas.{GathersUpTo}
+use Rattle.basket_csv.proofs.renumbered.RenumberedRecords.gather.Given as goal
+
+abbrev pub invariant-loop-size : goal.invariant-loop-size
+invariant-loop-size l =
+    (counting weighted : Bool) (names : List (List ℕ)) (baskets : List Weighted) (rows : Rows) → HasGathered l.fn.gathered counting baskets → AreRenumbered weighted names l.self rows
+    → GathersUpTo weighted names l.self.names.items counting baskets rows l.size-index l.gathered l.rest

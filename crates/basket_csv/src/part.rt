@@ -1,0 +1,95 @@
+//! The records of a part of a text, whose names are numbered apart from those of other parts.
+ghost use Rattle.std.specs.Prelude.{◌≡◌, [], ◌∷◌, ◌++◌, Ok, OnOk, IfErr, length, map};
+ghost use Rattle.basket_csv.specs.RecordCollector.{Start};
+ghost use Rattle.basket_csv.specs.Csv.{basket_fault};
+ghost use Rattle.basket_csv.specs.Part.{FindsPart, HasPart, Rows, size};
+
+use crate::baskets::number_basket;
+use crate::collector::RecordCollector;
+use crate::names::{Names, Numbering};
+use crate::seed::Seed;
+use basket_read::ReadFault;
+use csv::ByteRecord;
+use std::alloc::{AllocError, Global};
+
+/// How many names a record has, and its weight.
+#[derive(Clone, Copy)]
+pub struct RecordSize {
+    pub names: usize,
+    pub weight: u32,
+}
+
+/// The numbers of the names of records, one record after another.
+#[derive(Drop)]
+pub struct NumberedRecords {
+    pub numbers: Vec<u32>,
+    pub sizes: Vec<RecordSize>,
+}
+
+impl NumberedRecords {
+    /// Adds a record with these numbers and a weight.
+    #[inline]
+    fn push(&mut self, numbers: &[u32], weight: u32) -> Result<(), AllocError>
+        ensures numbers { OnOk result (self.new.numbers.items ≡ self.old.numbers.items ++ numbers.now) }
+        ensures sizes { OnOk result (self.new.sizes.items ≡ self.old.sizes.items ++ size (length numbers.now) weight ∷ []) }
+    {
+        self.numbers.extend_from_slice(numbers)?;
+        self.sizes.push(RecordSize {
+            names: numbers.len(),
+            weight,
+        })?;
+        Ok(())
+    }
+}
+
+/// What has been read of the records of a part.
+#[derive(Drop)]
+pub struct Part {
+    weighted: bool,
+    names: Numbering,
+    records: NumberedRecords,
+    /// The numbers of the names of one record.
+    numbers: Vec<u32>,
+}
+
+impl Part {
+    /// Nothing is read yet.
+    pub fn new(alloc: Global, seed: Seed, weighted: bool) -> Self
+        ensures { (start : Start) → start.weighted ≡ weighted → start.known ≡ [] → HasPart result start [] }
+    {
+        Part {
+            weighted,
+            names: Numbering::new(alloc, seed),
+            records: NumberedRecords {
+                numbers: Vec::new(alloc),
+                sizes: Vec::new(alloc),
+            },
+            numbers: Vec::new(alloc),
+        }
+    }
+}
+
+impl RecordCollector for Part {
+    type Found = NumberedRecords;
+
+    ghost Said = { Rows };
+
+    ghost fault_of = { λ start. basket_fault start.weighted };
+
+    ghost said_of = { λ start rows. Ok rows };
+
+    ghost finds = { FindsPart };
+
+    ghost has_read = { λ part start rows. HasPart part start rows };
+
+    fn add(&mut self, nth: u32, row: &ByteRecord) -> Result<(), ReadFault> {
+        let weight = number_basket(self.weighted, nth, row, &mut self.names, &mut self.numbers)?;
+        self.records.push(&self.numbers, weight)?;
+        Ok(())
+    }
+
+    fn finish(self) -> Result<(NumberedRecords, Names), ReadFault> {
+        let Part { names, records, .. } = self;
+        Ok((records, names.into_names()?))
+    }
+}

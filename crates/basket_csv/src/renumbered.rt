@@ -1,0 +1,185 @@
+//! The records of parts, whose names are numbered together.
+ghost use Rattle.std.specs.Prelude.{◌≡◌, ◌≤◌, ◌<◌, ◌+◌, ◌++◌, Bool, List, ℕ, true, false, [], IsTrue, fold, length, map, nat_lt, slice_index_or, OnOk, IfOk, IfErr};
+ghost use Rattle.std.specs.List.{flat_map, list_all};
+ghost use Rattle.std.specs.Thread.{IsSync};
+ghost use Rattle.basket_sets.specs.Database.{MOST_BASKETS};
+ghost use Rattle.basket_sets.specs.declared.weighted.Weighted.{Weighted};
+ghost use Rattle.basket_read.specs.Fault.{ReturnsBy};
+ghost use Rattle.basket_read.specs.Fimi.{if_light};
+ghost use Rattle.basket_read.specs.GatheredBaskets.{AreGathered, Gathers, HasGathered};
+ghost use Rattle.basket_csv.specs.Csv.{all_names, basket_of};
+ghost use Rattle.basket_csv.specs.Names.{with_name};
+ghost use Rattle.basket_csv.specs.Part.{InParts, IsPart, Rows};
+ghost use Rattle.basket_csv.specs.Renumbered.{AreRenumbered, GathersParts, HaveRows};
+
+use crate::names::{Names, Numbering};
+use crate::part::NumberedRecords;
+use basket_read::{GatheredBaskets, ItemCounts, ReadFault};
+use basket_sets::Database;
+use std::alloc::{AllocError, Global};
+use std::thread::{Threads, join};
+
+/// The records of a part, and the number that each of its names has among those of all parts.
+#[derive(Drop)]
+pub struct RenumberedRecords {
+    records: NumberedRecords,
+    names: Vec<u32>,
+}
+
+/// The records of parts that come one after another. Their names are numbered after those that are
+/// known.
+pub fn renumbered(
+    alloc: Global,
+    parts: Vec<(NumberedRecords, Names)>,
+    known: &mut Numbering,
+) -> Result<Vec<RenumberedRecords>, ReadFault>
+    ensures names { (weighted : Bool) (rows : Rows) → InParts (IsPart weighted) parts.items rows → OnOk result (known.new ≡ fold with_name known.old (all_names weighted rows)) }
+    ensures parts { (weighted : Bool) (rows : Rows) → InParts (IsPart weighted) parts.items rows → IfOk result (λ parts. InParts (AreRenumbered weighted known.new) parts.items rows) }
+    ensures err { IfErr result (λ fault. fault ≡ ReadFault.Memory) }
+{
+    let mut all = Vec::with_capacity(alloc, parts.len())?;
+    for part in parts {
+        let (records, names) = part;
+        all.push(RenumberedRecords {
+            records,
+            names: known.numbers_of(&names)?,
+        })?;
+    }
+    Ok(all)
+}
+
+impl RenumberedRecords {
+    /// Gathers the baskets of the records.
+    fn gather(&self, alloc: Global, gathered: &mut GatheredBaskets) -> Result<(), ReadFault>
+        requires numbered { (weighted : Bool) × (names : List (List ℕ)) × (rows : Rows) × AreRenumbered weighted names self.now rows }
+        requires room { (counting : Bool) × (baskets : List Weighted) × HasGathered gathered.old counting baskets × (length baskets + length self.now.records.sizes.items ≤ MOST_BASKETS) }
+        ensures baskets { (counting weighted : Bool) (names : List (List ℕ)) (baskets : List Weighted) (rows : Rows) → HasGathered gathered.old counting baskets
+            → AreRenumbered weighted names self.now rows → OnOk result (HasGathered gathered.new counting (baskets ++ flat_map (basket_of weighted names) rows)) }
+        ensures err { IfErr result (λ fault. fault ≡ ReadFault.Memory) }
+    {
+        let mut numbers = Vec::new(alloc);
+        let mut rest = self.records.numbers.as_slice();
+        for size in &self.records.sizes {
+            let (own, others) = rest.split_at(size.names);
+            rename(own, &self.names, &mut numbers)?;
+            gathered.add(&numbers, size.weight)?;
+            rest = others;
+        }
+        Ok(())
+    }
+}
+
+/// Writes the name of each number.
+fn rename(numbers: &[u32], names: &[u32], renamed: &mut Vec<u32>) -> Result<(), AllocError>
+    requires { IsTrue (list_all (λ number. nat_lt number (length names.now)) numbers.now) }
+    ensures { OnOk result (renamed.new.items ≡ map (λ number. slice_index_or names.now number 0) numbers.now) }
+{
+    renamed.clear();
+    for number in numbers {
+        renamed.push(names[*number as usize])?;
+    }
+    Ok(())
+}
+
+/// How many names their records have together, or `usize::MAX` if they have more.
+fn occurrences(parts: &[RenumberedRecords]) -> usize {
+    let mut occurrences = 0usize;
+    for part in parts {
+        occurrences = occurrences.saturating_add(part.records.numbers.len());
+    }
+    occurrences
+}
+
+/// The baskets of parts that come one after another. They may be counted.
+fn gathered_of(
+    alloc: Global,
+    counting: bool,
+    parts: &[RenumberedRecords],
+) -> Result<ItemCounts, ReadFault>
+    requires { HaveRows parts.now }
+    ensures { GathersParts counting parts.now result }
+{
+    let mut gathered = GatheredBaskets::new(alloc, counting, occurrences(parts));
+    for part in parts {
+        part.gather(alloc, &mut gathered)?;
+    }
+    gathered.finish()
+}
+
+/// The baskets of parts that come one after another, by a worker for each. They may be counted.
+#[cycle(halves)]
+pub fn gathered_shared<R: Threads + Sync>(
+    rt: &R,
+    alloc: Global,
+    counting: bool,
+    parts: &[RenumberedRecords],
+) -> Result<ItemCounts, ReadFault>
+    requires { HaveRows parts.now }
+    ensures { GathersParts counting parts.now result }
+{
+    if parts.len() < 2 {
+        return gathered_of(alloc, counting, parts);
+    }
+    let (front, back) = parts.split_at(parts.len() / 2);
+    let (counts, later) = gathered_halves(rt, alloc, counting, front, back);
+    let counts = counts?;
+    if has_kept(counting, &counts) {
+        return gathered_of(alloc, counting, parts);
+    }
+    joined(counts, later?)
+}
+
+/// The baskets of some parts, and of others.
+#[cycle(halves)]
+fn gathered_halves<R: Threads + Sync>(
+    rt: &R,
+    alloc: Global,
+    counting: bool,
+    front: &[RenumberedRecords],
+    back: &[RenumberedRecords],
+) -> (Result<ItemCounts, ReadFault>, Result<ItemCounts, ReadFault>)
+    requires some { (0 < length front.now) × (0 < length back.now) }
+    requires front { HaveRows front.now }
+    requires back { HaveRows back.now }
+    ensures front { GathersParts counting front.now result.0 }
+    ensures back { GathersParts counting back.now result.1 }
+{
+    let (later, counts) = join(
+        rt,
+        || -> Result<ItemCounts, ReadFault>
+            requires { IsSync R.row × HaveRows back.now }
+            ensures { GathersParts counting back.entry.now result }
+        { gathered_shared(rt, alloc, counting, back) },
+        || -> Result<ItemCounts, ReadFault>
+            requires { IsSync R.row × HaveRows front.now }
+            ensures { GathersParts counting front.entry.now result }
+        { gathered_shared(rt, alloc, counting, front) },
+    );
+    (counts, later)
+}
+
+/// Whether some baskets are kept that are to be counted: then none can be counted after them.
+fn has_kept(counting: bool, counts: &ItemCounts) -> bool
+    ensures { result ≡ false → counting ≡ true → counts.now.rest ≡ [] }
+{
+    counting && !counts.rest.is_empty()
+}
+
+/// The counts of some baskets and of others that come after them.
+fn joined(counts: ItemCounts, later: ItemCounts) -> Result<ItemCounts, ReadFault>
+    requires { (counting : Bool) × (baskets : List Weighted) × (more : List Weighted) × AreGathered counting counts baskets × AreGathered counting later more × (length baskets + length more ≤ MOST_BASKETS) }
+    ensures { (counting : Bool) (baskets more : List Weighted) → AreGathered counting counts baskets → AreGathered counting later more
+        → (counting ≡ true → counts.rest ≡ []) → ReturnsBy (Gathers counting) result (if_light (baskets ++ more)) }
+{
+    let ItemCounts {
+        mut table,
+        mut rest,
+    } = counts;
+    let weight = table.total() + rest.total() + later.table.total() + later.rest.total();
+    if weight > Database::MAX_WEIGHT {
+        return Err(ReadFault::Heavy);
+    }
+    table.append(&later.table)?;
+    rest.append(later.rest)?;
+    Ok(ItemCounts { table, rest })
+}
