@@ -116,7 +116,9 @@ impl<'a> Projected for PatternBase<'a> {
         self.below(alloc, at as u32, scratch, trees)
     }
 
-    fn number_of(trees: &Trees) -> u64 {
+    fn number_of(trees: &Trees) -> u64
+        ensures { result ≡ trees.now.number }
+    {
         trees.number
     }
 

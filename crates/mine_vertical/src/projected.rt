@@ -76,7 +76,9 @@ impl<'a, R: Row> Projected for Siblings<'a, R> {
         Ok(Some(anew))
     }
 
-    fn number_of(joins: &Joins) -> u64 {
+    fn number_of(joins: &Joins) -> u64
+        ensures { result ≡ joins.now.number }
+    {
         joins.number()
     }
 
