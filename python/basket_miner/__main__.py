@@ -90,10 +90,11 @@ def main(words: list[str] | None = None) -> int:
             workers=given.workers,
             limit=given.limit,
         )
+        source = f"{given.file}, minimum {given.min}, confidence {given.conf}"
         if is_file:
-            explore(found, given.output, title=given.title)
+            explore(found, given.output, title=given.title, source=source)
         else:
-            sys.stdout.write(page_of(found, given.title))
+            sys.stdout.write(page_of(found, given.title, source))
     except BasketError as fault:
         print(fault, *getattr(fault, "__notes__", ()), sep="\n", file=sys.stderr)
         return 1

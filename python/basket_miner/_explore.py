@@ -25,31 +25,36 @@ class Page(PosixPath):
     def _repr_html_(self) -> str:
         content = html.escape(self.read_text(encoding="utf-8"))
         return (
-            f'<iframe srcdoc="{content}" sandbox="allow-scripts" title="{html.escape(str(self))}" '
+            f'<iframe srcdoc="{content}" sandbox="allow-scripts allow-downloads" title="{html.escape(str(self))}" '
             'style="width: 100%; height: 50rem; border: 0"></iframe>'
         )
 
 
 def explore(
-    rules: pd.DataFrame, path: str | os.PathLike[str], *, title: str | None = None
+    rules: pd.DataFrame,
+    path: str | os.PathLike[str],
+    *,
+    title: str | None = None,
+    source: str | None = None,
 ) -> Page:
     """Writes a page that shows rules in a browser: one file of HTML, which needs no network.
 
-    It has a table that sorts by each column and has fifty rules a page, filters by item and by
-    least support, confidence and lift, and the rules by support and confidence, coloured by lift.
-    A click on a mark, or a rectangle that is drawn, shows its rules alone. A rule's details are
-    its counts of baskets and its exact fractions.
+    It has a table that sorts by each column and has fifty rules a page, filters by items and by
+    figures, and the rules by support and confidence or lift, coloured by lift. A click on a mark,
+    or a rectangle that is drawn, shows its rules alone. A rule's details are its counts of baskets
+    and its exact fractions. What is shown can be saved as CSV, and the page's address keeps it.
 
     Args:
         rules: a frame of `rules`, or of `association_rules` in `basket_miner.frequent_patterns`.
         path: of the file, which is written anew.
         title: what stands above the rules, as the shop and the month.
+        source: what stands below the title, as the file, the minimum and the day.
 
     Returns the path, which a notebook shows as the page. Raises `DataError` where a column is
     missing or the figures do not agree, and `FileError` where the file can't be written.
     """
     file = file_of(path)
-    content = page_of(rules, title)
+    content = page_of(rules, title, source)
     try:
         file.write_text(content, encoding="utf-8")
     except OSError as fault:
@@ -71,9 +76,14 @@ def file_of(path: str | os.PathLike[str]) -> Page:
     return file
 
 
-def page_of(rules: pd.DataFrame, title: str | None = None) -> str:
+def page_of(
+    rules: pd.DataFrame, title: str | None = None, source: str | None = None
+) -> str:
     """The text of the page."""
-    script = "".join(map(_text, ("page.js", "axes.js", "plot.js")))
+    template = _text("page.html")
+    found = re.search(r"<script>(.*?)</script>", template, re.S)
+    assert found
+    script = _filled(found[1], {})
     digest = base64.b64encode(hashlib.sha256(script.encode()).digest()).decode()
     parts = {
         # Names are data: no name can end the element that holds them, and no other script runs.
@@ -81,11 +91,19 @@ def page_of(rules: pd.DataFrame, title: str | None = None) -> str:
             "<", "\\u003c"
         ),
         "digest": digest,
-        "script": script,
-        "style": _text("page.css"),
+        "source": html.escape("" if source is None else str(source)),
         "title": html.escape("Association rules" if title is None else str(title)),
     }
-    return re.sub(r"\{\{(\w+)\}\}", lambda found: parts[found[1]], _text("page.html"))
+    return _filled(template, parts)
+
+
+def _filled(template: str, parts: dict[str, str]) -> str:
+    """A template with its marks replaced: each names a part, or a file beside it."""
+    return re.sub(
+        r"{{([\w.]+)}}",
+        lambda mark: parts[mark[1]] if mark[1] in parts else _text(mark[1]),
+        template,
+    )
 
 
 def _data_of(rules: pd.DataFrame) -> dict[str, Any]:
@@ -93,7 +111,8 @@ def _data_of(rules: pd.DataFrame) -> dict[str, Any]:
     counts = counts_of(rules)
     columns = [itemsets_of(rules, name) for name in ("antecedents", "consequents")]
     texts = {side: _names(side) for column in columns for side in column}
-    sides = sorted(texts, key=texts.__getitem__)
+    # Capital letters and small ones stand together.
+    sides = sorted(texts, key=lambda it: ([*map(str.casefold, texts[it])], texts[it]))
     places = {side: place for place, side in enumerate(sides)}
     left, right = ([places[side] for side in column] for column in columns)
     return {

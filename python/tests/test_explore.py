@@ -82,6 +82,36 @@ def test_filters_leave_the_rules_that_meet_all(shop: webdriver.Chrome) -> None:
     at(shop, "support").send_keys("40")
     until(shop, "2 rules of 27, page 1 of 1")
     assert {row[0] for row in rows(shop)} == {"bread", "milk"}
+    at(shop, "most").send_keys("45")
+    until(shop, "0 rules of 27, page 1 of 1")
+
+
+@pytest.mark.parametrize(
+    ("name", "text", "is_meant"),
+    [
+        ("either", "tea", lambda left, right: "tea" in left | right),
+        ("either", '"te"', lambda left, right: False),
+        ("either", '"jam", mil', lambda left, right: {"jam", "milk"} <= left | right),
+        ("left", '"bread", "milk"', lambda left, right: {"bread", "milk"} <= left),
+        (
+            "without",
+            "milk, jam",
+            lambda left, right: not {"milk", "jam"} & (left | right),
+        ),
+    ],
+)
+def test_a_text_asks_for_items_by_parts_or_in_quotes(
+    shop: webdriver.Chrome, name: str, text: str, is_meant: Any
+) -> None:
+    sides = [(set(row[0].split(", ")), set(row[1].split(", "))) for row in rows(shop)]
+    kept = [both for both in sides if is_meant(*both)]
+    at(shop, name).send_keys(text)
+    until(
+        shop, f"{len(kept)} {'rule' if len(kept) == 1 else 'rules'} of 27, page 1 of 1"
+    )
+    assert [
+        (set(row[0].split(", ")), set(row[1].split(", "))) for row in rows(shop)
+    ] == kept
 
 
 def test_a_click_on_a_mark_shows_its_rules(shop: webdriver.Chrome) -> None:
@@ -94,10 +124,16 @@ def test_a_click_on_a_mark_shows_its_rules(shop: webdriver.Chrome) -> None:
 
 
 def test_the_middle_of_the_colours_is_a_lift_of_1(shop: webdriver.Chrome) -> None:
-    lifts = [0.01, 0.25, 0.5, 0.999, 1, 1.001, 2, 4, 99]
+    # The strongest rules have a lift of 15/7, at which the colours end.
+    lifts = [0.01, 7 / 15, (7 / 15) ** 0.5, 0.999, 1, 1.001, (15 / 7) ** 0.5, 15 / 7, 9]
     shades = shop.execute_script("return arguments[0].map(shadeOf)", lifts)
     # Shades below the middle are triangles.
     assert shades == [0, 0, 16, 31, 32, 32, 48, 64, 64]
+    assert [at(shop, name).text for name in ("low", "one", "high")] == [
+        "0.600",
+        "1",
+        "2.14",
+    ]
 
 
 def test_a_rectangle_selects_the_rules_in_it(shop: webdriver.Chrome) -> None:
@@ -122,7 +158,9 @@ def test_the_keyboard_goes_from_mark_to_mark(shop: webdriver.Chrome) -> None:
     canvas = at(shop, "marks")
     canvas.send_keys(Keys.ARROW_RIGHT)
     # The mark of least support and, there, of least confidence.
-    assert at(shop, "status").text.startswith("support 13.3%, confidence 28.6%")
+    told = shop.execute_script("return element('told').textContent")
+    assert told.startswith("support 13.3%, confidence 28.6%")
+    assert at(shop, "tip").text == told
     canvas.send_keys(Keys.ENTER)
     assert {row[4] for row in rows(shop)} == {"28.6%"}
     canvas.send_keys(Keys.ESCAPE)
@@ -156,5 +194,7 @@ def test_everything_that_is_used_has_a_name(shop: webdriver.Chrome) -> None:
     used = shop.find_elements(By.CSS_SELECTOR, "input, button, canvas, table")
     assert len(used) > 40
     assert [
-        one.get_attribute("outerHTML") for one in used if not one.accessible_name
+        one.get_attribute("outerHTML")
+        for one in used
+        if one.is_displayed() and not one.accessible_name
     ] == []

@@ -1,24 +1,32 @@
-
-// The axes of support and confidence: from values to places on the canvas and back.
+// The axes: from values to places on the canvas and back.
 const MARGIN = { left: 56, right: 16, top: 14, bottom: 44 };
+const LOG_FROM = 5; // The most over the least from which an axis goes by magnitude.
+let across = null;
+let up = null;
 
-function axisOf(values, mayBeLog) {
+function axisOf(key, mayBeLog) {
+  const { values, text } = columns[key];
   let [low, high] = [Infinity, -Infinity];
   for (const value of values) [low, high] = [Math.min(low, value), Math.max(high, value)];
-  if (!size) [low, high] = [0, 1];
-  const isLog = mayBeLog && high / low >= 20;
+  if (!size) [low, high] = [0.1, 1];
+  const isLog = mayBeLog && high / low >= LOG_FROM;
   const into = isLog ? Math.log10 : (value) => value;
   const back = isLog ? (place) => 10 ** place : (place) => place;
   const margin = 0.06 * (into(high) - into(low)) || 0.1 * low || 0.1;
-  return { isLog, into, back, from: into(low) - margin, to: into(high) + margin };
+  const isShare = text === percent;
+  return { key, isLog, isShare, into, back, from: into(low) - margin, to: into(high) + margin };
 }
 
-function placeOf(support, confidence) {
+// The room between the axes.
+function frameOf() {
   const { clientWidth: width, clientHeight: height } = canvas;
-  const [x, y] = [part(across, support), part(up, confidence)];
+  return { left: MARGIN.left, top: MARGIN.top, width: width - MARGIN.left - MARGIN.right, height: height - MARGIN.top - MARGIN.bottom };
+}
+
+function placeOf(x, y, frame = frameOf()) {
   return [
-    MARGIN.left + x * (width - MARGIN.left - MARGIN.right),
-    height - MARGIN.bottom - y * (height - MARGIN.top - MARGIN.bottom),
+    frame.left + part(across, x) * frame.width,
+    frame.top + (1 - part(up, y)) * frame.height,
   ];
 }
 
@@ -27,9 +35,8 @@ function part(axis, value) {
 }
 
 function valuesAt(x, y) {
-  const { clientWidth: width, clientHeight: height } = canvas;
-  const right = (x - MARGIN.left) / (width - MARGIN.left - MARGIN.right);
-  const above = (height - MARGIN.bottom - y) / (height - MARGIN.top - MARGIN.bottom);
+  const frame = frameOf();
+  const [right, above] = [(x - frame.left) / frame.width, 1 - (y - frame.top) / frame.height];
   return [
     across.back(across.from + right * (across.to - across.from)),
     up.back(up.from + above * (up.to - up.from)),
@@ -39,8 +46,8 @@ function valuesAt(x, y) {
 function ticksOf(axis) {
   const [low, high] = [axis.back(axis.from), axis.back(axis.to)];
   if (axis.isLog) {
-    const powers = Array.from({ length: 14 }, (_, power) => 10 ** (power - 12));
-    const steps = high / low > 300 ? [1] : [1, 2, 5];
+    const powers = Array.from({ length: 26 }, (_, power) => 10 ** (power - 13));
+    const steps = high / low > 300 ? [1] : high / low > 20 ? [1, 2, 5] : [1, 1.5, 2, 3, 4, 5, 7];
     return powers.flatMap((power) => steps.map((step) => step * power)).filter((tick) => tick >= low && tick <= high);
   }
   const rough = (high - low) / 6;
@@ -48,33 +55,37 @@ function ticksOf(axis) {
   const step = [1, 2, 5, 10].find((times) => times * power >= rough) * power;
   const first = Math.ceil(low / step);
   const ticks = Array.from({ length: 12 }, (_, number) => (first + number) * step);
-  return ticks.filter((tick) => tick <= Math.min(high, 1.0001) && tick >= 0);
+  return ticks.filter((tick) => tick <= (axis.isShare ? Math.min(high, 1.0001) : high) && tick >= 0);
 }
 
-function drawAxes(width, height, style) {
+function drawAxes(style) {
+  const { left, top, width, height } = frameOf();
   const [ink, line] = [style.getPropertyValue("--faint"), style.getPropertyValue("--line")];
   pen.font = "12px system-ui, sans-serif";
   pen.lineWidth = 1;
-  pen.strokeStyle = line;
   pen.fillStyle = ink;
-  const label = (tick) => `${Number((100 * tick).toPrecision(6))}%`;
+  const label = (axis, tick) => (axis.isShare ? `${Number((100 * tick).toPrecision(6))}%` : `${Number(tick.toPrecision(6))}`);
+  const title = (axis) => `${axis.key}${axis.isLog ? ", by magnitude" : ""}`;
   pen.textAlign = "center";
   for (const tick of ticksOf(across)) {
-    const x = Math.round(MARGIN.left + part(across, tick) * (width - MARGIN.left - MARGIN.right)) + 0.5;
-    pen.strokeRect(x, MARGIN.top, 0, height - MARGIN.top - MARGIN.bottom);
-    pen.fillText(label(tick), x, height - MARGIN.bottom + 16);
+    const x = Math.round(left + part(across, tick) * width) + 0.5;
+    pen.strokeStyle = line;
+    pen.strokeRect(x, top, 0, height);
+    pen.fillText(label(across, tick), x, top + height + 16);
   }
-  pen.fillText(`support${across.isLog ? ", by magnitude" : ""}`, (width + MARGIN.left) / 2, height - 8);
+  pen.fillText(title(across), left + width / 2, top + height + 36);
   pen.textAlign = "right";
   for (const tick of ticksOf(up)) {
-    const y = Math.round(height - MARGIN.bottom - part(up, tick) * (height - MARGIN.top - MARGIN.bottom)) + 0.5;
-    pen.strokeRect(MARGIN.left, y, width - MARGIN.left - MARGIN.right, 0);
-    pen.fillText(label(tick), MARGIN.left - 6, y + 4);
+    const y = Math.round(top + (1 - part(up, tick)) * height) + 0.5;
+    // A lift of 1 is where chance is.
+    pen.strokeStyle = !up.isShare && tick === 1 ? ink : line;
+    pen.strokeRect(left, y, width, 0);
+    pen.fillText(label(up, tick), left - 6, y + 4);
   }
   pen.save();
-  pen.translate(13, (height - MARGIN.bottom) / 2);
+  pen.translate(13, top + height / 2);
   pen.rotate(-Math.PI / 2);
   pen.textAlign = "center";
-  pen.fillText("confidence", 0, 0);
+  pen.fillText(title(up), 0, 0);
   pen.restore();
 }

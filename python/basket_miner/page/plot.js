@@ -1,54 +1,33 @@
-
-// The marks of rules by support and confidence, coloured by lift: red above 1, blue below it.
+// The picture: a mark for each rule, by support and confidence or by support and lift. Triangles are below a lift of 1.
 const canvas = element("marks");
 const pen = canvas.getContext("2d");
-const SHADES = 32; // Colours on each side of the middle.
-const REACH = 10; // How far from a mark a click may be.
-const radius = size <= 300 ? 6 : size <= 5000 ? 4 : 2.5;
-const across = axisOf(supports, true);
-const up = axisOf(confidences, false);
-const end = endOf();
-const xs = new Float32Array(size);
-const ys = new Float32Array(size);
-let colours = [];
+const MOST_MARKS = 5000; // Of more rules, squares show where they are.
+const SQUARE = 5;
+let radius = 6;
+let xs = new Float32Array(0);
+let ys = new Float32Array(0);
 let stamps = [];
-let at = -1; // The mark that the keyboard is at, among the marks in order.
+let stampsOf = 0; // The resolution that the stamps were made for.
 
-// The lift at which the colours end, as at its reciprocal: 4, 10, 40 and so on, which few rules exceed.
-function endOf() {
-  const sizes = Float64Array.from(lifts, (lift) => Math.max(lift, 1 / lift)).sort();
-  const most = sizes[Math.floor(0.98 * (size - 1))] || 1;
-  let [end, next] = [4, 10];
-  while (end < most) [end, next] = [next, 10 * end];
-  return end;
+function startPicture() {
+  radius = size <= 300 ? 6 : 4;
+  end = endOf(columns.lift.values);
+  [xs, ys] = [new Float32Array(size), new Float32Array(size)];
+  makeAxes();
+  makeColours();
 }
 
-function shadeOf(lift) {
-  const far = SHADES * Math.min(Math.abs(Math.log(lift)) / Math.log(end), 1);
-  return lift < 1 ? SHADES - Math.max(Math.round(far), 1) : SHADES + Math.round(far);
+function makeAxes() {
+  across = axisOf("support", true);
+  up = element("picture").value === "lift" ? axisOf("lift", true) : axisOf("confidence", false);
 }
 
-function colourOf(lift) {
-  return colours[shadeOf(lift)];
-}
-
-function makeColours() {
-  const style = getComputedStyle(document.documentElement);
-  const [low, middle, high] = ["--low", "--middle", "--high"].map((name) =>
-    style.getPropertyValue(name).match(/[0-9a-f]{2}/g).map((part) => parseInt(part, 16)));
-  colours = Array.from({ length: 2 * SHADES + 1 }, (_, shade) => {
-    const part = Math.abs(shade - SHADES) / SHADES;
-    const far = shade < SHADES ? low : high;
-    return `rgb(${middle.map((from, i) => Math.round(from + part * (far[i] - from))).join(" ")})`;
-  });
-  const ink = style.getPropertyValue("--ink");
+function makeStamps(ink) {
+  stampsOf = devicePixelRatio;
   stamps = colours.map((colour, shade) => stamp(colour, shade < SHADES, ink));
-  element("colours").style.background = `linear-gradient(to right, ${colours.join(",")})`;
-  element("low").textContent = `1/${end} or less`;
-  element("high").textContent = `${end} or more`;
 }
 
-// A mark, drawn once: a circle, or a triangle that points down.
+// A mark, drawn once.
 function stamp(colour, isLow, ink) {
   const made = document.createElement("canvas");
   const scale = devicePixelRatio;
@@ -63,143 +42,108 @@ function stamp(colour, isLow, ink) {
   } else tip.arc(0, 0, radius, 0, 2 * Math.PI);
   tip.fillStyle = colour;
   tip.fill();
-  if (size <= 5000) {
-    tip.lineWidth = size <= 300 ? 1 : 0.5;
-    tip.strokeStyle = ink;
-    tip.stroke();
-  }
+  tip.lineWidth = size <= 300 ? 1 : 0.5;
+  tip.strokeStyle = ink;
+  tip.stroke();
   return made;
 }
 
 function draw() {
-  const { clientWidth: width, clientHeight: height } = canvas;
-  [canvas.width, canvas.height] = [width * devicePixelRatio, height * devicePixelRatio];
+  if (!isOfRules || !canvas.clientWidth || !columns.lift) return;
+  if (stampsOf !== devicePixelRatio) makeColours();
+  [canvas.width, canvas.height] = [canvas.clientWidth * devicePixelRatio, canvas.clientHeight * devicePixelRatio];
   pen.scale(devicePixelRatio, devicePixelRatio);
-  drawAxes(width, height, getComputedStyle(document.documentElement));
-  for (let rule = 0; rule < size; rule++) [xs[rule], ys[rule]] = placeOf(supports[rule], confidences[rule]);
+  const style = getComputedStyle(document.documentElement);
+  drawAxes(style);
+  const frame = frameOf();
+  const [supports, heights] = [columns.support.values, columns[up.key].values];
+  for (const rule of passing) [xs[rule], ys[rule]] = placeOf(supports[rule], heights[rule], frame);
+  const drawSome = passing.length > MOST_MARKS ? drawSquares : drawMarks;
   for (const isChosen of selection ? [false, true] : [true]) {
-    pen.globalAlpha = isChosen ? (size <= 300 ? 1 : 0.85) : 0.12;
-    drawMarks(selection ? passing.filter((rule) => isSelected(rule) === isChosen) : passing);
+    pen.globalAlpha = isChosen ? 1 : 0.2;
+    drawSome(isChosen ? shown : selectedOf(passing, false));
   }
   pen.globalAlpha = 1;
-  canvas.setAttribute("aria-label", `${many(passing.length)} by support and confidence, coloured by lift`);
+  drawSelection(style);
+  drawRing(style);
+  canvas.setAttribute("aria-label", `${listed(passing.length)} by support and ${up.key}, coloured by lift`);
 }
 
-// Lifts far from 1 lie above those near it. Of many marks, one that another hides isn't drawn.
+// Lifts far from 1 lie above those near it, and a mark that another hides is not drawn.
 function drawMarks(rules) {
-  const falling = Float64Array.from(rules, (rule) => -Math.abs(shadeOf(lifts[rule]) - SHADES) * size + rule).sort();
-  const [cell, wide] = [size <= 5000 ? 0.5 : radius, 2 * radius + 2];
+  const lifts = columns.lift.values;
+  const falling = Float64Array.from(rules, (rule) => (SHADES - Math.abs(shadeOf(lifts[rule]) - SHADES)) * size + rule).sort();
+  const wide = 2 * radius + 2;
   const taken = new Set();
   const visible = [];
   for (const key of falling) {
-    const rule = ((key % size) + size) % size;
-    const place = Math.round(xs[rule] / cell) * 65536 + Math.round(ys[rule] / cell);
+    const rule = key % size;
+    const place = Math.round(2 * xs[rule]) * 65536 + Math.round(2 * ys[rule]);
     if (!taken.has(place)) visible.push(rule);
     taken.add(place);
   }
   for (const rule of visible.reverse()) {
     pen.drawImage(stamps[shadeOf(lifts[rule])], xs[rule] - radius - 1, ys[rule] - radius - 1, wide, wide);
   }
+  return visible.length;
 }
 
-function nearest(x, y) {
-  let [found, least] = [-1, REACH ** 2];
-  for (const rule of passing) {
-    const distance = (xs[rule] - x) ** 2 + (ys[rule] - y) ** 2;
-    if (distance < least) [found, least] = [rule, distance];
+// A square is as large as it has rules, and as red or blue as the strongest of them.
+function drawSquares(rules) {
+  const lifts = columns.lift.values;
+  const wide = Math.ceil(canvas.clientWidth / SQUARE) + 1;
+  const counts = new Uint32Array(wide * (Math.ceil(canvas.clientHeight / SQUARE) + 1));
+  const shades = new Uint8Array(counts.length).fill(SHADES);
+  let most = 2;
+  for (const rule of rules) {
+    const place = Math.floor(ys[rule] / SQUARE) * wide + Math.floor(xs[rule] / SQUARE);
+    const shade = shadeOf(lifts[rule]);
+    if (Math.abs(shade - SHADES) > Math.abs(shades[place] - SHADES)) shades[place] = shade;
+    most = Math.max(most, ++counts[place]);
   }
-  return found;
-}
-
-function rulesAt(rule) {
-  return passing.filter((other) => supports[other] === supports[rule] && confidences[other] === confidences[rule]);
-}
-
-// What is said of the mark of a rule.
-function told(rule) {
-  const rules = rulesAt(rule);
-  const names = [...rules.slice(0, 3)].map((one) => `${nameOf(one)} (lift ${short(lifts[one])})`);
-  const more = rules.length > 3 ? [`and ${many(rules.length - 3)} more`] : [];
-  return [`support ${percent(supports[rule])}, confidence ${percent(confidences[rule])}`, ...names, ...more].join("\n");
-}
-
-function showTip(rule) {
-  const tip = element("tip");
-  tip.hidden = rule < 0;
-  if (rule < 0) return;
-  tip.textContent = told(rule);
-  const isRight = xs[rule] > canvas.clientWidth / 2;
-  tip.style.left = isRight ? "auto" : `${xs[rule] + 12}px`;
-  tip.style.right = isRight ? `${canvas.clientWidth - xs[rule] + 12}px` : "auto";
-  tip.style.top = `${Math.min(ys[rule] + 8, canvas.clientHeight - tip.offsetHeight - 4)}px`;
-}
-
-function selectMark(rule) {
-  if (rule < 0) select(null);
-  else select([supports[rule], supports[rule]], [confidences[rule], confidences[rule]]);
-}
-
-function startPointing() {
-  let began = null;
-  const placeIn = (event) => [event.offsetX, event.offsetY];
-  const frame = element("area");
-  canvas.addEventListener("pointerdown", (event) => {
-    began = placeIn(event);
-    canvas.setPointerCapture(event.pointerId);
+  let drawn = 0;
+  counts.forEach((count, place) => {
+    if (!count) return;
+    const side = SQUARE * (0.5 + (0.5 * Math.log(count)) / Math.log(most));
+    const [x, y] = [(place % wide) + 0.5, Math.floor(place / wide) + 0.5];
+    pen.fillStyle = colours[shades[place]];
+    pen.fillRect(x * SQUARE - side / 2, y * SQUARE - side / 2, side, side);
+    drawn++;
   });
-  canvas.addEventListener("pointermove", (event) => {
-    const [x, y] = placeIn(event);
-    showTip(began ? -1 : nearest(x, y));
-    if (!began) return;
-    frame.hidden = false;
-    frame.style.left = `${Math.min(x, began[0])}px`;
-    frame.style.top = `${Math.min(y, began[1])}px`;
-    frame.style.width = `${Math.abs(x - began[0])}px`;
-    frame.style.height = `${Math.abs(y - began[1])}px`;
-  });
-  canvas.addEventListener("pointerup", (event) => {
-    const [x, y] = placeIn(event);
-    const [fromX, fromY] = began || [x, y];
-    began = null;
-    frame.hidden = true;
-    if (Math.hypot(x - fromX, y - fromY) < 5) {
-      selectMark(nearest(x, y));
-      return;
-    }
-    const [one, other] = [valuesAt(fromX, fromY), valuesAt(x, y)];
-    const sides = [0, 1].map((axis) => [Math.min(one[axis], other[axis]), Math.max(one[axis], other[axis])]);
-    select(...sides);
-  });
-  canvas.addEventListener("pointerleave", () => showTip(-1));
+  return drawn;
 }
 
-function goTo(step) {
-  const marks = [...passing].sort((one, other) => supports[one] - supports[other] || confidences[one] - confidences[other])
-    .filter((rule, place, all) => place === 0 || supports[rule] !== supports[all[place - 1]] || confidences[rule] !== confidences[all[place - 1]]);
-  if (!marks.length) return -1;
-  at = Math.min(Math.max(at + step, 0), marks.length - 1);
-  return marks[at];
+// The selection stays in sight as long as it holds.
+function drawSelection(style) {
+  const [x, y] = [selection?.support, selection?.[up.key]];
+  if (!x || !y) return;
+  const [[left, bottom], [right, top]] = [placeOf(x[0], y[0]), placeOf(x[1], y[1])];
+  const margin = left === right || top === bottom ? radius + 4 : 0;
+  pen.strokeStyle = style.getPropertyValue("--link");
+  pen.lineWidth = 1.5;
+  pen.setLineDash([5, 4]);
+  pen.strokeRect(left - margin, top - margin, right - left + 2 * margin, bottom - top + 2 * margin);
+  pen.setLineDash([]);
 }
 
-function startKeys() {
-  const steps = { ArrowRight: 1, ArrowUp: 1, ArrowLeft: -1, ArrowDown: -1 };
-  canvas.addEventListener("keydown", (event) => {
-    if (event.key === "Escape") select(null);
-    else if (event.key === "Enter") selectMark(goTo(0));
-    else if (event.key in steps) {
-      const rule = goTo(steps[event.key]);
-      showTip(rule);
-      if (rule >= 0) say(told(rule));
-    } else return;
-    event.preventDefault();
-  });
-  canvas.addEventListener("blur", () => showTip(-1));
+// A ring around the mark that the keyboard is at.
+function drawRing(style) {
+  if (at < 0 || document.activeElement !== canvas) return;
+  pen.strokeStyle = style.getPropertyValue("--link");
+  pen.lineWidth = 2.5;
+  pen.beginPath();
+  pen.arc(xs[at], ys[at], radius + 5, 0, 2 * Math.PI);
+  pen.stroke();
 }
 
 const redraw = onceAFrame(draw);
 
 function startPlot() {
-  makeColours();
+  element("picture").addEventListener("change", () => {
+    makeAxes();
+    element("plotted").textContent = titleOfPicture();
+    select(null);
+  });
   startPointing();
   startKeys();
   new ResizeObserver(redraw).observe(canvas);
@@ -210,4 +154,6 @@ function startPlot() {
   });
 }
 
-start();
+function titleOfPicture() {
+  return element("picture").value === "lift" ? "Support and lift" : "Support and confidence";
+}

@@ -1,0 +1,52 @@
+"use strict";
+// Figures and names as they are shown.
+const element = (id) => document.getElementById(id);
+
+function short(value) {
+  return value >= 999.5 ? Math.round(value).toLocaleString("en") : value.toPrecision(3);
+}
+
+function percent(value) {
+  return `${short(100 * value)}%`;
+}
+
+function whole(count) {
+  return count.toLocaleString("en");
+}
+
+function fraction(top, bottom) {
+  let [one, other] = [BigInt(top), BigInt(bottom)];
+  while (other) [one, other] = [other, one % other];
+  return `${BigInt(top) / one}/${BigInt(bottom) / one}`;
+}
+
+function many(count, word) {
+  return `${whole(count)} ${word}${count === 1 ? "" : "s"}`;
+}
+
+function made(tag, content, parent) {
+  const one = document.createElement(tag);
+  if (content !== undefined) one.textContent = content;
+  if (parent) parent.append(one);
+  return one;
+}
+
+// Names with commas between them. A name that is read from the right turns nothing around it.
+function addNames(names, parent) {
+  names.forEach((name, place) => {
+    if (place) parent.append(", ");
+    made("bdi", name, parent);
+  });
+}
+
+// Calls an action once, however often it is asked for until the next frame.
+function onceAFrame(action) {
+  let isAsked = false;
+  return () => {
+    if (!isAsked) requestAnimationFrame(() => {
+      isAsked = false;
+      action();
+    });
+    isAsked = true;
+  };
+}
