@@ -28,6 +28,7 @@ function row(rule) {
     else if (column.isSide) addNames(namesOf(key, rule), made("span", undefined, cell));
     else made("span", column.text(column.values[rule]), cell);
     if (key === "lift") cell.prepend(spot(rule));
+    if (key === "support") cell.style.setProperty("--part", column.values[rule]);
   }
   return line;
 }

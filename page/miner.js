@@ -1,0 +1,89 @@
+
+// The miner: a worker that answers one question at a time. A newer turn of the page ends the question of an older one.
+const PATIENCE = 150; // Milliseconds that a question may hold up a newer turn.
+// A memory with 64-bit addresses, and nothing else.
+const WIDE_MEMORY = new Uint8Array([0, 97, 115, 109, 1, 0, 0, 0, 5, 3, 1, 4, 1]);
+const ENDED = 134; // The status of a program that the page had to end.
+const nothing = new Uint8Array(0);
+let miner = null; // The compiled module, once it is unpacked.
+let worker = null;
+let running = null; // The question that the worker is at.
+let turn = 0;
+let asked = 0;
+
+function lacking() {
+  if (typeof WebAssembly !== "object" || !WebAssembly.validate(WIDE_MEMORY)) {
+    return "This browser can't run the miner: it has no 64-bit memory for WebAssembly. Chrome, Edge and other browsers made of " +
+      "Chromium have it from version 133 on, and Firefox from 134. Safari has none in any version that we know of.";
+  }
+  return typeof DecompressionStream === "function" ? "" : "This browser can't run the miner: it can't unpack it (DecompressionStream).";
+}
+
+async function unpacked(text) {
+  const packed = Uint8Array.from(atob(text.trim()), (letter) => letter.charCodeAt(0));
+  return unzipped(packed);
+}
+
+async function unzipped(bytes) {
+  const stream = new Blob([bytes]).stream().pipeThrough(new DecompressionStream("gzip"));
+  return new Uint8Array(await new Response(stream).arrayBuffer());
+}
+
+function workerOf(id) {
+  const address = URL.createObjectURL(new Blob([element(id).textContent], { type: "text/javascript" }));
+  const made = new Worker(address);
+  URL.revokeObjectURL(address);
+  return made;
+}
+
+function startWorker() {
+  worker = workerOf("worker");
+  const own = worker;
+  const settle = (answer) => {
+    if (worker !== own || !running) return;
+    const { resolve } = running;
+    running = null;
+    resolve(answer);
+  };
+  worker.onmessage = ({ data: answer }) => {
+    if (answer.ready === false) settle({ status: ENDED, report: nothing, explanation: answer.why });
+    else if (answer.id === running?.id) settle(answer);
+  };
+  worker.onerror = (event) => settle({ status: ENDED, report: nothing, explanation: event.message || "the miner did not start" });
+  worker.postMessage({ module: miner });
+}
+
+const ready = (async () => {
+  if (lacking()) throw new Error(lacking());
+  miner = await WebAssembly.compile(await unpacked(element("module").textContent));
+  startWorker();
+})();
+
+function endQuestion() {
+  if (!running) return;
+  const { resolve } = running;
+  running = null;
+  worker.terminate();
+  startWorker();
+  resolve(null);
+}
+
+// The answer to a question of a turn, or null if a newer turn came or the question was ended.
+async function ask(own, words, bytes, sets = null) {
+  await ready;
+  if (own !== turn) return null;
+  if (running) {
+    const held = running;
+    const patience = held.begun + PATIENCE - performance.now();
+    await Promise.race([held.done, new Promise((done) => setTimeout(done, patience))]);
+    if (own !== turn) return null;
+    if (running === held) endQuestion();
+  }
+  const id = ++asked;
+  let resolve;
+  const done = new Promise((settle) => (resolve = settle));
+  running = { id, resolve, done, begun: performance.now() };
+  worker.postMessage({ id, words, input: bytes, sets });
+  const answer = await done;
+  return own === turn ? answer : null;
+}

@@ -1,0 +1,277 @@
+
+// The page: a file is opened, its form recognised, a minimum found, and questions are asked as soon as anything is changed.
+const MOST_SETS = 200_000; // Frequent itemsets beyond which a question is refused.
+const SLOW = 400; // Milliseconds after which the page says that it is at work.
+let file = null; // { name, given: bytes, bytes: as they are mined, found: what `look` proposes, pipe: the programs for that }
+let report = null;
+let kept = linked(); // What the address says of the question, until a file is there.
+
+function say(text, isFault = false) {
+  element("answered").textContent = text;
+  element("answered").classList.toggle("fault", isFault);
+  element("answer").hidden = !text;
+}
+
+function saySoon(own, text) {
+  setTimeout(() => {
+    if (own === turn && running) {
+      say(text);
+      element("end").hidden = false;
+    }
+  }, SLOW);
+}
+
+function sayFault(text) {
+  report = null;
+  element("save-report").disabled = true;
+  document.body.classList.add("empty");
+  say(text, true);
+}
+
+function begin() {
+  element("end").hidden = true;
+  return ++turn;
+}
+
+// A new file: what it is, how many baskets it has, and a minimum to begin with.
+async function open(given, name) {
+  const own = begin();
+  try {
+    await ready;
+    saySoon(own, `Reading ${name}.`);
+    let bytes = given;
+    for (let layers = 0; layers < MOST_OFFERED && bytes[0] === 0x1f && bytes[1] === 0x8b; layers++) bytes = await unzipped(bytes);
+    const answer = await ask(own, ["look", "-"], bytes.slice(0, LOOKED_AT));
+    if (!answer) return;
+    const text = new TextDecoder().decode(answer.report).replace(/^standard input/, name);
+    const found = proposed(text);
+    element("file-name").textContent = name;
+    element("looked").textContent = text;
+    element("question").hidden = false;
+    element("drop").classList.add("small");
+    document.title = `${name} - basket`;
+    file = { name, given: bytes, bytes, found, pipe: [] };
+    if (!found) return sayFault(text || answer.explanation);
+    offerColumns(text, found.steps);
+    fillForm(found);
+    element("glance").open = false;
+    await prepare(own);
+  } catch (error) {
+    if (own === turn) sayFault(`${name} can't be read: ${error.message}`);
+  }
+}
+
+// The file in a form that is mined.
+async function prepare(own) {
+  const { found, given } = file;
+  const chosen = chosenSteps({ ...found, sep: element("sep").value }, given.includes(34));
+  const bytes = await prepared(given, chosen.steps);
+  if (own !== turn) return;
+  file = { ...file, bytes, pipe: chosen.pipe };
+  await count(own);
+}
+
+// The number of baskets, and the first question.
+async function count(own) {
+  tellForm();
+  const answer = await ask(own, ["count", "--sets", "sets", ...formWords(), "-"], file.bytes, nothing);
+  if (!answer) return;
+  if (answer.status !== 0) return sayFault(answer.explanation);
+  setTotal(Number(new TextDecoder().decode(answer.report).match(/\d+/)?.[0] ?? 0));
+  if (!total) return sayFault("There is no basket in it.");
+  takeQuestion(kept);
+  const least = Number(kept.get("min")) || await firstLeast(own, file.bytes);
+  if (least === null) return;
+  setLeast(Math.min(least, total));
+  takeState(kept);
+  kept = new URLSearchParams();
+  await mine(own);
+}
+
+function takeQuestion(state) {
+  if ([...element("ask").options].some(({ value }) => value === state.get("ask"))) element("ask").value = state.get("ask");
+  if (state.get("conf")) element("confidence-least").value = state.get("conf");
+}
+
+function words() {
+  const what = element("ask").value;
+  if (what === "count") return [what, "--sets", "sets", ...formWords()];
+  const some = [what, "--min", `${leastCount()}`];
+  if (what === "rules") some.push("--conf", `${element("confidence-least").value}%`);
+  some.push(...formWords());
+  return what === "items" ? some : [...some, "--miner", minerFor(total), "--limit", `${MOST_SETS}`];
+}
+
+// The command that writes the same report.
+function commandOf(question) {
+  const shell = (word) => (/^[\w./%=+:,@-]+$/.test(word) ? word : `'${word.replaceAll("'", "'\\''")}'`);
+  const { pipe } = file;
+  const name = shell(file.name);
+  const programs = pipe.map((program, place) => (place ? program : `${program} < ${name}`));
+  return [...programs, `basket ${question.map(shell).join(" ")}${pipe.length ? "" : ` ${name}`}`].join(" | ");
+}
+
+// The sets that are typed in, with commas between the names, as the program reads sets: in CSV after a count.
+function givenSets() {
+  const lines = element("given").value.split("\n").filter((line) => line.trim());
+  const letter = LETTERS[element("sep").value];
+  const written = (name) => (/["\r\n]/.test(name) || name.includes(letter) ? `"${name.replaceAll('"', '""')}"` : name);
+  const names = lines.map((line) => wanted(line).found.map(({ name }) => name));
+  const text = isCsv() ? names.map((some) => ["0", ...some.map(written)].join(letter)) : lines.map((line) => line.replaceAll(",", " "));
+  return new TextEncoder().encode(text.map((line) => `${line}\n`).join(""));
+}
+
+// Some sets to begin with, from what is shown.
+function offerSets() {
+  if (element("given").value || !size) return;
+  const written = (name) => (/[",]/.test(name) ? `"${name.replaceAll('"', '""')}"` : name);
+  const lines = [...shown.slice(0, 3)].map((rule) => [...namesOf("left", rule), ...(isOfRules ? namesOf("right", rule) : [])].map(written).join(", "));
+  element("given").value = lines.join("\n");
+}
+
+async function mine(own = begin()) {
+  tellQuestion();
+  const question = words();
+  const isOfRules = question[0] === "rules";
+  saySoon(own, "Mining.");
+  const answer = await ask(own, [...question, "-"], file.bytes, question[0] === "count" ? givenSets() : null);
+  element("end").hidden = own === turn || element("end").hidden;
+  if (!answer) return;
+  if (answer.status !== 0) return sayFault(answer.explanation);
+  const read = await readReport(own, answer.report, isCsv() ? LETTERS[element("sep").value] : "", isOfRules, total);
+  if (!read) return;
+  report = answer.report;
+  element("save-report").disabled = false;
+  element("command").textContent = commandOf(question);
+  await show(read);
+  if (own === turn) tellAnswer(answer, read);
+}
+
+async function show(read) {
+  document.body.classList.remove("empty");
+  if (selection && !read.right) selection = null;
+  take(read);
+  await new Promise((done) => setTimeout(done));
+  head();
+  at = -1;
+  if (isOfRules) startPicture();
+  update();
+}
+
+function tellAnswer(answer, read) {
+  const lines = report.reduce((sum, byte) => sum + (byte === 10), 0);
+  const isCut = read.both.length === MOST_LISTED && lines > MOST_LISTED;
+  const found = isCut ? `${whole(lines)} lines, of which the first ${whole(MOST_LISTED)} are listed` : listed(read.both.length);
+  const cost = `${whole(Math.round(answer.milliseconds))} ms, ${whole(Math.ceil(answer.memory / 2 ** 20))} MB`;
+  const hint = answer.explanation.trim();
+  element("source").textContent = sourceOf(found);
+  say(`${found} in ${many(total, "basket")} (${cost}).${hint ? `\n${hint}` : ""}`);
+  element("end").hidden = true;
+}
+
+// What is read on paper above what is listed.
+function sourceOf(found) {
+  const what = element("ask").value;
+  const least = what === "count" ? "" : `, in at least ${many(leastCount(), "basket")} of ${whole(total)}`;
+  return `${file.name}: ${found}${least}${what === "rules" ? `, confidence at least ${element("confidence-least").value}%` : ""}`;
+}
+
+function tellQuestion() {
+  const what = element("ask").value;
+  document.querySelector(".mined").hidden = what === "count";
+  document.querySelector(".sure").hidden = what !== "rules";
+  document.querySelector(".given").hidden = what !== "count";
+  element("sure-of").textContent = `${element("confidence-least").value}%`;
+  tellLeast();
+}
+
+async function openFile(one) {
+  await open(new Uint8Array(await one.arrayBuffer()), one.name);
+}
+
+function openExample() {
+  return open(new TextEncoder().encode(element("example-text").textContent), "example.csv");
+}
+
+// The question is a part of the address, and of the example the file is too.
+moreState = () => {
+  if (!file) return [];
+  const state = [["ask", element("ask").value], ["min", leastCount()], ["conf", element("confidence-least").value]];
+  return file.name === "example.csv" ? [["file", "example"], ...state] : state;
+};
+
+function startOpening() {
+  element("choose").addEventListener("click", () => element("file").click());
+  element("example").addEventListener("click", openExample);
+  element("file").addEventListener("change", () => {
+    if (element("file").files[0]) openFile(element("file").files[0]);
+    element("file").value = "";
+  });
+  addEventListener("dragover", (event) => {
+    event.preventDefault();
+    element("drop").classList.add("over");
+  });
+  addEventListener("dragleave", () => element("drop").classList.remove("over"));
+  addEventListener("drop", (event) => {
+    event.preventDefault();
+    element("drop").classList.remove("over");
+    if (event.dataTransfer.files[0]) openFile(event.dataTransfer.files[0]);
+  });
+  addEventListener("paste", (event) => {
+    if (event.target.closest("input, textarea")) return;
+    const [pasted] = event.clipboardData.files;
+    const text = event.clipboardData.getData("text");
+    if (pasted) openFile(pasted);
+    else if (text) open(new TextEncoder().encode(text), "pasted text");
+  });
+}
+
+function startQuestion() {
+  element("question").addEventListener("submit", (event) => event.preventDefault());
+  for (const id of ["form", "sep", "header", "weight", "basket-column", "item-column"]) {
+    element(id).addEventListener("change", () => file?.found && prepare(begin()));
+  }
+  element("minimum").addEventListener("input", () => {
+    setLeast(counts[Number(element("minimum").value)]);
+    mine();
+  });
+  element("least").addEventListener("change", () => {
+    setLeast(leastCount());
+    mine();
+  });
+  element("confidence-least").addEventListener("input", () => mine());
+  element("ask").addEventListener("change", () => {
+    if (element("ask").value === "count") offerSets();
+    mine();
+  });
+  element("given").addEventListener("input", () => mine());
+  element("end").addEventListener("click", () => {
+    begin();
+    endQuestion();
+    say("Stopped.");
+  });
+  element("save-report").addEventListener("click", () => {
+    const name = file.name.replace(/\.\w+$/, "");
+    save(new Blob([report]), `${name}-${element("ask").value}.${isCsv() ? "csv" : "txt"}`);
+  });
+}
+
+function startPage() {
+  const { version, module: kind } = JSON.parse(element("facts").textContent);
+  element("version").textContent = `version ${version}, ${kind}`;
+  element("unproved").hidden = kind === "proved";
+  startOpening();
+  startQuestion();
+  startFilters();
+  element("filtering").open = false;
+  startTable();
+  startSaving();
+  startLink();
+  startPlot();
+  ready.then(() => kept.get("file") === "example" && openExample(), (error) => {
+    element("trouble").textContent = error.message;
+    for (const id of ["choose", "example"]) element(id).disabled = true;
+  });
+}
+
+startPage();
