@@ -5,7 +5,7 @@ const PATIENCE = 150; // Milliseconds that a question may hold up a newer turn.
 const WIDE_MEMORY = new Uint8Array([0, 97, 115, 109, 1, 0, 0, 0, 5, 3, 1, 4, 1]);
 const ENDED = 134; // The status of a program that the page had to end.
 const nothing = new Uint8Array(0);
-let miner = null; // The compiled module, once it is unpacked.
+let program = null; // The compiled module, once it is unpacked.
 let worker = null;
 let running = null; // The question that the worker is at.
 let turn = 0;
@@ -50,12 +50,12 @@ function startWorker() {
     else if (answer.id === running?.id) settle(answer);
   };
   worker.onerror = (event) => settle({ status: ENDED, report: nothing, explanation: event.message || "the miner did not start" });
-  worker.postMessage({ module: miner });
+  worker.postMessage({ module: program });
 }
 
 const ready = (async () => {
   if (lacking()) throw new Error(lacking());
-  miner = await WebAssembly.compile(await unpacked(element("module").textContent));
+  program = await WebAssembly.compile(await unpacked(element("module").textContent));
   startWorker();
 })();
 

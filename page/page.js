@@ -6,7 +6,14 @@ let file = null; // { name, given: bytes, bytes: as they are mined, found: what 
 let report = null;
 let kept = linked(); // What the address says of the question, until a file is there.
 
+// Says what a turn has come to.
 function say(text, isFault = false) {
+  document.body.setAttribute("aria-busy", "false");
+  element("end").hidden = true;
+  tell(text, isFault);
+}
+
+function tell(text, isFault = false) {
   element("answered").textContent = text;
   element("answered").classList.toggle("fault", isFault);
   element("answer").hidden = !text;
@@ -15,7 +22,7 @@ function say(text, isFault = false) {
 function saySoon(own, text) {
   setTimeout(() => {
     if (own === turn && running) {
-      say(text);
+      tell(text);
       element("end").hidden = false;
     }
   }, SLOW);
@@ -29,6 +36,7 @@ function sayFault(text) {
 }
 
 function begin() {
+  document.body.setAttribute("aria-busy", "true");
   element("end").hidden = true;
   return ++turn;
 }
@@ -135,7 +143,6 @@ async function mine(own = begin()) {
   const isOfRules = question[0] === "rules";
   saySoon(own, "Mining.");
   const answer = await ask(own, [...question, "-"], file.bytes, question[0] === "count" ? givenSets() : null);
-  element("end").hidden = own === turn || element("end").hidden;
   if (!answer) return;
   if (answer.status !== 0) return sayFault(answer.explanation);
   const read = await readReport(own, answer.report, isCsv() ? LETTERS[element("sep").value] : "", isOfRules, total);
@@ -166,7 +173,6 @@ function tellAnswer(answer, read) {
   const hint = answer.explanation.trim();
   element("source").textContent = sourceOf(found);
   say(`${found} in ${many(total, "basket")} (${cost}).${hint ? `\n${hint}` : ""}`);
-  element("end").hidden = true;
 }
 
 // What is read on paper above what is listed.
