@@ -1,6 +1,8 @@
 
 // The page: a file is opened, its form recognised, a minimum found, and questions are asked as soon as anything is changed.
 const MOST_SETS = 200_000; // Frequent itemsets beyond which a question is refused.
+const FEW_RULES = 10; // With fewer, a new file begins at the next lower confidence.
+const CONFIDENCES = [50, 20, 5, 0];
 const SLOW = 400; // Milliseconds after which the page says that it is at work.
 let file = null; // { name, given: bytes, bytes: as they are mined, found: what `look` proposes, pipe: the programs for that }
 let report = null;
@@ -56,7 +58,7 @@ async function open(given, name) {
     element("file-name").textContent = name;
     element("looked").textContent = text;
     element("question").hidden = false;
-    element("drop").classList.add("small");
+    document.body.classList.add("opened");
     document.title = `${name} - basket`;
     file = { name, given: bytes, bytes, found, pipe: [] };
     if (!found) return sayFault(text || answer.explanation);
@@ -92,8 +94,14 @@ async function count(own) {
   if (least === null) return;
   setLeast(Math.min(least, total));
   takeState(kept);
+  const isLinked = kept.has("conf");
   kept = new URLSearchParams();
   await mine(own);
+  for (const confidence of isLinked || element("ask").value !== "rules" ? [] : CONFIDENCES) {
+    if (own !== turn || size >= FEW_RULES || confidence >= Number(element("confidence-least").value)) continue;
+    element("confidence-least").value = confidence;
+    await mine(own);
+  }
 }
 
 function takeQuestion(state) {

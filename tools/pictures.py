@@ -3,13 +3,14 @@
 
 usage: tools/pictures.py [FOLDER]    at the top of the repository; FOLDER is docs/pictures by default
 
-It needs Debian's packages (tools/python-packages) and the program. One version of matplotlib writes the
-same bytes each time; the page of rules is what Chromium shows.
+It needs Debian's packages (tools/python-packages), the program, and the page dist/basket.html, or the one that
+PAGE names. One version of matplotlib writes the same bytes each time; the pages are what Chromium shows.
 """
 
 import os
 import sys
 import tempfile
+import time
 from pathlib import Path
 
 ROOT = Path(__file__).resolve().parents[1]
@@ -17,8 +18,9 @@ sys.path[:0] = [str(ROOT / "python"), str(ROOT / "python/tests")]
 os.environ["MPLBACKEND"] = "agg"
 
 from basket_miner import explore, plot, rules  # noqa: E402
-from browser import opened  # noqa: E402
+from browser import at, opened  # noqa: E402
 
+PAGE = Path(os.environ.get("PAGE", ROOT / "dist/basket.html")).resolve()
 RECEIPTS = ROOT / "examples/receipts.csv"
 
 
@@ -37,6 +39,14 @@ def main(words: list[str]) -> None:
     with tempfile.TemporaryDirectory() as place, opened() as browser:
         browser.get(explore(found, Path(place, "rules.html")).as_uri())
         browser.save_screenshot(str(folder / "explore.png"))
+        browser.get(PAGE.as_uri())
+        at(browser, "example").click()
+        while (
+            browser.find_element("tag name", "body").get_attribute("aria-busy")
+            != "false"
+        ):
+            time.sleep(0.1)
+        browser.save_screenshot(str(folder / "page.png"))
 
 
 if __name__ == "__main__":

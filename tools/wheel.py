@@ -1,9 +1,9 @@
 #!/usr/bin/env python3
-"""Makes a wheel of the Python package with the proved program in it, under dist/.
+"""Makes a wheel of the Python package with the proved program and its page in it, under dist/.
 
 usage: tools/wheel.py [FOLDER]    at the top of the repository, after `make`; FOLDER instead of dist
 
-`BASKET` names another program. The wheel's tag is that of the oldest C library that has all symbols which
+`BASKET` names another program, and `PAGE` another page than dist/basket.html. The wheel's tag is that of the oldest C library that has all symbols which
 the program asks for. It needs `setuptools`, `wheel` and `pip` of the system's Python, `objdump`, and no
 network: tools/python-packages installs them. The same program and commit give the same bytes.
 """
@@ -17,6 +17,7 @@ import tempfile
 from pathlib import Path
 
 PROGRAM = Path(os.environ.get("BASKET", "crates/basket_cli/out/basket_cli"))
+PAGE = Path(os.environ.get("PAGE", "dist/basket.html"))
 PACKAGE = Path("python")
 # The system's Python, which has Debian's packages, whatever other is first on the path.
 PYTHON = "/usr/bin/python3"
@@ -46,6 +47,10 @@ def demand() -> None:
         sys.exit(
             f"{PROGRAM} is not here: `make` builds it, or BASKET names another program."
         )
+    if not PAGE.is_file():
+        sys.exit(
+            f"{PAGE} is not here: `make page` makes it, or PAGE names another page."
+        )
 
 
 def platform() -> str:
@@ -61,7 +66,7 @@ def platform() -> str:
 
 
 def copy_package(folder: Path) -> None:
-    """The package's sources in a folder, with the program and the licences among them."""
+    """The package's sources in a folder, with the program, the page and the licences among them."""
     for name in ("pyproject.toml", "setup.py", "README.md"):
         shutil.copy(PACKAGE / name, folder)
     for name in LICENCES:
@@ -69,12 +74,13 @@ def copy_package(folder: Path) -> None:
     shutil.copytree(
         PACKAGE / "basket_miner",
         folder / "basket_miner",
-        ignore=shutil.ignore_patterns("__pycache__", "bin"),
+        ignore=shutil.ignore_patterns("__pycache__", "bin", "basket.html"),
     )
     place = folder / "basket_miner/bin/basket"
     place.parent.mkdir()
     shutil.copyfile(PROGRAM, place)
     place.chmod(0o755)
+    shutil.copyfile(PAGE, folder / "basket_miner/page/basket.html")
 
 
 def build(source: Path, folder: Path) -> Path:

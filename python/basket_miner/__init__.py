@@ -39,7 +39,7 @@ data, ..)`, and the end of Python, however it comes, on Linux with the tool `set
 The program has the package's version, or a later one of the same major version.
 
 `tidy` makes a row for each item, `recommend` says what to offer to baskets by rules, `explore` writes a
-page that shows rules in a browser, `certify` checks a report of the program against its baskets by other
+page that shows rules in a browser, `page` says where the page lies that mines in a browser, `certify` checks a report of the program against its baskets by other
 code, `basket_miner.frequent_patterns` and `basket_miner.preprocessing` have the calls of mlxtend, and
 `basket_miner.cluster` asks parts of the baskets on a Dask cluster.
 
@@ -65,6 +65,7 @@ from ._errors import (
 )
 from ._explore import explore
 from ._itemsets import closed, items, maximal, sets
+from ._page import page
 from ._recommend import recommend
 from ._rules import count, rules
 from ._tidy import tidy
@@ -91,6 +92,7 @@ __all__ = [
     "explore",
     "items",
     "maximal",
+    "page",
     "recommend",
     "rules",
     "sets",

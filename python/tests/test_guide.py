@@ -116,7 +116,7 @@ def test_a_block_prints_what_the_guide_shows(
 
 def test_the_pictures_that_the_guide_shows_are_there() -> None:
     shown = re.findall(r"!\[[^]]+\]\(([^)]+)\)", GUIDE)
-    assert len(shown) == 4
+    assert len(shown) == 5
     assert [name for name in shown if not (ROOT / "docs" / name).is_file()] == []
 
 

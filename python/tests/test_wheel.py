@@ -9,7 +9,7 @@ from pathlib import Path
 
 import pytest
 
-from basket_miner import __version__, _program
+from basket_miner import FileError, __version__, _program, page
 
 ROOT = Path(__file__).parents[2]
 PIP = ("-m", "pip", "--disable-pip-version-check", "install", "--no-index", "--no-deps")
@@ -49,8 +49,16 @@ def output_of(*words: str | Path, folder: Path, program: str | None = None) -> s
 
 @pytest.fixture(name="wheel", scope="module")
 def made_wheel(tmp_path_factory: pytest.TempPathFactory) -> Path:
-    environment = {**os.environ, "BASKET": str(_program.find())}
-    words = [sys.executable, "tools/wheel.py", str(tmp_path_factory.mktemp("dist"))]
+    folder = tmp_path_factory.mktemp("dist")
+    # What a page does is tested beside it.
+    shown = folder / "some.html"
+    shown.write_text("<title>basket</title>")
+    environment = {
+        **os.environ,
+        "BASKET": str(_program.find()),
+        "PAGE": str(shown),
+    }
+    words = [sys.executable, "tools/wheel.py", str(folder)]
     made = subprocess.run(
         words, cwd=ROOT, env=environment, stdout=subprocess.PIPE, text=True, check=True
     )
@@ -64,6 +72,14 @@ def test_a_wheel_has_the_program_and_needs_nothing_of_the_repository(
     output_of(python, *PIP, wheel, folder=tmp_path)
     said = output_of(python, "-c", SCRIPT, folder=tmp_path)
     assert said.splitlines() == ["bin/basket", "[1.0]", __version__, "True", "sets"]
+    script = "import basket_miner; print(basket_miner.page().read_text())"
+    said = output_of(python, "-c", script, folder=tmp_path)
+    assert said == "<title>basket</title>\n"
+
+
+def test_sources_have_no_page_and_say_who_has() -> None:
+    with pytest.raises(FileError, match="make wheel"):
+        page()
 
 
 def test_the_tag_of_a_wheel_is_that_of_the_oldest_c_library(wheel: Path) -> None:
