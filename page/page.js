@@ -10,7 +10,7 @@ let kept = linked(); // What the address says of the question, until a file is t
 
 // Says what a turn has come to.
 function say(text, isFault = false) {
-  document.body.setAttribute("aria-busy", "false");
+  document.querySelector("main").setAttribute("aria-busy", "false");
   element("end").hidden = true;
   tell(text, isFault);
 }
@@ -38,18 +38,18 @@ function sayFault(text) {
 }
 
 function begin() {
-  document.body.setAttribute("aria-busy", "true");
+  document.querySelector("main").setAttribute("aria-busy", "true");
   element("end").hidden = true;
   return ++turn;
 }
 
-// A new file: what it is, how many baskets it has, and a minimum to begin with.
+// A new file, or its bytes once they are there: what it is, how many baskets it has, and a minimum to begin with.
 async function open(given, name) {
   const own = begin();
   try {
     await ready;
     saySoon(own, `Reading ${name}.`);
-    let bytes = given;
+    let bytes = await given;
     for (let layers = 0; layers < MOST_OFFERED && bytes[0] === 0x1f && bytes[1] === 0x8b; layers++) bytes = await unzipped(bytes);
     const answer = await ask(own, ["look", "-"], bytes.slice(0, LOOKED_AT));
     if (!answer) return;
@@ -86,7 +86,10 @@ async function count(own) {
   tellForm();
   const answer = await ask(own, ["count", "--sets", "sets", ...formWords(), "-"], file.bytes, nothing);
   if (!answer) return;
-  if (answer.status !== 0) return sayFault(answer.explanation);
+  if (answer.status !== 0) {
+    element("glance").open = true;
+    return sayFault(answer.explanation);
+  }
   setTotal(Number(new TextDecoder().decode(answer.report).match(/\d+/)?.[0] ?? 0));
   if (!total) return sayFault("There is no basket in it.");
   takeQuestion(kept);
@@ -170,6 +173,7 @@ async function show(read) {
   head();
   at = -1;
   if (isOfRules) startPicture();
+  await new Promise((done) => setTimeout(done));
   update();
 }
 
@@ -199,8 +203,8 @@ function tellQuestion() {
   tellLeast();
 }
 
-async function openFile(one) {
-  await open(new Uint8Array(await one.arrayBuffer()), one.name);
+function openFile(one) {
+  return open(one.arrayBuffer().then((buffer) => new Uint8Array(buffer)), one.name);
 }
 
 function openExample() {
@@ -282,6 +286,10 @@ function startPage() {
   startSaving();
   startLink();
   startPlot();
+  addEventListener("hashchange", () => {
+    kept = linked();
+    if (file?.found) count(begin());
+  });
   ready.then(() => kept.get("file") === "example" && openExample(), (error) => {
     element("trouble").textContent = error.message;
     for (const id of ["choose", "example"]) element(id).disabled = true;

@@ -42,7 +42,7 @@ def main(words: list[str]) -> None:
         browser.get(PAGE.as_uri())
         at(browser, "example").click()
         while (
-            browser.find_element("tag name", "body").get_attribute("aria-busy")
+            browser.find_element("tag name", "main").get_attribute("aria-busy")
             != "false"
         ):
             time.sleep(0.1)

@@ -102,7 +102,7 @@ def opened_page(browser: webdriver.Chrome, page: Path) -> webdriver.Chrome:
     return browser
 
 
-@pytest.mark.parametrize(("content", "said"), SAME)
+@pytest.mark.parametrize(("content", "said"), SAME, ids=map(str, range(len(SAME))))
 def test_files_of_the_same_receipts_have_the_same_sets(
     shown: webdriver.Chrome, content: bytes, said: str
 ) -> None:

@@ -10,6 +10,7 @@ import pytest
 from selenium import webdriver
 from selenium.webdriver.common.by import By
 from selenium.webdriver.common.keys import Keys
+from selenium.webdriver.support.ui import WebDriverWait
 
 from browser import at, rows
 from program_tests.inputs import dense, fimi
@@ -20,6 +21,7 @@ from .use import asked_of_the_program, choose, figures, give, report_of, settled
 ROOT = Path(__file__).parents[2]
 RECEIPTS = (ROOT / "examples/receipts.csv").read_bytes()
 SHOP = (ROOT / "examples/shop.dat").read_bytes()
+SECONDS_OF_A_STEP = 0.2
 DROP = """
 const [kind, target, key] = arguments;
 const transfer = new DataTransfer();
@@ -55,7 +57,9 @@ def test_an_example_is_one_click_away(
 
 @pytest.mark.parametrize("ask", ["rules", "sets", "closed", "maximal", "items"])
 @pytest.mark.parametrize(
-    ("content", "name"), [(RECEIPTS, "receipts.csv"), (SHOP, "shop.dat")]
+    ("content", "name"),
+    [(RECEIPTS, "receipts.csv"), (SHOP, "shop.dat")],
+    ids=["names", "numbers"],
 )
 def test_what_is_listed_is_the_programs_report(
     shown: webdriver.Chrome, tmp_path: Path, ask: str, content: bytes, name: str
@@ -130,6 +134,17 @@ def test_a_newer_question_ends_an_older_one(example: webdriver.Chrome) -> None:
     assert "itemsets in" in settled(example)
 
 
+def test_a_question_is_stopped(example: webdriver.Chrome) -> None:
+    give(example, fimi(dense()), "dense.dat")
+    example.execute_script(
+        "saySoon(begin(), 'Mining.'); ask(turn, ['sets', '--min', '1', '-'], file.bytes)"
+    )
+    WebDriverWait(example, 30).until(lambda _: at(example, "end").is_displayed())
+    at(example, "end").click()
+    assert settled(example) == "Stopped."
+    assert "itemsets in" in choose(example, "ask", "items")
+
+
 def test_a_fault_is_the_programs_own_text(shown: webdriver.Chrome) -> None:
     give(shown, RECEIPTS, "receipts.csv")
     said = choose(shown, "form", "fimi")
@@ -180,7 +195,9 @@ def test_a_file_is_dropped_or_pasted(
     shown: webdriver.Chrome, kind: str, key: str
 ) -> None:
     body = shown.find_element(By.TAG_NAME, "body")
-    shown.execute_script("document.body.setAttribute('aria-busy', 'true')")
+    shown.execute_script(
+        "document.querySelector('main').setAttribute('aria-busy', 'true')"
+    )
     shown.execute_script(DROP, kind, body, key, SHOP.decode())
     assert "in 15 baskets" in settled(shown)
     assert shown.title == "dropped.dat - basket"
@@ -242,3 +259,32 @@ def test_everything_that_is_used_has_a_name(example: webdriver.Chrome) -> None:
         one.get_attribute("outerHTML") for one in shown if not one.accessible_name
     ] == []
     assert example.get_log("browser") == []
+
+
+STEPS = """
+const [done] = arguments;
+const sides = new Sides();
+for (let n = 0; n < 100_000; n++) sides.placeOf([`item ${n % 997}`, `item ${n}`]);
+const text = Array.from({ length: STEP }, (_, n) => `${n + 1};1/2;3/4;1;item ${n};"another; ${n}"\\n`).join("");
+window.steps = { order: () => sides.inOrder(), read: () => readReport(turn, new TextEncoder().encode(text), ";", true, 10 ** 6) };
+done();
+"""
+
+
+@pytest.mark.parametrize("step", ["order", "read"])
+def test_no_step_over_a_hundred_thousand_lines_is_long(
+    example: webdriver.Chrome, step: str
+) -> None:
+    example.execute_cdp_cmd("Performance.enable", {"timeDomain": "threadTicks"})
+    example.execute_async_script(STEPS)
+
+    def processor() -> float:
+        found = example.execute_cdp_cmd("Performance.getMetrics", {})["metrics"]
+        return float({one["name"]: one["value"] for one in found}["ThreadTime"])
+
+    taken = []
+    for _ in range(3):
+        before = processor()
+        example.execute_script(f"return void steps.{step}()")
+        taken.append(processor() - before)
+    assert min(taken) < SECONDS_OF_A_STEP, taken

@@ -29,7 +29,9 @@ def settled(browser: webdriver.Chrome) -> str:
     """What the page says once its question is answered."""
     stop = time.monotonic() + SECONDS
     while (
-        browser.execute_script("return document.body.getAttribute('aria-busy')")
+        browser.execute_script(
+            "return document.querySelector('main').getAttribute('aria-busy')"
+        )
         != "false"
     ):
         assert time.monotonic() < stop, at(browser, "answered").text
