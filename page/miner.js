@@ -83,7 +83,13 @@ async function ask(own, words, bytes, sets = null) {
   let resolve;
   const done = new Promise((settle) => (resolve = settle));
   running = { id, resolve, done, begun: performance.now() };
-  worker.postMessage({ id, words, input: bytes, sets });
+  try {
+    worker.postMessage({ id, words, input: bytes, sets });
+  } catch (error) {
+    // There is no memory for another copy of the file.
+    running = null;
+    return { status: ENDED, report: nothing, explanation: error.message };
+  }
   const answer = await done;
   return own === turn ? answer : null;
 }

@@ -39,6 +39,9 @@ def main(words: list[str]) -> None:
     with tempfile.TemporaryDirectory() as place, opened() as browser:
         browser.get(explore(found, Path(place, "rules.html")).as_uri())
         browser.save_screenshot(str(folder / "explore.png"))
+        if not PAGE.is_file():
+            print(f"{PAGE} is not here, nor is its picture: `make page` makes it")
+            return
         browser.get(PAGE.as_uri())
         at(browser, "example").click()
         while (

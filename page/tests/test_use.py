@@ -10,7 +10,7 @@ import pytest
 from selenium import webdriver
 from selenium.webdriver.common.by import By
 from selenium.webdriver.common.keys import Keys
-from selenium.webdriver.support.ui import WebDriverWait
+from selenium.webdriver.support.wait import WebDriverWait
 
 from browser import at, rows
 from program_tests.inputs import dense, fimi
@@ -178,6 +178,7 @@ def test_a_link_restores_the_question_and_the_selection(
     at(example, "filtering").find_element(By.TAG_NAME, "summary").click()
     at(example, "without").send_keys("tea")
     example.execute_script("selectBetween(placeOf(.1, .3), placeOf(.4, .9))")
+    at(example, "copy-link").click()
     kept, address = rows(example), example.current_url
     assert 0 < len(kept) < 6
     example.get("about:blank")

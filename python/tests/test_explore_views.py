@@ -41,6 +41,7 @@ def test_a_link_shows_another_the_same(shop: webdriver.Chrome) -> None:
     shop.find_element(By.XPATH, "//th/button[.='Support']").click()
     shop.execute_script("selectBetween(placeOf(.1, .5), placeOf(.3, 1.01))")
     assert "support 10.0% to 30.0%" in at(shop, "area").text
+    at(shop, "copy-link").click()
     said, kept, address = at(shop, "status").text, rows(shop), shop.current_url
     assert 0 < len(kept) < 20
     shop.get("about:blank")
@@ -51,6 +52,7 @@ def test_a_link_shows_another_the_same(shop: webdriver.Chrome) -> None:
     assert "support 10.0% to 30.0%" in at(shop, "area").text
     at(shop, "unselect").click()
     assert not at(shop, "selected").is_displayed()
+    at(shop, "copy-link").click()
     assert "support-in" not in shop.current_url
 
 

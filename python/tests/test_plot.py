@@ -196,11 +196,14 @@ def test_the_pictures_of_the_documents_are_those_that_the_script_makes(
     tmp_path: Path,
 ) -> None:
     subprocess.run([sys.executable, ROOT / "tools/pictures.py", tmp_path], check=True)
-    made = sorted(tmp_path.iterdir())
-    assert [file.name for file in made] == [
-        *("explore.png", "minimums.png", "rules.png", "strongest.png")
-    ]
     # Each version of Chromium draws a page in its own way.
-    for file in made[1:]:
+    made = sorted(
+        file for file in tmp_path.iterdir() if file.stem not in ("explore", "page")
+    )
+    assert [file.name for file in made] == [
+        *("minimums.png", "rules.png", "strongest.png")
+    ]
+    assert (tmp_path / "explore.png").exists()
+    for file in made:
         shown = matplotlib.image.imread(ROOT / "docs/pictures" / file.name)
         assert np.array_equal(matplotlib.image.imread(file), shown), file.name

@@ -14,7 +14,16 @@ function stateOf() {
 // What is beside the listing in the address of the page; another page adds to it.
 let moreState = () => [];
 
+// Browsers count how often an address is written, so a slider that moves writes it at its end.
+const LINK_AFTER = 200;
+let linkSoon = 0;
+
 function keepLink() {
+  clearTimeout(linkSoon);
+  linkSoon = setTimeout(writeLink, LINK_AFTER);
+}
+
+function writeLink() {
   const state = stateOf();
   for (const [key, value] of moreState()) state.set(key, value);
   const address = `#${state}`;
@@ -48,9 +57,10 @@ function takeState(state) {
 
 function startLink() {
   element("copy-link").addEventListener("click", async () => {
+    writeLink();
     try {
       await navigator.clipboard.writeText(location.href);
-      element("told").textContent = element("copied").textContent = "Copied: it shows these filters, this order and this selection.";
+      element("copied").textContent = "Copied: it shows these filters, this order and this selection.";
     } catch {
       element("copied").textContent = "The address of this page has the filters, the order and the selection: copy it.";
     }

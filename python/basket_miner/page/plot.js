@@ -128,7 +128,7 @@ function drawSelection(style) {
 
 // A ring around the mark that the keyboard is at.
 function drawRing(style) {
-  if (at < 0 || document.activeElement !== canvas) return;
+  if (at < 0 || document.activeElement !== canvas || document.documentElement.classList.contains("printed")) return;
   pen.strokeStyle = style.getPropertyValue("--link");
   pen.lineWidth = 2.5;
   pen.beginPath();
