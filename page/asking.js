@@ -70,8 +70,7 @@ function givenSets() {
 // Some sets to begin with, from what is shown.
 function offerSets() {
   if (element("given").value || !size) return;
-  const written = (name) => (/[",]/.test(name) ? `"${name.replaceAll('"', '""')}"` : name);
-  const lines = [...shown.slice(0, 3)].map((rule) => [...namesOf("left", rule), ...(isOfRules ? namesOf("right", rule) : [])].map(written).join(", "));
+  const lines = [...shown.slice(0, 3)].map((rule) => [...namesOf("left", rule), ...(isOfRules ? namesOf("right", rule) : [])].map(inList).join(", "));
   element("given").value = lines.join("\n");
 }
 

@@ -159,7 +159,7 @@ def test_counts_of_sets_that_are_typed(example: webdriver.Chrome) -> None:
     choose(example, "given", 'milk, bread\n"sugar, brown"\nwine')
     assert {tuple(row[:3]) for row in rows(example)} == {
         ("milk, bread", "2", "7"),
-        ("sugar, brown", "1", "1"),
+        ('"sugar, brown"', "1", "1"),
         ("wine", "1", "0"),
     }
     give(example, SHOP, "shop.dat")

@@ -81,7 +81,7 @@ function namesOf(key, rule) {
 }
 
 function nameOf(rule) {
-  const [left, right] = ["left", "right"].map((key) => (columns[key] ? namesOf(key, rule).join(", ") : ""));
+  const [left, right] = ["left", "right"].map((key) => (columns[key] ? namesOf(key, rule).map(inList).join(", ") : ""));
   return isOfRules ? `${left} → ${right}` : left;
 }
 
