@@ -125,6 +125,15 @@ def test_everything_is_reached_by_the_tabulator(example: webdriver.Chrome) -> No
     assert places == sorted(places)
 
 
+def test_rules_come_back_the_strongest_first(example: webdriver.Chrome) -> None:
+    before = rows(example)
+    choose(example, "ask", "sets")
+    counts = [int(row[2]) for row in rows(example)]
+    assert counts == sorted(counts, reverse=True)
+    choose(example, "ask", "rules")
+    assert rows(example) == before
+
+
 def test_a_newer_question_ends_an_older_one(example: webdriver.Chrome) -> None:
     give(example, fimi(dense()), "dense.dat")
     example.execute_script(
