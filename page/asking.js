@@ -17,12 +17,12 @@ function tell(text, isFault = false) {
   element("answer").hidden = !text;
 }
 
+// Says what a turn is at, if it still is after a while.
 function saySoon(own, text) {
   setTimeout(() => {
-    if (own === turn && running) {
-      tell(text);
-      element("end").hidden = false;
-    }
+    if (own !== turn || document.querySelector("main").getAttribute("aria-busy") !== "true") return;
+    tell(text);
+    element("end").hidden = false;
   }, SLOW);
 }
 

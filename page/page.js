@@ -146,8 +146,8 @@ function startQuestion() {
 }
 
 function startPage() {
-  const { version, module: kind } = JSON.parse(element("facts").textContent);
-  element("version").textContent = `version ${version}, ${kind}`;
+  const { version, module: kind, kit } = JSON.parse(element("facts").textContent);
+  element("version").textContent = `version ${version}, ${kind}, made by ${kit}`;
   element("unproved").hidden = kind === "proved";
   startOpening();
   startQuestion();
