@@ -63,12 +63,12 @@ page:
 package: $(PROGRAM) page
 	tools/package.py
 
-# The Python package with the proved program in it, under dist/.
-wheel: $(PROGRAM)
+# The Python package with the proved program and its page in it, under dist/.
+wheel: $(PROGRAM) page
 	tools/wheel.py
 
-# The pictures of docs/GUIDE.md and README, from examples/.
-pictures: $(if $(BASKET),,$(PROGRAM))
+# The pictures of docs/GUIDE.md and README, from examples/. BASKET and PAGE name another program and page.
+pictures: $(if $(BASKET),,$(PROGRAM)) $(if $(PAGE),,page)
 	tools/python-packages
 	/usr/bin/python3 tools/pictures.py
 

@@ -17,12 +17,12 @@ function tell(text, isFault = false) {
   element("answer").hidden = !text;
 }
 
+// Says what a turn is at, if it still is after a while.
 function saySoon(own, text) {
   setTimeout(() => {
-    if (own === turn && running) {
-      tell(text);
-      element("end").hidden = false;
-    }
+    if (own !== turn || document.querySelector("main").getAttribute("aria-busy") !== "true") return;
+    tell(text);
+    element("end").hidden = false;
   }, SLOW);
 }
 
@@ -70,8 +70,7 @@ function givenSets() {
 // Some sets to begin with, from what is shown.
 function offerSets() {
   if (element("given").value || !size) return;
-  const written = (name) => (/[",]/.test(name) ? `"${name.replaceAll('"', '""')}"` : name);
-  const lines = [...shown.slice(0, 3)].map((rule) => [...namesOf("left", rule), ...(isOfRules ? namesOf("right", rule) : [])].map(written).join(", "));
+  const lines = [...shown.slice(0, 3)].map((rule) => [...namesOf("left", rule), ...(isOfRules ? namesOf("right", rule) : [])].map(inList).join(", "));
   element("given").value = lines.join("\n");
 }
 

@@ -3,7 +3,7 @@
 const LOOKED_AT = (1 << 20) + 1; // One byte more than it reads tells it that there are more.
 const FORMS = { single: "an item a line", baskets: "a basket a line", fimi: "numbers, a basket a line", counts: "sets with counts", "csv-counts": "sets with counts" };
 const LETTERS = { comma: ",", semicolon: ";", tab: "\t", pipe: "|" };
-const MOST_OFFERED = 20; // Gzip in gzip is unpacked so often.
+const MOST_LAYERS = 20; // A file that is packed again and again is unpacked so often.
 
 // The programs before `basket` in a command, as steps that the page does.
 const FILTERS = [

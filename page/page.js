@@ -12,7 +12,7 @@ async function open(given, name) {
     await ready;
     saySoon(own, `Reading ${name}.`);
     let bytes = await given;
-    for (let layers = 0; layers < MOST_OFFERED && bytes[0] === 0x1f && bytes[1] === 0x8b; layers++) bytes = await unzipped(bytes);
+    for (let layers = 0; layers < MOST_LAYERS && bytes[0] === 0x1f && bytes[1] === 0x8b; layers++) bytes = await unzipped(bytes);
     const answer = await ask(own, ["look", "-"], bytes.slice(0, LOOKED_AT));
     if (!answer) return;
     const text = new TextDecoder().decode(answer.report).replace(/^standard input/, name);
@@ -146,8 +146,8 @@ function startQuestion() {
 }
 
 function startPage() {
-  const { version, module: kind } = JSON.parse(element("facts").textContent);
-  element("version").textContent = `version ${version}, ${kind}`;
+  const { version, module: kind, kit } = JSON.parse(element("facts").textContent);
+  element("version").textContent = `version ${version}, ${kind}, made by ${kit}`;
   element("unproved").hidden = kind === "proved";
   startOpening();
   startQuestion();

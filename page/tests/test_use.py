@@ -125,6 +125,15 @@ def test_everything_is_reached_by_the_tabulator(example: webdriver.Chrome) -> No
     assert places == sorted(places)
 
 
+def test_rules_come_back_the_strongest_first(example: webdriver.Chrome) -> None:
+    before = rows(example)
+    choose(example, "ask", "sets")
+    counts = [int(row[2]) for row in rows(example)]
+    assert counts == sorted(counts, reverse=True)
+    choose(example, "ask", "rules")
+    assert rows(example) == before
+
+
 def test_a_newer_question_ends_an_older_one(example: webdriver.Chrome) -> None:
     give(example, fimi(dense()), "dense.dat")
     example.execute_script(
@@ -159,7 +168,7 @@ def test_counts_of_sets_that_are_typed(example: webdriver.Chrome) -> None:
     choose(example, "given", 'milk, bread\n"sugar, brown"\nwine')
     assert {tuple(row[:3]) for row in rows(example)} == {
         ("milk, bread", "2", "7"),
-        ("sugar, brown", "1", "1"),
+        ('"sugar, brown"', "1", "1"),
         ("wine", "1", "0"),
     }
     give(example, SHOP, "shop.dat")

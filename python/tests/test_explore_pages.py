@@ -158,14 +158,16 @@ def test_a_page_that_can_not_be_written_is_told(
         call(rules([["a", "b"]], 1, 0.5), tmp_path)
 
 
-def test_a_page_has_a_title_that_is_text(
+def test_a_page_has_a_title_and_a_source_that_are_text(
     browser: webdriver.Chrome, tmp_path: Path
 ) -> None:
     title = f"{HOSTILE} & {{{{data}}}}"
     found = rules([["a", "b"]], 1, 0.5)
-    browser.get(explore(found, tmp_path / "rules.html", title=title).as_uri())
+    path = explore(found, tmp_path / "rules.html", title=title, source=HOSTILE)
+    browser.get(path.as_uri())
     assert browser.title == title
     assert browser.find_element(By.TAG_NAME, "h1").text == title
+    assert at(browser, "source").text == HOSTILE
     assert len(rows(browser)) == 2
 
 
@@ -193,6 +195,7 @@ def test_the_shell_writes_the_page(tmp_path: Path) -> None:
     ended = subprocess.run([*words, str(page)], check=True, **run)  # type: ignore[call-overload]
     assert ended.stderr == f"3 rules in {page}\n"
     assert '"both":[7,3,5]' in page.read_text()
+    assert f"{RECEIPTS}, minimum 20%, confidence 2/3<" in page.read_text()
     ended = subprocess.run([*words, "-", "--title=May"], check=True, **run)  # type: ignore[call-overload]
     assert ended.stdout.startswith("<!DOCTYPE html>") and "<h1>May</h1>" in ended.stdout
     ended = subprocess.run([*words, str(tmp_path)], check=False, **run)  # type: ignore[call-overload]

@@ -1,13 +1,14 @@
 // The colours of lifts: grey is 1, blue is below it and red above, by the logarithm and as far as the lifts go.
 const SHADES = 32; // Colours on each side of the middle.
 let colours = [];
-let end = 2; // The lift at which the colours end, as at its reciprocal.
+const LEAST_END = 1.5; // Lifts near 1 stay near grey, also where there are no others.
+let end = LEAST_END; // The lift at which the colours end, as at its reciprocal.
 
 // Few lifts are farther from 1 than the end.
 function endOf(lifts) {
   const sizes = Float64Array.from(lifts, (lift) => Math.max(lift, 1 / lift)).sort();
   const most = sizes[Math.floor(0.98 * (sizes.length - 1))];
-  return most > 1 ? most : 2;
+  return most > LEAST_END ? most : LEAST_END;
 }
 
 function shadeOf(lift) {

@@ -31,11 +31,16 @@ function made(tag, content, parent) {
   return one;
 }
 
+// A name as it stands in a list of names, and in a filter: one with a comma, or that begins with a quote, is in quotes.
+function inList(name) {
+  return /^"|,/.test(name) ? `"${name.replaceAll('"', '""')}"` : name;
+}
+
 // Names with commas between them. A name that is read from the right turns nothing around it.
 function addNames(names, parent) {
   names.forEach((name, place) => {
     if (place) parent.append(", ");
-    made("bdi", name, parent);
+    made("bdi", inList(name), parent);
   });
 }
 

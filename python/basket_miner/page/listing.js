@@ -14,13 +14,14 @@ let shown = order; // Those of them that are selected too.
 let selection = null; // The least and the most of each of two columns.
 
 function take(given) {
+  const isOther = size > 0 && isOfRules !== (given.right !== undefined);
   data = given;
   size = data.both.length;
   isOfRules = data.right !== undefined;
   document.body.classList.toggle("of-sets", !isOfRules);
   numberItems();
   columns = isOfRules ? columnsOfRules() : columnsOfSets();
-  if (!columns[sorted.key]) sorted = { key: isOfRules ? "lift" : "count", isFalling: true };
+  if (isOther || !columns[sorted.key]) sorted = { key: isOfRules ? "lift" : "count", isFalling: true };
   sort();
 }
 
@@ -81,7 +82,7 @@ function namesOf(key, rule) {
 }
 
 function nameOf(rule) {
-  const [left, right] = ["left", "right"].map((key) => (columns[key] ? namesOf(key, rule).join(", ") : ""));
+  const [left, right] = ["left", "right"].map((key) => (columns[key] ? namesOf(key, rule).map(inList).join(", ") : ""));
   return isOfRules ? `${left} → ${right}` : left;
 }
 
