@@ -80,7 +80,8 @@ $(YARDSTICK): bench/yardstick.cpp
 	mkdir -p $(@D)
 	$(CXX) -O3 -march=x86-64-v2 -std=c++17 -o $@ $<
 
-# Times the program, beside the C++ program, its stages and the Python package, and writes bench/RESULTS.md.
-bench: $(PROGRAM) $(STAGES) $(YARDSTICK)
+# Times the program, beside the C++ program, its stages, the Python package and the page, and writes bench/RESULTS.md.
+bench: $(PROGRAM) $(STAGES) $(YARDSTICK) page
 	tools/python-packages
-	bench/run.py $(PROGRAM) --beside $(YARDSTICK) --stages $(STAGES) --frames bench/frames.py
+	bench/run.py $(PROGRAM) --beside $(YARDSTICK) --stages $(STAGES) --frames bench/frames.py \
+		--page bench/in_browser.py

@@ -3,7 +3,8 @@
 
 With --beside the C++ program of yardstick.cpp runs in turn with it over the same files,
 and has to write the same bytes. With --stages the program that times the stages of
-`sets` runs too, and with --frames the one that times the Python package."""
+`sets` runs too, with --frames the one that times the Python package, and with --page
+the one that times the page with the program in it."""
 
 import argparse
 import ctypes
@@ -46,6 +47,11 @@ class Run(NamedTuple):
 def output(*words: str) -> str:
     ran = subprocess.run(words, stdout=subprocess.PIPE, text=True, check=True)
     return ran.stdout.strip()
+
+
+def adopt() -> None:
+    """Has what a shell leaves come to this process, by PR_SET_CHILD_SUBREAPER."""
+    ctypes.CDLL(None).prctl(36, 1, 0, 0, 0)
 
 
 def measured(words: Words, data: str, report: str) -> Run:
@@ -169,10 +175,11 @@ class Bench:
             text += ["", f"{says}, at {least}:", "", "```", said.strip(), "```"]
         return text
 
-    def frames(self, script: str) -> list[str]:
+    def printed(self, head: str, script: str) -> list[str]:
+        """What a script prints that measures the program in another place."""
         given = {**os.environ, "BASKET": self.program}
         said = subprocess.check_output([os.path.abspath(script)], env=given, text=True)
-        return ["", "## Data frames in Python", "", "```", said.strip(), "```"]
+        return ["", f"## {head}", "", "```", said.strip(), "```"]
 
 
 def machine() -> str:
@@ -187,9 +194,9 @@ def main() -> None:
     parser.add_argument("--beside")
     parser.add_argument("--stages")
     parser.add_argument("--frames")
+    parser.add_argument("--page")
     given = parser.parse_args()
-    # PR_SET_CHILD_SUBREAPER: what a shell leaves comes to this process.
-    ctypes.CDLL(None).prctl(36, 1, 0, 0, 0)
+    adopt()
     commit = output("git", "-C", str(HERE), "describe", "--always", "--dirty")
     with tempfile.TemporaryDirectory() as folder:
         bench = Bench(given.program, given.beside, folder)
@@ -197,7 +204,9 @@ def main() -> None:
         if given.stages:
             found += bench.stages(given.stages)
         if given.frames:
-            found += bench.frames(given.frames)
+            found += bench.printed("Data frames in Python", given.frames)
+        if given.page:
+            found += bench.printed("In a page", given.page)
     made = f"{machine()}; {datetime.date.today()}; {commit}; {output('rt', 'version')}."
     how = (
         f"Least processor time and most memory of {RUNS} runs in turn. The tables were measured one "
@@ -208,4 +217,5 @@ def main() -> None:
     (HERE / "RESULTS.md").write_text(text, encoding="utf-8")
 
 
-main()
+if __name__ == "__main__":
+    main()

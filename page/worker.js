@@ -98,15 +98,19 @@ function answerTo({ id, words, input, sets }) {
   const files = new Files(input instanceof Uint8Array ? input : new Uint8Array(input), sets);
   const begun = performance.now();
   let memory = null;
-  const { status, cut } = statusOf(() => {
+  const run = statusOf(() => {
     const page = systemOf(given, files, streams, () => memory);
     const { exports } = new WebAssembly.Instance(miner, { page });
     memory = exports.memory;
     return exports.run();
   });
   const milliseconds = performance.now() - begun;
-  const [report, said] = cut ? [new Uint8Array(0), utf8.encode(cut)] : streams.map(joined);
-  const explanation = new TextDecoder().decode(said);
+  let [report, said] = [new Uint8Array(0), new Uint8Array(0)];
+  const { status, cut } = statusOf(() => {
+    if (!run.cut) [report, said] = streams.map(joined);
+    return run.status;
+  });
+  const explanation = run.cut ?? cut ?? new TextDecoder().decode(said);
   return { id, status, report, explanation, milliseconds, memory: memory ? memory.buffer.byteLength : 0 };
 }
 

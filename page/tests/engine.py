@@ -92,7 +92,7 @@ class Engine:
 
     def __init__(self, browser: webdriver.Chrome, page: Path) -> None:
         self.browser = browser
-        browser.set_script_timeout(120)
+        browser.set_script_timeout(600)
         browser.get(page.as_uri())
         assert browser.execute_async_script(BEGIN) is None
 

@@ -96,6 +96,6 @@ def test_blocks_keep_their_bytes_until_they_are_freed(
     browser: webdriver.Chrome, heap: bytes
 ) -> None:
     browser.get("about:blank")
-    browser.set_script_timeout(120)
+    browser.set_script_timeout(600)
     found = browser.execute_async_script(CHECK, base64.b64encode(heap).decode())
     assert found["refused"] > 100 and found["moves"] > 100, found
