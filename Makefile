@@ -1,4 +1,4 @@
-.PHONY: all demo try check test test-python edits install uninstall package wheel bench pictures
+.PHONY: all demo try check test test-python edits install uninstall package wheel bench instructions pictures
 
 PREFIX ?= $(HOME)/.local
 PROGRAM := crates/basket_cli/out/basket_cli
@@ -76,7 +76,13 @@ $(YARDSTICK): bench/yardstick.cpp
 	mkdir -p $(@D)
 	$(CXX) -O3 -march=x86-64-v2 -std=c++17 -o $@ $<
 
-# Times the program, beside the C++ program, its stages and the Python package, and writes bench/RESULTS.md.
+# Times the program, beside the C++ program, its stages and the Python package, and writes bench/RESULTS.md. It wants
+# valgrind, and an idle machine for some 25 minutes.
 bench: $(PROGRAM) $(STAGES) $(YARDSTICK)
 	tools/python-packages
 	bench/run.py $(PROGRAM) --beside $(YARDSTICK) --stages $(STAGES) --frames bench/frames.py
+
+# Counts the instructions of the commands of bench/RESULTS.md, which are the same on any load, and tells which take more
+# than 3% more than that page says.
+instructions: $(if $(BASKET),,$(PROGRAM))
+	bench/run.py $(or $(BASKET),$(PROGRAM)) --instructions
