@@ -80,7 +80,7 @@ $(YARDSTICK): bench/yardstick.cpp
 # valgrind, and an idle machine for some 25 minutes.
 bench: $(PROGRAM) $(STAGES) $(YARDSTICK)
 	tools/python-packages
-	bench/run.py $(PROGRAM) --beside $(YARDSTICK) --stages $(STAGES) --frames bench/frames.py
+	bench/run.py $(PROGRAM) --beside $(YARDSTICK) --stages $(STAGES) --frames bench/frames.py --cluster bench/cluster.py
 
 # Counts the instructions of the commands of bench/RESULTS.md, which are the same on any load, and tells which take more
 # than 3% more than that page says.
