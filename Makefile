@@ -1,4 +1,4 @@
-.PHONY: all demo try check test test-python edits install uninstall page package wheel bench pictures
+.PHONY: all demo try check test test-python edits install uninstall page package wheel bench instructions pictures
 
 PREFIX ?= $(HOME)/.local
 PROGRAM := crates/basket_cli/out/basket_cli
@@ -81,7 +81,13 @@ $(YARDSTICK): bench/yardstick.cpp
 	$(CXX) -O3 -march=x86-64-v2 -std=c++17 -o $@ $<
 
 # Times the program, beside the C++ program, its stages, the Python package and the page, and writes bench/RESULTS.md.
+# It wants valgrind, and an idle machine for some 25 minutes.
 bench: $(PROGRAM) $(STAGES) $(YARDSTICK) page
 	tools/python-packages
 	bench/run.py $(PROGRAM) --beside $(YARDSTICK) --stages $(STAGES) --frames bench/frames.py \
-		--page bench/in_browser.py
+		--cluster bench/cluster.py --page bench/in_browser.py
+
+# Counts the instructions of the commands of bench/RESULTS.md, which are the same on any load, and tells which take more
+# than 3% more than that page says.
+instructions: $(if $(BASKET),,$(PROGRAM))
+	bench/run.py $(or $(BASKET),$(PROGRAM)) --instructions

@@ -21,7 +21,8 @@ sys.path[:0] = [str(ROOT / name) for name in ("page", "python/tests", "tools")]
 from selenium import webdriver  # noqa: E402
 
 from browser import at, opened  # noqa: E402
-from run import RUNS, adopt, measured  # noqa: E402
+from run import RUNS  # noqa: E402
+from runs import adopt, measured  # noqa: E402
 from tests.engine import Engine  # noqa: E402
 
 PAGE = Path(os.environ.get("PAGE", ROOT / "dist/basket.html")).resolve()
@@ -89,7 +90,7 @@ def row(browser: webdriver.Chrome, words: str, data: Path) -> str:
         before = thread_seconds(browser)
         status, length, memory = browser.execute_script(ASK, words.split())
         in_page.append(thread_seconds(browser) - before)
-        alone.append(measured([PROGRAM, *words.split()], str(data), str(report)))
+        alone.append(measured((PROGRAM, *words.split()), str(data), str(report)))
         assert status == 0 and length == report.stat().st_size
     least, own = min(in_page), min(run.seconds for run in alone)
     most = max(run.memory for run in alone)

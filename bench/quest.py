@@ -1,6 +1,7 @@
 #!/usr/bin/env python3
 """Writes baskets in the FIMI format, by the procedure for synthetic data of Agrawal and Srikant
-(VLDB 1994). It is called as quest.py MEAN_BASKET MEAN_PATTERN BASKETS ITEMS PATTERNS SEED."""
+(VLDB 1994). It is called as quest.py MEAN_BASKET MEAN_PATTERN BASKETS ITEMS PATTERNS SEED [OTHER_SEED],
+where another seed makes other baskets of the same patterns."""
 
 import itertools
 import random
@@ -42,12 +43,16 @@ def patterns(
     return made
 
 
-def picks(source: random.Random, made: list[list[int]]) -> Iterator[list[int]]:
+def picks(
+    source: random.Random, made: list[list[int]], seed: str | None
+) -> Iterator[list[int]]:
     """Patterns picked by their weights, without end, each without the items that its corruption
-    drops."""
+    drops. The weights don't go by the seed that is given here."""
     deviation = CORRUPTION_VARIANCE**0.5
     levels = [min(source.gauss(CORRUPTION, deviation), MOST_CORRUPTION) for _ in made]
     weights = list(itertools.accumulate(source.expovariate(1) for _ in made))
+    if seed is not None:
+        source.seed(seed)
     while True:
         for number in source.choices(range(len(made)), cum_weights=weights, k=1000):
             pattern = made[number]
@@ -83,7 +88,8 @@ def main() -> None:
     basket_length, pattern_length = (float(word) for word in sys.argv[1:3])
     count, items, pattern_count, seed = (int(word) for word in sys.argv[3:7])
     source = random.Random(seed)
-    picked = picks(source, patterns(source, pattern_length, items, pattern_count))
+    made = patterns(source, pattern_length, items, pattern_count)
+    picked = picks(source, made, sys.argv[7] if len(sys.argv) > 7 else None)
     for basket in itertools.islice(baskets(source, basket_length, picked), count):
         print(*sorted(basket))
 

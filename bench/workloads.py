@@ -2,40 +2,56 @@
 
 MINERS = ["apriori", "eclat", "eclat-diff", "eclat-bits", "fpgrowth"]
 
-# What each input is, and its generator.
-INPUTS = {
-    "1,000,000 of eight items": "baskets.py 1000000 8 100000 1",
-    "100,000 of some ten items": "quest.py 10 4 100000 1000 2000 1",
-    "100,000 of some forty items": "quest.py 40 10 100000 1000 2000 2",
-    "60,000 of some four items": "quest.py 4 2 60000 20000 20000 3",
-    "8,000 of 23 attributes": "dense.py 8000 23 8 1",
-    "4,600 of a store's departments": "shapes.py store 4600 1",
-    "1,550 texts": "shapes.py news 1550 1",
-    "56,000 of packages": "shapes.py packages 56000 1",
-    "990,000 visits to pages": "shapes.py clicks 990000 1",
-    "1,000,000 of eight items, as CSV": "baskets.py 1000000 8 100000 1 ,",
-}
-MANY, SPARSE, FORTY, SHORT, DENSE, STORE, NEWS, PACKAGES, CLICKS, CSV = INPUTS
+# A million baskets each, of the same patterns.
+_MILLIONS = [f"quest.py 10 4 1000000 1000 2000 1 {seed}" for seed in range(1, 9)]
 
+# What each input is, and its generators, whose baskets stand one after another.
+INPUTS = {
+    "1,000,000 of eight items": ["baskets.py 1000000 8 100000 1"],
+    "100,000 of some ten items": ["quest.py 10 4 100000 1000 2000 1"],
+    "100,000 of some forty items": ["quest.py 40 10 100000 1000 2000 2"],
+    "60,000 of some four items": ["quest.py 4 2 60000 20000 20000 3"],
+    "8,000 of 23 attributes": ["dense.py 8000 23 8 1"],
+    "4,600 of a store's departments": ["shapes.py store 4600 1"],
+    "1,550 texts": ["shapes.py news 1550 1"],
+    "56,000 of packages": ["shapes.py packages 56000 1"],
+    "990,000 visits to pages": ["shapes.py clicks 990000 1"],
+    "1,000,000 of eight items, as CSV": ["baskets.py 1000000 8 100000 1 ,"],
+    "1,000,000 of some ten items": _MILLIONS[:1],
+    "4,000,000 of some ten items": _MILLIONS[:4],
+    "8,000,000 of some ten items": _MILLIONS,
+    "2,000,000 of eight items, as CSV": ["baskets.py 2000000 8 100000 1 ,"],
+    "2,000,000 records of an id and an item": ["baskets.py 250000 8 100000 1 , single"],
+}
+MANY, SPARSE, FORTY, SHORT, DENSE, STORE, NEWS, PACKAGES, CLICKS, CSV = [*INPUTS][:10]
+ONE, FOUR, EIGHT, RECORDS, SINGLE = [*INPUTS][10:]
+
+
+def by_each_miner(command: str) -> list[str]:
+    return [f"{command} --miner {miner}" for miner in MINERS]
+
+
+# Commands over an input that write the same bytes.
 TABLES = {
-    "Items": [(MANY, "items --min 1")],
+    "Items": [(MANY, ["items --min 1"])],
     "Itemsets": [
-        (SPARSE, "sets --min 1/200"),
-        (SPARSE, "sets --min 1/1000"),
-        (FORTY, "sets --min 1%"),
-        (SHORT, "sets --min 1/5000"),
-        (DENSE, "sets --min 10%"),
-        (DENSE, "sets --min 5%"),
-        (STORE, "sets --min 3%"),
-        (NEWS, "sets --min 4%"),
-        (PACKAGES, "sets --min 1/2000"),
-        (CLICKS, "sets --min 1/1000"),
+        (SPARSE, by_each_miner("sets --min 1/200")),
+        (SPARSE, by_each_miner("sets --min 1/1000")),
+        (SPARSE, by_each_miner("sets --min 1/10000")),
+        (FORTY, by_each_miner("sets --min 1%")),
+        (SHORT, by_each_miner("sets --min 1/5000")),
+        (DENSE, by_each_miner("sets --min 10%")),
+        (DENSE, by_each_miner("sets --min 5%")),
+        (STORE, by_each_miner("sets --min 3%")),
+        (NEWS, by_each_miner("sets --min 4%")),
+        (PACKAGES, by_each_miner("sets --min 1/2000")),
+        (CLICKS, by_each_miner("sets --min 1/1000")),
     ],
     "Closed and maximal itemsets, and rules": [
-        (DENSE, "closed --min 10%"),
-        (DENSE, "maximal --min 10%"),
-        (DENSE, "rules --min 20% --conf 1/10"),
-        (SPARSE, "rules --min 1/1000 --conf 1/2"),
+        (DENSE, ["closed --min 10% --miner eclat-bits"]),
+        (DENSE, ["maximal --min 10% --miner eclat-bits"]),
+        (DENSE, ["rules --min 20% --conf 1/10 --miner eclat-bits"]),
+        (SPARSE, ["rules --min 1/1000 --conf 1/2 --miner eclat-bits"]),
     ],
 }
 
@@ -61,6 +77,23 @@ SHARED = [
     (DENSE, "maximal --min 10% --miner eclat-bits"),
     (DENSE, "rules --min 20% --conf 1/10 --miner eclat-bits"),
     (SPARSE, "rules --min 1/1000 --conf 1/2 --miner eclat-bits"),
+]
+
+# Commands over larger inputs, with the same bytes, and whether their instructions are counted,
+# which takes some ten times as long as to run them.
+LARGE = [
+    (says, commands, says in (ONE, RECORDS, SINGLE))
+    for commands, inputs in [
+        (["items --min 1"], (ONE, FOUR, EIGHT)),
+        (by_each_miner("sets --min 1/1000"), (ONE, FOUR, EIGHT)),
+        (
+            ["rules --min 1/1000 --conf 1/2 --miner eclat-bits"],
+            (ONE, FOUR, EIGHT),
+        ),
+        (["items --form baskets --min 1"], (RECORDS,)),
+        (["items --form single --min 1"], (SINGLE,)),
+    ]
+    for says in inputs
 ]
 
 # Of which sets `count` has to write the supports: those that are frequent at a minimum.
