@@ -94,3 +94,78 @@ class ReadBack(unittest.TestCase):
                 for names, count in wanted.items():
                     sums.update(dict.fromkeys(names, count))
                 self.assertEqual(back, sums)
+
+
+def long_text(line_end: str, header: bool) -> tuple[str, Counter[str]]:
+    """A text that is worth several workers, and how many of its records have each name."""
+    source = random.Random(line_end)
+    text = io.StringIO()
+    writer = csv.writer(text, lineterminator=line_end)
+    if header:
+        writer.writerow(["two\nlines", "header"])
+    counts: Counter[str] = Counter()
+    for number in range(20_000):
+        basket = source.sample(NAMES, source.randint(1, MOST_ITEMS))
+        # New names in each part, and one that most records have for the first time.
+        basket += [f"week {number // 1_000}", f"receipt {number}"]
+        writer.writerow(basket)
+        counts.update(basket)
+    return text.getvalue(), counts
+
+
+class Workers(unittest.TestCase):
+    """Reports over texts of which workers read parts."""
+
+    words = ["items", "--form", "baskets", "--min", "2"]
+
+    def counted(self, given: bytes, words: list[str], workers: int) -> list[list[str]]:
+        ended = run([*self.words, *words, "--workers", str(workers)], given)
+        self.assertEqual((ended.said, ended.status), ("", 0))
+        return records(ended.out, ",")
+
+    def test_workers_count_what_another_reader_counts(self) -> None:
+        for line_end, header in itertools.product(("\n", "\r\n"), (False, True)):
+            text, counts = long_text(line_end, header)
+            # In the order of their first appearance.
+            wanted = [[str(n), name] for name, n in counts.items() if n > 1]
+            words = ["--header"] if header else []
+            for workers in (1, 2, 3, 4, 7):
+                with self.subTest(line_end=line_end, header=header, workers=workers):
+                    self.assertEqual(
+                        self.counted(text.encode(), words, workers), wanted
+                    )
+
+    def test_a_record_may_go_on_over_many_parts(self) -> None:
+        lines = "bread\n" * 100_000
+        given = f'tea\ntea\n"{lines}",tea\ntea\n'.encode()
+        blank = b"\n" * 200_000 + b"header\ntea\ntea\n"
+        for workers in (1, 2, 4, 7):
+            with self.subTest(workers=workers):
+                self.assertEqual(self.counted(given, [], workers), [["4", "tea"]])
+                found = self.counted(blank, ["--header"], workers)
+                self.assertEqual(found, [["2", "tea"]])
+
+    def test_a_fault_in_any_part_is_that_of_its_record(self) -> None:
+        lines = [f"1,name {number % 50}".encode() for number in range(40_000)]
+        for place, (bad, told) in itertools.product(
+            (0, 1, 13_333, 20_000, 39_999),
+            ((b"1,\xff", "field is not UTF-8"), (b"0,tea", "bad weight")),
+        ):
+            given = b"\n".join([*lines[:place], bad, *lines[place + 1 :], b"0,last"])
+            for workers in (1, 2, 4, 7):
+                with self.subTest(place=place, told=told, workers=workers):
+                    words = [*self.words, "--weight", "--workers", str(workers)]
+                    ended = run(words, given)
+                    said = f"basket: record {place + 1}: {told}\n"
+                    self.assertEqual((ended.out, ended.said), (b"", said))
+
+    def test_weights_of_all_parts_are_added(self) -> None:
+        # The greatest weight of all baskets is 256 times that of one, and 255.
+        half = b"4294967295,tea\n" * 128
+        for more, said in ((255, ""), (256, "total weight above 1099511627775")):
+            given = half + b"1,bread,milk\n" * (more - 1) + b"\n" * 200_000 + half
+            for workers in (1, 2, 4):
+                with self.subTest(more=more, workers=workers):
+                    words = [*self.words, "--weight", "--workers", str(workers)]
+                    ended = run(words, given + b"1,bread\n")
+                    self.assertEqual(ended.said, said and f"basket: {said}\n")

@@ -5,7 +5,6 @@ mod RecentLemmas
 mod FieldLemmas
 mod RecordLemmas
 mod PartLemmas
-mod CutLemmas
 mod RowLemmas
 mod BasketLemmas
 mod ReadLemmas

@@ -23,6 +23,7 @@ use Rattle.basket_csv.specs.Part.{FindsPart, InParts, IsPart, Rows, size_of}
 use Rattle.basket_csv.specs.Records.{MOST_RECORDS, last_after, records_of}
 use Rattle.basket_csv.specs.Shared.{AreFaultless, AreRight, IsReadPart}
 use Rattle.basket_csv.proofs.InPartsLemmas.{in_last}
+use Rattle.basket_csv.proofs.PartLemmas.{no_records}
 use Rattle.basket_csv.proofs.RecordLemmas.{few_of_text, few_records_of}
 
 -- ---- faults, whatever the number of the first record
@@ -74,11 +75,7 @@ pub no_more_after : (header : Bool) (rows : Rows) → length (after_header heade
 no_more_after true rows = omega (arith, length-drop 1 rows)
 no_more_after false rows = omega arith
 
--- nothing has no records
-pub no_records : (separator : ℕ) → records_of separator [] ≡ []
-unfolding strip_bom records_from next_record
-no_records separator = refl
-
+-- nothing after a part has no records
 pub nothing_after : (separator : ℕ) (header : Bool) (first rest : List ℕ) → rest ≡ [] → after_header header (records_of separator (first ++ rest)) ≡ after_header header (records_of separator first) ++ records_of separator rest
 nothing_after separator header first rest none =
     ap (λ r. after_header header (records_of separator (first ++ r))) none ∙ ap (λ l. after_header header (records_of separator l)) (append-nil first)
@@ -172,15 +169,6 @@ all_parts separator header weighted bytes rest right part items is left read gro
       subst (λ l. InParts (IsPart weighted) l (after_header header (records_of separator bytes))) (sym grown)
           (subst (InParts (IsPart weighted) (right.parts.items ++ part ∷ [])) (sym is.all) (in_last (IsPart weighted) right.parts.items part is.rows last is.parts (subst (IsPart weighted part) same read.found))),
     )
-
--- ---- the end of a part
-
-last_is : (d x : ℕ) (xs : List ℕ) → last_after d (xs ++ x ∷ []) ≡ x
-last_is d x [] = refl
-last_is d x (y ∷ xs) = last_is y x xs
-
-pub ends_with : (bytes : List ℕ) (at : ℕ) → at < length bytes → get_or bytes at 0 ≡ 10 → last_after 10 (take (at + 1) bytes) ≡ 10
-ends_with bytes at below is = ap (last_after 10) (take_more bytes at 0 below) ∙ last_is 10 (get_or bytes at 0) (take at bytes) ∙ is
 
 -- ---- what all parts say
 

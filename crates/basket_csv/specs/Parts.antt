@@ -1,6 +1,5 @@
 -- Texts that are cut, and the records of their parts.
-use Rattle.std.specs.Prelude.{◌≡◌, ◌⊎◌, ⊤, ℕ, Bool, List, [], ◌∷◌, ◌++◌}
-use Rattle.std.specs.List.{concat}
+use Rattle.std.specs.Prelude.{◌≡◌, ◌⊎◌, ℕ, Bool, List, [], ◌++◌}
 use Rattle.csv.specs.Reading.{strip_bom}
 use Rattle.basket_csv.specs.Csv.{after_header}
 use Rattle.basket_csv.specs.Records.{last_after, records_of}
@@ -8,11 +7,6 @@ use Rattle.basket_csv.specs.Records.{last_after, records_of}
 -- a text may be cut between these, where a line ends and no mark follows; its end is such a place
 abbrev pub IsCut : List ℕ → List ℕ → Type 0
 IsCut before after = (after ≡ []) ⊎ ((last_after 10 before ≡ 10) × (strip_bom after ≡ after))
-
--- a text may be cut after each of its parts
-abbrev pub AreParts : List (List ℕ) → Type 0
-AreParts [] = ⊤
-AreParts (part ∷ parts) = IsCut part (concat parts) × AreParts parts
 
 -- if more follows the part, its records are those of the part and those of what follows
 abbrev pub IsWhole : ℕ → Bool → List ℕ → Type 0

@@ -4,6 +4,7 @@ ghost use Rattle.csv.specs.Records.{fields_of};
 ghost use Rattle.basket_read.specs.declared.fault.ReadFault.{ReadFault};
 ghost use Rattle.basket_read.specs.declared.fault.ReadFault.TheVariants.{Read};
 ghost use Rattle.basket_read.specs.Fault.{ReturnsBy, ReturnsFault};
+ghost use Rattle.basket_read.specs.Fimi.{MOST_BYTES};
 ghost use Rattle.basket_csv.specs.RecordCollector.{Start};
 ghost use Rattle.basket_csv.specs.Csv.{fault_from, after_header, bytes_say, first_number};
 ghost use Rattle.basket_csv.specs.Records.{MOST_RECORDS, records_of, records_left, records_taken, last_may_go_on, goes_on, IsReading};
@@ -74,23 +75,15 @@ pub fn say<C: RecordCollector + Drop>(
     collector.finish()
 }
 
-/// How the records of some bytes end.
-#[derive(Clone, Copy)]
-pub struct Added {
-    /// The number of the last of them, the header included.
-    pub records: u32,
-    /// Whether no record goes on after the bytes.
-    pub whole: bool,
-}
-
-/// Adds all records of the bytes except the header, up to the first with a fault. So many records came before.
+/// Adds all records of the bytes except the header, up to the first with a fault. So many records came before. Returns
+/// whether none of them goes on after the bytes.
 pub fn add_all<C: RecordCollector>(
     alloc: Global,
     bytes: &[u8],
     dialect: Dialect,
     before: u32,
     collector: &mut C,
-) -> Result<Added, ReadFault>
+) -> Result<bool, ReadFault>
     requires few { before + length (records_of dialect.separator bytes.now) ≤ MOST_RECORDS }
     requires read { (start : Start) × (rows : List (List (List ℕ))) × (start.first + length rows ≡ before + first_number dialect.header) × C.has_read collector.old start rows }
     ensures fault { (start : Start) (rows : List (List (List ℕ))) → start.first + length rows ≡ before + first_number dialect.header → C.has_read collector.old start rows →
@@ -98,23 +91,16 @@ pub fn add_all<C: RecordCollector>(
         MatchResult result (λ _. found ≡ None) (λ fault. ReturnsFault fault found) }
     ensures read { (start : Start) (rows : List (List (List ℕ))) → start.first + length rows ≡ before + first_number dialect.header → C.has_read collector.old start rows →
         OnOk result (C.has_read collector.new start (rows ++ after_header dialect.header (records_of dialect.separator bytes.now))) }
-    ensures records { IfOk result (λ added. added.records ≡ before + length (records_of dialect.separator bytes.now)) }
-    ensures whole { IfOk result (λ added. added.whole ≡ true → IsWhole dialect.separator dialect.header bytes.now) }
+    ensures whole { IfOk result (λ whole. whole ≡ true → IsWhole dialect.separator dialect.header bytes.now) }
     ensures not_read { IfErr result (λ fault. fault ≢ Read) }
 {
     let mut records = Records::new(alloc, bytes, dialect.separator, before);
     if !records.pass_header(dialect.header)? {
         // More bytes would begin with the header.
-        return Ok(Added {
-            records: records.taken(),
-            whole: false,
-        });
+        return Ok(false);
     }
     add_left(collector, &mut records)?;
-    Ok(Added {
-        records: records.taken(),
-        whole: dialect.separator != b'\n' && !records.may_go_on(),
-    })
+    Ok(dialect.separator != b'\n' && !records.may_go_on())
 }
 
 /// Adds the records that are left, up to the first with a fault.
@@ -129,7 +115,6 @@ fn add_left<C: RecordCollector>(
         MatchResult result (λ _. found ≡ None) (λ fault. ReturnsFault fault found) }
     ensures read { (start : Start) (rows : List (List (List ℕ))) → start.first + length rows ≡ records_taken records.old + 1 → C.has_read collector.old start rows →
         OnOk result (C.has_read collector.new start (rows ++ records_left records.old)) }
-    ensures taken { OnOk result (records_taken records.new ≡ records_taken records.old + length (records_left records.old)) }
     ensures goes_on { OnOk result (goes_on records.new ≡ last_may_go_on (goes_on records.old) (records_left records.old)) }
     ensures not_read { IfErr result (λ fault. fault ≢ Read) }
 {

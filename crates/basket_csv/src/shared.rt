@@ -3,7 +3,7 @@
 //! The bytes are cut after line feeds, and each part is read as a text of its own, with names of its
 //! own. That is right unless a record goes on past the part's end. Of the first part of which that
 //! can't be ruled out, or which has a fault, and of all after it, one thread reads what they say.
-ghost use Rattle.std.specs.Prelude.{◌≡◌, ◌≢◌, ◌≤◌, ◌<◌, ◌+◌, ◌*◌, ◌++◌, ℕ, Bool, List, true, false, drop, length, take, None, MatchResult, IfOk, OnOk, IfErr};
+ghost use Rattle.std.specs.Prelude.{◌≡◌, ◌≢◌, ◌≤◌, ◌<◌, ◌+◌, ◌*◌, ◌++◌, ℕ, Bool, List, true, false, length, None, MatchResult, IfOk, OnOk, IfErr};
 ghost use Rattle.std.specs.Thread.{IsSync};
 ghost use Rattle.basket_read.specs.declared.fault.ReadFault.TheVariants.{Read};
 ghost use Rattle.basket_read.specs.Fault.{ReturnsBy, ReturnsFault};
@@ -11,7 +11,7 @@ ghost use Rattle.basket_read.specs.Fimi.{MOST_BYTES};
 ghost use Rattle.basket_csv.specs.Baskets.{AreNamedCounts};
 ghost use Rattle.basket_csv.specs.Csv.{after_header, basket_fault, baskets_of_csv, fault_from, first_number};
 ghost use Rattle.basket_csv.specs.Part.{InParts, IsPart};
-ghost use Rattle.basket_csv.specs.Parts.{IsCut, IsWhole};
+ghost use Rattle.basket_csv.specs.Parts.{IsWhole};
 ghost use Rattle.basket_csv.specs.Records.{MOST_RECORDS, records_of};
 ghost use Rattle.basket_csv.specs.Shared.{AreRight, IsReadPart};
 
@@ -20,6 +20,7 @@ use crate::collector::{RecordCollector, add_all, say};
 use crate::dialect::Dialect;
 use crate::names::{Names, Numbering};
 use crate::part::{NumberedRecords, Part};
+use crate::parts::end_of_part;
 use crate::renumbered::{gathered_shared, renumbered};
 use crate::seed::Seed;
 use basket_read::{ItemCounts, MAX_BYTES, ReadFault};
@@ -28,9 +29,6 @@ use std::thread::{Threads, join};
 
 /// A shorter text is not worth a thread.
 const LEAST: usize = 65_536;
-
-/// A part begins as a text does, so it must not begin with a mark.
-const MARK: [u8; 3] = [0xEF, 0xBB, 0xBF];
 
 /// How records that have a basket each are read.
 #[derive(Clone, Copy)]
@@ -218,26 +216,6 @@ fn read_both<R: Threads + Sync>(
     (read, later)
 }
 
-/// Where the first of about so many parts of some bytes ends.
-fn end_of_part(bytes: &[u8], count: usize) -> usize
-    ensures within { result ≤ length bytes.now }
-    ensures last { count < 2 → result ≡ length bytes.now }
-    ensures cut { IsCut (take result bytes.now) (drop result bytes.now) }
-{
-    if count < 2 {
-        return bytes.len();
-    }
-    for at in bytes.len() / count..bytes.len() {
-        if bytes[at] == b'\n' {
-            let (_, rest) = bytes.split_at(at + 1);
-            if !rest.starts_with(&MARK) {
-                return at + 1;
-            }
-        }
-    }
-    bytes.len()
-}
-
 /// The records of a part, before which so many come.
 fn read_part(
     reading: Reading,
@@ -260,6 +238,6 @@ fn read_part(
     } = reading;
     let mut part = Part::new(alloc, seed, weighted);
     let dialect = Dialect { header, ..dialect };
-    let added = add_all(alloc, bytes, dialect, before, &mut part)?;
-    Ok((part.finish()?, added.whole))
+    let whole = add_all(alloc, bytes, dialect, before, &mut part)?;
+    Ok((part.finish()?, whole))
 }
