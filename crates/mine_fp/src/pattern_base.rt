@@ -113,7 +113,8 @@ impl<'a> Projected for PatternBase<'a> {
         trees: &mut Trees,
     ) -> Result<Option<Self>, AllocError> {
         conditional_supports();
-        self.below(alloc, at as u32, scratch, trees)
+        let below = self.below(alloc, at as u32, scratch, trees)?;
+        Ok(below)
     }
 
     fn number_of(trees: &Trees) -> u64
