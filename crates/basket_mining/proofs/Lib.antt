@@ -1,1 +1,2 @@
 mod MiningLemmas
+mod JoinerLemmas

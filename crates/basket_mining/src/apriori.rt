@@ -7,6 +7,7 @@ ghost use Rattle.mine_apriori.specs.Levels.{AreTooMany};
 ghost use Rattle.mine_pairs.specs.Pairs.{ArePairs, lists_of};
 ghost use Rattle.mine_apriori.specs.Work.{candidate_count};
 
+use crate::joiner::Workers;
 use basket_core::{Coded, Frequent};
 use mine_apriori::FirstLevel;
 use mine_limit::MineFault;
@@ -36,8 +37,9 @@ fn pairs<R: Threads + Sync, G: Gate + Sync>(
 }
 
 /// The list of the frequent sets, if it is no longer than the limit, and the number of candidates
-/// (Agrawal and Srikant 1994), found by this many workers: the pairs over parts of the ranks, and
-/// the supports of the candidates of each level over parts of the baskets.
+/// (Agrawal and Srikant 1994), found by this many workers: the pairs over parts of the ranks, the
+/// supports of the candidates of each level over parts of the baskets, and the frequent sets and
+/// the next candidates over parts of the prefixes.
 pub fn apriori_shared<R: Threads + Sync, G: Gate + Sync>(
     rt: &R,
     alloc: Global,
@@ -53,11 +55,16 @@ pub fn apriori_shared<R: Threads + Sync, G: Gate + Sync>(
 {
     let first = FirstLevel::of(alloc, coded, limit)?;
     let pairs = pairs(rt, alloc, coded, cutting, gate)?;
-    let mut levels = first.with_pairs(alloc, &pairs)?;
+    let joiner = Workers {
+        rt,
+        count: cutting.workers,
+    };
+    let mut levels = first.with_pairs(alloc, &pairs, &joiner)?;
     while !levels.asked().is_empty() {
         let counts = count_candidates(rt, alloc, coded.baskets(), levels.asked(), cutting, gate)?;
-        levels = levels.answer(alloc, &counts)?;
+        levels = levels.answer(alloc, &counts, &joiner)?;
     }
     let candidates = levels.counted();
-    Ok((levels.finish(alloc)?, candidates))
+    let frequent = levels.finish_shared(rt, alloc, cutting.workers)?;
+    Ok((frequent, candidates))
 }

@@ -3,6 +3,7 @@
 
 mod apriori;
 mod class_miner;
+mod joiner;
 mod merging;
 mod mining;
 

@@ -157,6 +157,15 @@ module _ (coding : Coding) where
   found_is_all is size some none =
       as_many coding is ∙ length-map (levels_up_to coding (length items)) (counted coding.baskets) ∙ ap length (sym (all_found size some none))
 
+  module _ (is : IsCoding coding) (size : ℕ) (some : 1 ≤ size) (none : asked_of coding size ≡ []) (found : List Counted) (are : AreFound coding size found) where
+    -- what was found, as the one class of all classes
+    pub one_class_once : (classes : List (List Counted)) → classes ≡ found ∷ [] → ListsOnce (baskets_of coding) coding.minimum (flat_map (λ class. class) classes)
+    one_class_once classes one =
+        subst (ListsOnce (baskets_of coding) coding.minimum) (sym (ap (flat_map (λ (class : List Counted). class)) one ∙ append-nil found ∙ are)) (found_once is size some none)
+
+    pub found_as_many : length (frequent_of_coding coding) ≡ length found
+    found_as_many = found_is_all is size some none ∙ sym (ap length are ∙ length-map (levels_up_to coding size) (λ set. decoded_set coding.items (counted coding.baskets set)))
+
   from_sets : (into : List ℕ) (sets : List (List ℕ)) (item : ℕ) → ((set : List ℕ) → Member set sets → Member item set → Member item into) → Member item (flat_map (λ set. set) sets) → Member item into
   from_sets into [] item h m = absurd m
   from_sets into (set ∷ sets) item h m = elim (Member-append item set (flat_map (λ s. s) sets) m) [

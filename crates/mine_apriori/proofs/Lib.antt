@@ -1,3 +1,4 @@
+pub mod theory
 mod JoinLemmas
 mod IntersectionLemmas
 mod JoinedLemmas

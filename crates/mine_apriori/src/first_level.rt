@@ -6,7 +6,7 @@ ghost use Rattle.mine_supports.specs.Extensions.{AreGrouped, sets_of};
 ghost use Rattle.mine_apriori.specs.Levels.{AreFound, AreTooMany, level_of};
 ghost use Rattle.mine_pairs.specs.Pairs.{ArePairs, lists_of};
 
-use crate::frequent::add_frequent;
+use crate::joiner::{Alone, Joiner};
 use crate::levels::{KnownLevels, Levels};
 use crate::pairs::{pair_sets, sorted_pairs};
 use basket_core::{Coded, CountedSets, count_items};
@@ -31,7 +31,7 @@ pub fn frequent_ranks(alloc: Global, coded: &Coded) -> Result<(CountedSets, Exte
     }
     let sets = Extensions::new(alloc).with_items(alloc, &[], &ranks)?;
     let mut found = CountedSets::new(alloc, coded.items(), coded.total())?;
-    let level = add_frequent(alloc, coded, &sets, &counts, &mut found)?;
+    let level = Alone.add_frequent(alloc, coded, &sets, &counts, &mut found)?;
     Ok((found, level))
 }
 
@@ -75,12 +75,14 @@ impl<'a> FirstLevel<'a> {
 
     /// The search that has found the frequent items and pairs. For each rank the pairs are the
     /// ranks below it that are frequent together with it, each with the support of the pair.
-    pub fn with_pairs(
+    pub fn with_pairs<J: Joiner>(
         self,
         alloc: Global,
         pairs: &[Vec<(u32, u64)>],
+        joiner: &J,
     ) -> Result<Levels<'a>, MineFault>
-        requires { ArePairs self.coding (lists_of pairs.now) }
+        requires ready { J.is_ready joiner.now }
+        requires pairs { ArePairs self.coding (lists_of pairs.now) }
         ensures ok { IfOk result (λ levels. levels ≡ record { coding = self.entry.coding; limit = self.entry.limit; size = 2 }) }
         ensures too_many { (most : ℕ) → result ≡ Err (TooMany most) → (most ≡ self.entry.limit) × AreTooMany self.entry.coding self.entry.limit }
     {
@@ -92,13 +94,13 @@ impl<'a> FirstLevel<'a> {
         let counted = pair_count(found.len() as u32) as u64;
         let pairs = sorted_pairs(alloc, coded, pairs)?;
         let (sets, counts) = pair_sets(alloc, &pairs)?;
-        let level = add_frequent(alloc, coded, &sets, &counts, &mut found)?;
+        let level = joiner.add_frequent(alloc, coded, &sets, &counts, &mut found)?;
         let known = KnownLevels {
             coded,
             size: 2,
             found,
             counted,
         };
-        known.ask(alloc, limit, &level)
+        known.ask(alloc, limit, &level, joiner)
     }
 }

@@ -1,5 +1,5 @@
 //! The frequent sets among candidates.
-ghost use Rattle.std.specs.Prelude.{◌≡◌, ◌++◌, ◌∷◌, [], All, IfOk, OnOk, filter, map};
+ghost use Rattle.std.specs.Prelude.{◌≡◌, ◌≤◌, ◌++◌, ◌∷◌, [], All, IfOk, OnOk, filter, length, map, slice_range};
 ghost use Rattle.basket_ranks.specs.Codes.{IsCoding};
 ghost use Rattle.basket_sets.specs.Frequent.{is_frequent};
 ghost use Rattle.basket_sets.specs.Itemset.{IsRising};
@@ -8,29 +8,34 @@ ghost use Rattle.mine_supports.specs.Extensions.{extend, kept, sets_of};
 ghost use Rattle.mine_apriori.specs.Levels.{decoded_sets};
 
 use basket_core::{Coded, CountedSets, Itemset};
-use mine_supports::{Extensions, put_extended};
+use mine_supports::{Extensions, PrefixRange, put_extended};
 use std::alloc::{AllocError, Global};
 
-/// Adds those of the sets that are frequent to those found, as items and with their supports. Returns them as ranks.
+/// Adds those sets of some prefixes that are frequent to those found, as items and with their supports. Returns them as
+/// ranks.
 pub fn add_frequent(
     alloc: Global,
     coded: &Coded,
     sets: &Extensions,
+    range: PrefixRange,
     counts: &[u64],
     found: &mut CountedSets,
 ) -> Result<Extensions, AllocError>
     requires coding { IsCoding coded.now }
-    requires rising { All IsRising (sets_of sets.now) }
-    requires counts { counts.now ≡ map (support_of coded.now.baskets) (sets_of sets.now) }
-    ensures level { IfOk result (λ level. level ≡ kept (is_frequent coded.now.baskets coded.now.minimum) sets.now) }
-    ensures found { OnOk result (found.new ≡ found.old ++ decoded_sets coded.now (filter (is_frequent coded.now.baskets coded.now.minimum) (sets_of sets.now))) }
+    requires within { range.end ≤ length sets.now }
+    requires rising { All IsRising (sets_of (slice_range sets.now range.start range.end)) }
+    requires counts { counts.now ≡ map (support_of coded.now.baskets) (sets_of (slice_range sets.now range.start range.end)) }
+    ensures level { IfOk result (λ level. level ≡ kept (is_frequent coded.now.baskets coded.now.minimum) (slice_range sets.now range.start range.end)) }
+    ensures found { OnOk result (found.new ≡ found.old ++ decoded_sets coded.now (filter (is_frequent coded.now.baskets coded.now.minimum)
+        (sets_of (slice_range sets.now range.start range.end)))) }
 {
     let mut level = Extensions::new(alloc);
     let mut rest = counts;
-    for (number, items) in sets.lists().iter().enumerate() {
+    for number in range.start..range.end {
         let prefix = sets.prefixes()[number].items();
+        let items = sets.lists()[number].items();
         let (counts, others) = rest.split_at(items.len());
-        let frequent = add_extensions(alloc, coded, prefix, items.items(), counts, found)?;
+        let frequent = add_extensions(alloc, coded, prefix, items, counts, found)?;
         if !frequent.is_empty() {
             level = level.with_items(alloc, prefix, &frequent)?;
         }

@@ -1,5 +1,5 @@
 //! Apriori's candidates, made by join and prune.
-ghost use Rattle.std.specs.Prelude.{◌≡◌, ◌<◌, ◌≤◌, ◌+◌, ◌-◌, ◌++◌, ◌∷◌, [], ℕ, suc, All, IfOk, IsTrue, OnOk, filter, length};
+ghost use Rattle.std.specs.Prelude.{◌≡◌, ◌<◌, ◌≤◌, ◌+◌, ◌-◌, ◌++◌, ◌∷◌, [], ℕ, suc, All, IfOk, IsTrue, OnOk, filter, length, slice_range};
 ghost use Rattle.std.specs.Cmp.Lexicographic.{slice_cmp};
 ghost use Rattle.std.specs.List.Sorted.{IsStrictlySortedBy};
 ghost use Rattle.std.specs.Ordering.{nat_cmp};
@@ -7,12 +7,12 @@ ghost use Rattle.basket_sets.specs.Itemset.{IsRising, has, without};
 ghost use Rattle.basket_sets.specs.Order.{IsInReportOrder};
 ghost use Rattle.mine_apriori.specs.Candidates.{is_one_of, candidates_of};
 ghost use Rattle.mine_supports.specs.Extensions.{AreGrouped, has_items, prefixes_of, sets_of};
-ghost use Rattle.mine_apriori.specs.Join.{AreParts, has_parts, joined_group};
+ghost use Rattle.mine_apriori.specs.Join.{AreParts, has_parts, joined_group, joined_groups};
 ghost use Rattle.mine_supports.specs.Sizes.{AreOfSize};
 
 use crate::intersection::push_shared;
 use crate::search::find_near;
-use mine_supports::{Extensions, put_extended};
+use mine_supports::{Extensions, PrefixRange, put_extended};
 use std::alloc::{AllocError, Global};
 use std::mem::swap;
 
@@ -25,13 +25,27 @@ pub fn candidates(alloc: Global, level: &Extensions) -> Result<Extensions, Alloc
     ensures candidates { IfOk result (λ found. sets_of found ≡ candidates_of (sets_of level.now)) }
     ensures grouped { IfOk result AreGrouped }
 {
+    candidates_in(alloc, level, level.range())
+}
+
+/// Those of the candidates whose first two subsets have one of these prefixes.
+pub fn candidates_in(
+    alloc: Global,
+    level: &Extensions,
+    range: PrefixRange,
+) -> Result<Extensions, AllocError>
+    requires within { range.end ≤ length level.now }
+    requires grouped { AreGrouped level.now }
+    requires rising { All IsRising (sets_of level.now) }
+    ensures { IfOk result (λ found. found ≡ joined_groups (sets_of level.now) (slice_range level.now range.start range.end)) }
+{
     let mut found = Extensions::new(alloc);
     let size = match level.prefixes().first() {
         Some(prefix) => prefix.len(),
         None => 0,
     };
     let mut hints = vec![in alloc; 0; size]?;
-    for place in 0..level.prefixes().len() {
+    for place in range.start..range.end {
         let prefix = level.prefixes()[place].items();
         let items = level.lists()[place].items();
         found = join(alloc, level, prefix, items, &mut hints, found)?;

@@ -10,14 +10,14 @@ ghost use Rattle.mine_apriori.specs.Shard.{IsRegular};
 ghost use Rattle.mine_apriori.specs.Work.{candidate_count, candidates_of_size, candidates_up_to};
 
 use crate::first_level::{FirstLevel, frequent_ranks};
-use crate::frequent::add_frequent;
-use crate::join::candidates;
+use crate::joiner::{Alone, Joiner};
 use basket_core::{Coded, CountedSets, Frequent};
 use mine_limit::MineFault;
 use mine_pairs::frequent_pairs;
 use mine_supports::{Extensions, count_extensions};
 use std::alloc::Global;
 use std::marker::Model;
+use std::thread::Threads;
 
 /// A search for the frequent sets, level by level (Agrawal and Srikant 1994): a level is those of
 /// one size. All frequent sets up to some size are found, and it asks for the supports of the
@@ -58,7 +58,7 @@ impl<'a> Levels<'a> {
             found,
             counted: 0,
         };
-        known.ask(alloc, limit, &level)
+        known.ask(alloc, limit, &level, &Alone)
     }
 
     /// The search at its end, which asks for nothing more.
@@ -68,10 +68,10 @@ impl<'a> Levels<'a> {
         ensures too_many { (most : ℕ) → result ≡ Err (TooMany most) → (most ≡ limit) × AreTooMany coded.now limit }
     {
         let first = FirstLevel::of(alloc, coded, limit)?;
-        let mut levels = first.with_pairs(alloc, &frequent_pairs(alloc, coded)?)?;
+        let mut levels = first.with_pairs(alloc, &frequent_pairs(alloc, coded)?, &Alone)?;
         while !levels.asked().is_empty() {
             let counts = count_extensions(alloc, coded.baskets(), levels.asked())?;
-            levels = levels.answer(alloc, &counts)?;
+            levels = levels.answer(alloc, &counts, &Alone)?;
         }
         Ok(levels)
     }
@@ -96,7 +96,13 @@ impl<'a> Levels<'a> {
     }
 
     /// The search that goes on with the supports of what is asked for, in order.
-    pub fn answer(self, alloc: Global, counts: &[u64]) -> Result<Self, MineFault>
+    pub fn answer<J: Joiner>(
+        self,
+        alloc: Global,
+        counts: &[u64],
+        joiner: &J,
+    ) -> Result<Self, MineFault>
+        requires ready { J.is_ready joiner.now }
         requires counts { counts.now ≡ wanted self }
         ensures next { asked_of self.entry.coding self.entry.size ≢ [] → IfOk result (λ levels. levels ≡ record { coding = self.entry.coding; limit = self.entry.limit; size = self.entry.size + 1 }) }
         ensures done { asked_of self.entry.coding self.entry.size ≡ [] → IfOk result (λ levels. levels ≡ self.entry) }
@@ -113,14 +119,14 @@ impl<'a> Levels<'a> {
             asked,
             counted,
         } = self;
-        let level = add_frequent(alloc, coded, &asked, counts, &mut found)?;
+        let level = joiner.add_frequent(alloc, coded, &asked, counts, &mut found)?;
         let known = KnownLevels {
             coded,
             size: size + 1,
             found,
             counted,
         };
-        known.ask(alloc, limit, &level)
+        known.ask(alloc, limit, &level, joiner)
     }
 
     /// The list of all frequent sets. There are at most as many as the limit.
@@ -134,6 +140,24 @@ impl<'a> Levels<'a> {
         let mut classes = Vec::with_capacity(alloc, 1)?;
         classes.push(found)?;
         Ok(Frequent::of_classes(alloc, coded, classes)?)
+    }
+
+    /// The same list, sorted by at most this many threads.
+    pub fn finish_shared<R: Threads + Sync>(
+        self,
+        rt: &R,
+        alloc: Global,
+        threads: u32,
+    ) -> Result<Frequent, MineFault>
+        requires { asked_of self.coding self.size ≡ [] }
+        ensures ok { IfOk result (λ frequent. frequent ≡ listing_of self.entry.coding) }
+        ensures within { IfOk result (λ frequent. length frequent.sets ≤ self.entry.limit) }
+        ensures err { IfErr result (λ fault. fault ≡ Memory) }
+    {
+        let Levels { coded, found, .. } = self;
+        let mut classes = Vec::with_capacity(alloc, 1)?;
+        classes.push(found)?;
+        Ok(Frequent::of_classes_shared(rt, alloc, coded, classes, threads)?)
     }
 }
 
@@ -149,12 +173,14 @@ pub(crate) struct KnownLevels<'a> {
 
 impl<'a> KnownLevels<'a> {
     /// The search that goes on from there, from the frequent sets of the size.
-    pub(crate) fn ask(
+    pub(crate) fn ask<J: Joiner>(
         self,
         alloc: Global,
         limit: u32,
         level: &Extensions,
+        joiner: &J,
     ) -> Result<Levels<'a>, MineFault>
+        requires ready { J.is_ready joiner.now }
         requires coding { IsCoding self.coded.now }
         requires some { 1 ≤ self.size }
         requires found { AreFound self.coded.now self.size self.found }
@@ -173,7 +199,7 @@ impl<'a> KnownLevels<'a> {
         if found.len() > limit as usize {
             return Err(MineFault::TooMany { limit });
         }
-        let asked = candidates(alloc, level)?;
+        let asked = joiner.candidates(alloc, level)?;
         Ok(Levels {
             coded,
             limit,

@@ -2,14 +2,16 @@
 //! candidates of the next, counts them, and keeps those that are frequent.
 //!
 //! `levels` goes from size to size, from the `first_level` on. `join` makes candidates by the
-//! `intersection` of lists of items, which `search` looks up. `frequent` keeps the frequent sets. The
-//! second level is made of the frequent `pairs`.
+//! `intersection` of lists of items, which `search` looks up. `frequent` keeps the frequent sets. A
+//! `joiner` does both for a level, alone or with others. The second level is made of the frequent
+//! `pairs`.
 #![tactic(auto)]
 
 mod first_level;
 mod frequent;
 mod intersection;
 mod join;
+mod joiner;
 pub mod laws;
 mod levels;
 mod pairs;
@@ -17,5 +19,7 @@ mod search;
 pub mod worked;
 
 pub use first_level::FirstLevel;
-pub use join::candidates;
+pub use frequent::add_frequent;
+pub use join::{candidates, candidates_in};
+pub use joiner::{Alone, Joiner};
 pub use levels::{Levels, apriori};

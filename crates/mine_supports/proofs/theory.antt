@@ -1,4 +1,5 @@
 -- What the proofs of every crate may cite of sets as extensions.
 pub mod Extensions
 pub mod Frequent
+pub mod Parts
 pub mod UsedItems

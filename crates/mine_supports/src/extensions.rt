@@ -1,9 +1,11 @@
 //! Sets as prefixes and the items that extend them.
-ghost use Rattle.std.specs.Prelude.{◌≡◌, ◌++◌, ◌∷◌, ◌↔◌, [], IfOk, IsTrue, OnOk, filter, length};
+ghost use Rattle.std.specs.Prelude.{◌≡◌, ◌≤◌, ◌++◌, ◌∷◌, ◌↔◌, [], IfOk, IsTrue, OnOk, filter, length, slice_range};
+ghost use Rattle.std.specs.List.{flat_map};
 ghost use Rattle.basket_sets.specs.Itemset.{IsRising};
 ghost use Rattle.mine_supports.specs.Extensions.{extend, is_some, lists_of, prefixes_of, sets_of};
 ghost use Rattle.mine_supports.specs.Needed.{AreAtLeast};
 
+use crate::prefix_range::PrefixRange;
 use basket_sets::Itemset;
 use std::alloc::{AllocError, Global};
 use std::marker::Model;
@@ -92,6 +94,53 @@ impl Extensions {
         })
     }
 
+    /// The sets of all parts, one part after another.
+    pub fn of_parts(alloc: Global, parts: Vec<Extensions>) -> Result<Self, AllocError>
+        ensures { IfOk result (λ all. all ≡ flat_map (λ part. part) parts.items) }
+    {
+        let mut all = Extensions::new(alloc);
+        all.reserve(count_prefixes(&parts))?;
+        for part in parts {
+            all = all.followed_by(part)?;
+        }
+        Ok(all)
+    }
+
+    /// Makes room for this many more prefixes.
+    fn reserve(&mut self, more: usize) -> Result<(), AllocError>
+        ensures { self.new ≡ self.old }
+    {
+        self.prefixes.reserve_exact(more)?;
+        self.lists.reserve_exact(more)?;
+        Ok(())
+    }
+
+    /// The sets, and then others.
+    fn followed_by(self, others: Extensions) -> Result<Self, AllocError>
+        ensures { IfOk result (λ all. all ≡ self ++ others) }
+    {
+        let Extensions {
+            mut prefixes,
+            mut lists,
+            len,
+        } = self;
+        let Extensions {
+            prefixes: mut more_prefixes,
+            lists: mut more_lists,
+            len: more,
+        } = others;
+        let Some(len) = len.checked_add(more) else {
+            return Err(AllocError);
+        };
+        prefixes.append(&mut more_prefixes)?;
+        lists.append(&mut more_lists)?;
+        Ok(Extensions {
+            prefixes,
+            lists,
+            len,
+        })
+    }
+
     /// The number of sets.
     pub fn len(&self) -> usize
         ensures { result ≡ length (sets_of self.now) }
@@ -129,6 +178,36 @@ impl Extensions {
     {
         &self.lists
     }
+
+    /// How many sets some of the prefixes have.
+    pub fn count_in(&self, range: PrefixRange) -> usize
+        requires { range.end ≤ length self.now }
+        ensures { result ≡ length (sets_of (slice_range self.now range.start range.end)) }
+    {
+        // The count is no greater than that of all sets, which fits.
+        let _all = self.len;
+        let mut count = 0;
+        for place in range.start..range.end {
+            count += self.lists[place].len();
+        }
+        count
+    }
+
+    /// All prefixes.
+    pub fn range(&self) -> PrefixRange
+        ensures { (result.start ≡ 0) × (result.end ≡ length self.now) }
+    {
+        PrefixRange::new(0, self.prefixes().len())
+    }
+}
+
+/// How many prefixes the parts have together, or `usize::MAX` if they have more.
+fn count_prefixes(parts: &[Extensions]) -> usize {
+    let mut count: usize = 0;
+    for part in parts {
+        count = count.saturating_add(part.prefixes.len());
+    }
+    count
 }
 
 /// Whether an item can be added to rising ones.

@@ -1,14 +1,16 @@
 //! The supports of given sets, counted by rows of bits.
 //!
-//! Sets are kept as `extensions`: prefixes, and the items that extend them. `shard` counts them by a
-//! `counter`: in each `block` of baskets the `used_items` have `rows` of bits, and the `tid_words` of
-//! the baskets that contain a set are found from those of its `prefixes` (`block_counts`).
+//! Sets are kept as `extensions`: prefixes, and the items that extend them; a `prefix_range` is some
+//! prefixes in a row. `shard` counts sets by a `counter`: in each `block` of baskets the `used_items`
+//! have `rows` of bits, and the `tid_words` of the baskets that contain a set are found from those of
+//! its `prefixes` (`block_counts`).
 #![tactic(auto)]
 
 mod block;
 mod block_counts;
 mod counter;
 mod extensions;
+mod prefix_range;
 mod prefixes;
 mod rows;
 mod shard;
@@ -17,4 +19,5 @@ mod used_items;
 
 pub use counter::RowCounter;
 pub use extensions::{Extensions, put_extended};
+pub use prefix_range::PrefixRange;
 pub use shard::{count_extensions, count_shard};

@@ -2,7 +2,7 @@ ghost use Rattle.std.specs.Prelude.{◌≡◌, IfOk};
 
 use super::{NINE_BASKETS, database};
 use basket_core::{Coded, Frequent, Minimum};
-use mine_apriori::{Levels, apriori};
+use mine_apriori::{Alone, Levels, apriori};
 use mine_limit::MineFault;
 use mine_supports::{Extensions, count_extensions};
 use std::alloc::Global;
@@ -36,7 +36,7 @@ fn answered<'a>(alloc: Global, coded: &Coded, levels: Levels<'a>) -> Result<Leve
         return Err(Fail::new("no set is asked"));
     }
     let counts = count_extensions(alloc, coded.baskets(), levels.asked())?;
-    Ok(levels.answer(alloc, &counts)?)
+    Ok(levels.answer(alloc, &counts, &Alone)?)
 }
 
 fn is_too_many(answer: &Result<(Frequent, u64), MineFault>, limit: u32) -> bool {

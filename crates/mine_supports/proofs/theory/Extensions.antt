@@ -1,8 +1,9 @@
 -- Sets as prefixes and the items that extend them.
-use Rattle.std.proofs.Common.{◌≡◌, ℕ, suc, ◌+◌, ◌<◌, Bool, true, List, [], ◌∷◌, ◌++◌, length, filter, map, get_or, cond, take, append-nil, append_assoc, refl, Some, None, ◌-◌, sym, ap, ◌∙◌, inl, inr, arith}
+use Rattle.std.proofs.Common.{◌≡◌, ℕ, suc, ◌+◌, ◌<◌, ◌≤◌, Bool, true, List, [], ◌∷◌, ◌++◌, length, filter, map, get_or, cond, take, drop, append-nil, append_assoc, refl, Some, None, ◌-◌, sym, ap, ◌∙◌, inl, inr, arith}
 use Rattle.std.proofs.lemmas.Grind.{flat_map-append}
 use Rattle.std.specs.List.{slice_get}
-use Rattle.std.proofs.lemmas.List.{get_or-map, length-append, length-map, map-append, take_more}
+use Rattle.std.specs.Prelude.{slice_range}
+use Rattle.std.proofs.lemmas.List.{get_or-drop, get_or-map, get_or-take, length-append, length-drop, length-map, length-take-le, map-append, take-append-drop, take_all, take_more}
 use Rattle.std.proofs.lemmas.List.Elements.{filter-append}
 use Rattle.basket_sets.specs.Itemset.{IsRising}
 use Rattle.basket_sets.proofs.theory.Items.{filter-map}
@@ -130,3 +131,51 @@ groups_long groups = length-map groups (λ group. group.prefix)
 
 pub lists_long : (groups : List Group) → length (lists_of groups) ≡ length groups
 lists_long groups = length-map groups (λ group. group.items)
+
+-- ---- some of the prefixes
+
+pub groups_append : (prefixes lists more others : List (List ℕ)) → length lists ≡ length prefixes → groups_of (prefixes ++ more) (lists ++ others) ≡ groups_of prefixes lists ++ groups_of more others
+groups_append [] [] more others e = refl
+groups_append [] (l ∷ lists) more others e = absurd (omega (arith, e))
+groups_append (p ∷ prefixes) [] more others e = absurd (omega (arith, e))
+groups_append (p ∷ prefixes) (l ∷ lists) more others e = ap (λ r. record { prefix = p; items = l } ∷ r) (groups_append prefixes lists more others (omega (arith, e)))
+
+pub sets_append : (groups others : List Group) → sets_of (groups ++ others) ≡ sets_of groups ++ sets_of others
+sets_append groups others = flat_map-append (λ (group : Group). extend group.prefix group.items) groups others
+
+pub range_all : (groups : List Group) → slice_range groups 0 (length groups) ≡ groups
+range_all groups = ap (λ n. take n groups) (let e : length groups - 0 ≡ length groups = omega arith in e) ∙ take_all (length groups) groups (omega arith)
+
+pub range_long : (groups : List Group) (start end : ℕ) → end ≤ length groups → length (slice_range groups start end) ≡ end - start
+range_long groups start end within = length-take-le (end - start) (drop start groups) (let d = length-drop start groups in omega (arith, within, d))
+
+pub range_at : (groups : List Group) (start end place : ℕ) (d : Group) → start ≤ place → place < end → get_or (slice_range groups start end) (place - start) d ≡ get_or groups place d
+range_at groups start end place d from below =
+    let back : start + (place - start) ≡ place = omega (arith, from) in
+    get_or-take (end - start) (drop start groups) (place - start) d (omega (arith, from, below)) ∙ get_or-drop start groups (place - start) d ∙ ap (λ k. get_or groups k d) back
+
+-- one prefix more
+pub range_more : (groups : List Group) (start place : ℕ) (d : Group) → start ≤ place → place < length groups → slice_range groups start (place + 1) ≡ slice_range groups start place ++ get_or groups place d ∷ []
+range_more groups start place d from below =
+    let next : place + 1 - start ≡ (place - start) + 1 = omega (arith, from) in
+    let back : start + (place - start) ≡ place = omega (arith, from) in
+    let long = length-drop start groups in
+    ap (λ n. take n (drop start groups)) next ∙ take_more (drop start groups) (place - start) d (omega (arith, from, below, long))
+    ∙ ap (λ g. slice_range groups start place ++ g ∷ []) (get_or-drop start groups (place - start) d ∙ ap (λ k. get_or groups k d) back)
+
+pub count_more : (groups : List Group) (start place : ℕ) (d : Group) → start ≤ place → place < length groups
+    → length (sets_of (slice_range groups start (place + 1))) ≡ length (sets_of (slice_range groups start place)) + length (get_or groups place d).items
+count_more groups start place d from below =
+    let group = get_or groups place d in
+    let front = slice_range groups start place in
+    let more = ap (λ g. length (sets_of g)) (range_more groups start place d from below) ∙ ap length (sets_push front group.prefix group.items)
+    ∙ length-append (sets_of front) (extend group.prefix group.items) in
+    omega (arith, more, length-map group.items (λ item. group.prefix ++ item ∷ []))
+
+pub count_split : (groups : List Group) (start : ℕ) → length (sets_of groups) ≡ length (sets_of (take start groups)) + length (sets_of (drop start groups))
+count_split groups start =
+    ap (λ g. length (sets_of g)) (sym (take-append-drop start groups)) ∙ ap length (sets_append (take start groups) (drop start groups))
+    ∙ length-append (sets_of (take start groups)) (sets_of (drop start groups))
+
+pub count_within : (groups : List Group) (start end : ℕ) → length (sets_of (take start groups)) + length (sets_of (slice_range groups start end)) ≤ length (sets_of groups)
+count_within groups start end = omega (arith, count_split groups start, count_split (drop start groups) (end - start))

@@ -1,73 +1,107 @@
-use Rattle.std.proofs.Common.{◌≡◌, ◌<◌, ◌∷◌, ◌++◌, [], filter, get_or, length, map, take, drop, subst, sym, ap, ◌∙◌, arith}
+use Rattle.std.proofs.Common.{◌≡◌, ℕ, List, ◌+◌, ◌-◌, ◌≤◌, ◌<◌, ◌∷◌, ◌++◌, [], filter, get_or, length, map, take, drop, subst, sym, ap, ◌∙◌, arith}
 use Rattle.std.specs.List.{All}
+use Rattle.std.specs.Prelude.{slice_range}
+use Rattle.std.proofs.lemmas.List.{take_all}
 use Rattle.basket_ranks.specs.Codes.{decoded_set}
 use Rattle.basket_sets.specs.Frequent.{counted, is_frequent}
 use Rattle.basket_sets.specs.Itemset.{IsRising}
 use Rattle.basket_sets.specs.Support.{support_of}
 use Rattle.basket_sets.proofs.theory.Ranges.{filter_rises}
-use Rattle.mine_supports.specs.Extensions.{extend}
+use Rattle.mine_supports.specs.Extensions.{Group, extend, kept, sets_of}
 use Rattle.mine_apriori.specs.Levels.{decoded_sets}
-use Rattle.mine_supports.proofs.theory.Extensions.{items_read, lists_long, no_group, prefix_read}
+use Rattle.mine_supports.proofs.theory.Extensions.{items_read, no_group, prefix_read, range_at, range_long}
 use Rattle.mine_supports.proofs.theory.Frequent.{counts_first, counts_rest, counts_within, found_next, group_rises, kept_none, kept_some}
 use Rattle.mine_apriori.proofs.JoinStepLemmas.{none_if, some_if}
 use Rattle.mine_apriori.proofs.frequent.add_frequent.Goals as goal
-use Rattle.mine_apriori.proofs.frequent.add_frequent.Goals.{After-len, then-not-is_empty+in_ok-level, else-not-is_empty}
+use Rattle.mine_apriori.proofs.frequent.add_frequent.Goals.{After-items-items, then-not-is_empty+in_ok-level, else-not-is_empty}
 
-below : (c : After-len) → c.loop-number.number < length c.args.sets.now
-below c = omega (arith, c.loop-number-test.true, ap length c.lists-items-items.ensures, lists_long c.args.sets.now)
+-- the place of the prefix among those of the range
+abbrev at : After-items-items → ℕ
+at c = c.loop-number.number - c.args.range.start
 
-list_is : (c : After-len) → c.items-item.result ≡ (get_or c.args.sets.now c.loop-number.number no_group).items
-list_is c = items_read c.args.sets.now c.lists-items-items.result.now c.loop-number.number c.items-item.result c.lists-items-items.ensures (below c) c.items-item.is
+abbrev groups : After-items-items → List Group
+groups c = slice_range c.args.sets.now c.args.range.start c.args.range.end
 
-prefix_is : (c : After-len) → c.items-prefix.result.now ≡ (get_or c.args.sets.now c.loop-number.number no_group).prefix
-prefix_is c = c.items-prefix.ensures.items ∙ prefix_read c.args.sets.now c.prefixes.result.now c.loop-number.number c.index-prefixes-number.result c.prefixes.ensures (below c) c.index-prefixes-number.is
+inside : (c : After-items-items) → c.loop-number.number < length c.args.sets.now
+inside c = omega (arith, c.loop-number-test.true, c.requires.within)
+
+below : (c : After-items-items) → at c < length (groups c)
+below c = omega (arith, c.loop-number-test.true, range_long c.args.sets.now c.args.range.start c.args.range.end c.requires.within)
+
+same : (c : After-items-items) → get_or (groups c) (at c) no_group ≡ get_or c.args.sets.now c.loop-number.number no_group
+same c = range_at c.args.sets.now c.args.range.start c.args.range.end c.loop-number.number no_group (omega arith) c.loop-number-test.true
+
+list_is : (c : After-items-items) → c.items-items.result.now ≡ (get_or (groups c) (at c) no_group).items
+list_is c =
+    c.items-items.ensures.items ∙ items_read c.args.sets.now c.lists.result.now c.loop-number.number c.index-lists-number.result c.lists.ensures (inside c) c.index-lists-number.is
+    ∙ sym (ap (λ (group : Group). group.items) (same c))
+
+prefix_is : (c : After-items-items) → c.items-prefix.result.now ≡ (get_or (groups c) (at c) no_group).prefix
+prefix_is c =
+    c.items-prefix.ensures.items ∙ prefix_read c.args.sets.now c.prefixes.result.now c.loop-number.number c.index-prefixes-number.result c.prefixes.ensures (inside c) c.index-prefixes-number.is
+    ∙ sym (ap (λ (group : Group). group.prefix) (same c))
 
 pub split_at-requires : goal.split_at-requires
 split_at-requires c =
-    omega (arith, c.len.ensures, ap length (list_is c), counts_within c.args.sets.now c.loop-number.number no_group (below c) (support_of c.args.coded.now.baskets) c.loop-number.rest.now c.loop-number.invariant.rest)
+    omega (arith, ap length (list_is c), counts_within (groups c) (at c) no_group (below c) (support_of c.args.coded.now.baskets) c.loop-number.rest.now c.loop-number.invariant.rest)
 
 pub add_extensions-requires-clause-rising : goal.add_extensions-requires-clause-rising
 add_extensions-requires-clause-rising c =
-    let before = (goal.at.add_extensions-requires-clause-rising c).After-len in
-    let group = get_or c.args.sets.now c.loop-number.number no_group in
-    let same : extend c.items-prefix.result.now c.items.result.now ≡ extend group.prefix group.items = (λ i. extend (prefix_is before i) ((c.items.ensures.items ∙ list_is before) i)) in
-    subst (All IsRising) (sym same) (group_rises c.args.sets.now c.loop-number.number no_group (below before) c.requires.rising)
+    let before = (goal.at.add_extensions-requires-clause-rising c).After-items-items in
+    subst (All IsRising) (sym (λ i. extend (prefix_is before i) (list_is before i))) (group_rises (groups before) (at before) no_group (below before) c.requires.rising)
 
 pub add_extensions-requires-clause-counts : goal.add_extensions-requires-clause-counts
 add_extensions-requires-clause-counts c =
-    let before = (goal.at.add_extensions-requires-clause-counts c).After-len in
+    let before = (goal.at.add_extensions-requires-clause-counts c).After-items-items in
     let support = support_of c.args.coded.now.baskets in
-    c.split_at.ensures.front ∙ ap (λ n. take n c.loop-number.rest.now) (c.len.ensures ∙ ap length (list_is before))
-    ∙ counts_first c.args.sets.now c.loop-number.number no_group (below before) support c.loop-number.rest.now c.loop-number.invariant.rest
-    ∙ ap (map support) (sym (λ i. extend (prefix_is before i) ((c.items.ensures.items ∙ list_is before) i)))
+    c.split_at.ensures.front ∙ ap (λ n. take n c.loop-number.rest.now) (ap length (list_is before))
+    ∙ counts_first (groups before) (at before) no_group (below before) support c.loop-number.rest.now c.loop-number.invariant.rest
+    ∙ ap (map support) (sym (λ i. extend (prefix_is before i) (list_is before i)))
 
 pub with_items-requires-clause-items : goal.with_items-requires-clause-items
 with_items-requires-clause-items c =
     let coding = c.args.coded.now in
     subst IsRising (sym (c.deref.ensures.value ∙ c.in_ok-frequent.ensures.items))
-    (filter_rises (λ item. is_frequent coding.baskets coding.minimum (c.items-prefix.result.now ++ item ∷ [])) c.items.result.now (subst IsRising (sym c.items.ensures.items) c.items.ensures.rising))
+    (filter_rises (λ item. is_frequent coding.baskets coding.minimum (c.items-prefix.result.now ++ item ∷ [])) c.items-items.result.now (subst IsRising (sym c.items-items.ensures.items) c.items-items.ensures.rising))
 
 pub loop-number-preserved : goal.loop-number-preserved
 loop-number-preserved c =
-    let before = (goal.at.loop-number-preserved c).After-len in
+    let before = (goal.at.loop-number-preserved c).After-items-items in
     let coding = c.args.coded.now in
-    let groups = c.args.sets.now in
-    let number = c.loop-number.number in
+    let all = groups before in
+    let number = at before in
     let passes = is_frequent coding.baskets coding.minimum in
     let prefix = prefix_is before in
-    let items = c.items.ensures.items ∙ list_is before in
+    let items = list_is before in
     let frequent = c.in_ok-frequent.frequent.items in
     let are = c.in_ok-frequent.ensures.items ∙ (λ i. filter (λ item. passes (prefix i ++ item ∷ [])) (items i)) in
+    let next : number + 1 ≡ c.loop-number.number + 1 - c.args.range.start = omega arith in
     record {
-      rest = c.split_at.ensures.back ∙ ap (λ n. drop n c.loop-number.rest.now) (c.len.ensures ∙ ap length (list_is before))
-          ∙ counts_rest groups number no_group (below before) (support_of coding.baskets) c.loop-number.rest.now c.loop-number.invariant.rest;
+      rest = c.split_at.ensures.back ∙ ap (λ n. drop n c.loop-number.rest.now) (ap length (list_is before))
+          ∙ counts_rest all number no_group (below before) (support_of coding.baskets) c.loop-number.rest.now c.loop-number.invariant.rest
+          ∙ ap (λ n. map (support_of coding.baskets) (sets_of (drop n all))) next;
       level = elim c.if-not-is_empty.branch [
         | then-not-is_empty+in_ok-level w ↦
             w.level-is ∙ w.in_ok-level.ensures ∙ (λ i. c.loop-number.invariant.level i ++ record { prefix = prefix i; items = w.deref.ensures.value i } ∷ [])
-            ∙ kept_some groups number no_group (below before) passes frequent are (some_if frequent _ (omega (arith, c.in_ok-frequent.frequent.ok)) (sym c.is_empty.ensures ∙ w.if-not-is_empty.true))
+            ∙ kept_some all number no_group (below before) passes frequent are (some_if frequent _ (omega (arith, c.in_ok-frequent.frequent.ok)) (sym c.is_empty.ensures ∙ w.if-not-is_empty.true))
         | else-not-is_empty w ↦
-            w.level-is ∙ c.loop-number.invariant.level ∙ kept_none groups number no_group (below before) passes frequent are (none_if frequent _ (omega (arith, c.in_ok-frequent.frequent.ok)) (sym c.is_empty.ensures ∙ w.if-not-is_empty.false))
-      ];
-      found = found_next groups number no_group (below before) (λ set. decoded_set coding.items (counted coding.baskets set)) passes c.args.found.now c.loop-number.found c.add_extensions.new.found c.loop-number.invariant.found
-          (c.in_ok-frequent.ensures.found ∙ (λ i. c.loop-number.found ++ decoded_sets coding (filter passes (extend (prefix i) (items i)))));
+            w.level-is ∙ c.loop-number.invariant.level ∙ kept_none all number no_group (below before) passes frequent are (none_if frequent _ (omega (arith, c.in_ok-frequent.frequent.ok)) (sym c.is_empty.ensures ∙ w.if-not-is_empty.false))
+      ] ∙ ap (λ n. kept passes (take n all)) next;
+      found = found_next all number no_group (below before) (λ set. decoded_set coding.items (counted coding.baskets set)) passes c.args.found.now c.loop-number.found c.add_extensions.new.found c.loop-number.invariant.found
+          (c.in_ok-frequent.ensures.found ∙ (λ i. c.loop-number.found ++ decoded_sets coding (filter passes (extend (prefix i) (items i)))))
+          ∙ ap (λ n. c.args.found.now ++ decoded_sets coding (filter passes (sets_of (take n all)))) next;
     }
+
+taken : (groups : List Group) (start end number : ℕ) → end ≤ length groups → end ≤ number → take (number - start) (slice_range groups start end) ≡ slice_range groups start end
+taken groups start end number within past = take_all (number - start) (slice_range groups start end) (omega (arith, past, range_long groups start end within))
+
+pub returns-clause-level : goal.returns-clause-level
+returns-clause-level c =
+    c.loop-number.invariant.level ∙ ap (kept (is_frequent c.args.coded.now.baskets c.args.coded.now.minimum))
+    (taken c.args.sets.now c.args.range.start c.args.range.end c.loop-number.number c.requires.within c.loop-number-test.false)
+
+pub returns-clause-found : goal.returns-clause-found
+returns-clause-found c =
+    let coding = c.args.coded.now in
+    c.loop-number.invariant.found ∙ ap (λ g. c.args.found.now ++ decoded_sets coding (filter (is_frequent coding.baskets coding.minimum) (sets_of g)))
+    (taken c.args.sets.now c.args.range.start c.args.range.end c.loop-number.number c.requires.within c.loop-number-test.false)

@@ -14,19 +14,19 @@ use Rattle.mine_apriori.proofs.WorkLemmas.{candidates_few, candidates_next}
 use Rattle.mine_apriori.proofs.levels.KnownLevels.ask.Goals as goal
 
 pub returns-then-len-limit-clause-too_many : goal.returns-then-len-limit-clause-too_many
-returns-then-len-limit-clause-too_many c most e =
+returns-then-len-limit-clause-too_many g c most e =
     let coding = c.args.self.coded.now in
     let more = ap length c.requires.found ∙ length-map (levels_up_to coding c.args.self.size) (λ set. decoded_set coding.items (counted coding.baskets set)) in
     (cc, too_many coding c.requires.coding c.args.self.size c.args.limit (omega (arith, more, c.if-len-limit.true, c.len.ensures)))
 
 pub candidates-requires-clause-in_order : goal.candidates-requires-clause-in_order
-candidates-requires-clause-in_order c = subst IsInReportOrder (sym c.requires.level) (level_in_order c.args.self.coded.now c.args.self.size)
+candidates-requires-clause-in_order g c = subst IsInReportOrder (sym c.requires.level) (level_in_order c.args.self.coded.now c.args.self.size)
 
 pub candidates-requires-clause-rising : goal.candidates-requires-clause-rising
-candidates-requires-clause-rising c = subst (All IsRising) (sym c.requires.level) (level_rises c.args.self.coded.now c.args.self.size)
+candidates-requires-clause-rising g c = subst (All IsRising) (sym c.requires.level) (level_rises c.args.self.coded.now c.args.self.size)
 
 pub overflow_add-result : goal.overflow_add-result
-overflow_add-result c =
+overflow_add-result g c =
     let coding = c.args.self.coded.now in
     let size = c.args.self.size in
     let more = ap length (candidates_next coding size c.requires.some) ∙ length-append (candidates_up_to coding.baskets coding.minimum size) (asked_of coding size) in
@@ -38,7 +38,7 @@ overflow_add-result c =
     record { fits = omega (arith, c.requires.counted, c.len-2.ensures, ap length (c.in_ok-asked.ensures.candidates ∙ ap candidates_of c.requires.level), more, few, most) }
 
 pub invariant_of-result : goal.invariant_of-result
-invariant_of-result c =
+invariant_of-result g c =
     let coding = c.args.self.coded.now in
     let size = c.args.self.size in
     let more = ap length (candidates_next coding size c.requires.some) ∙ length-append (candidates_up_to coding.baskets coding.minimum size) (asked_of coding size) in

@@ -1,0 +1,2 @@
+-- What the proofs of every crate may cite of Apriori.
+pub mod Parts

@@ -1,0 +1,31 @@
+use Rattle.std.proofs.Common.{◌≡◌, ◌+◌, ◌<◌, ℕ, List, length, sym, ap, ◌∙◌, arith}
+use Rattle.std.specs.Prelude.{slice_range}
+use Rattle.mine_supports.specs.Extensions.{Group, groups_of, lists_of, sets_of}
+use Rattle.mine_supports.proofs.theory.Extensions.{count_more, count_within, items_read, lists_back, lists_long, no_group}
+use Rattle.mine_supports.proofs.extensions.Extensions.count_in.Goals as goal
+use Rattle.mine_supports.proofs.extensions.Extensions.count_in.Goals.{After-len-count}
+
+lists_are : (prefixes lists : List (List ℕ)) (groups : List Group) → length lists ≡ length prefixes → groups_of prefixes lists ≡ groups → lists ≡ lists_of groups
+lists_are prefixes lists groups same is = sym (lists_back prefixes lists same) ∙ ap lists_of is
+
+pub index-requires : goal.index-requires
+index-requires c = omega (arith, c.loop-place-test.true, c.requires, ap length (lists_are c.self.inside.prefixes.items c.self.inside.lists.items c.args.self.now c.self.invariant.0 c.self.view_is), lists_long c.args.self.now)
+
+-- the sets with those of the prefix
+more : (c : After-len-count) → c.loop-place.count + c.len-count.result ≡ length (sets_of (slice_range c.args.self.now c.args.range.start (c.loop-place.place + 1)))
+more c =
+    let groups = c.args.self.now in
+    let place = c.loop-place.place in
+    let below : place < length groups = omega (arith, c.loop-place-test.true, c.requires) in
+    let items = items_read groups c.self.inside.lists.items place c.index.result.now (lists_are c.self.inside.prefixes.items c.self.inside.lists.items groups c.self.invariant.0 c.self.view_is) below c.index.ensures in
+    omega (arith, c.loop-place.invariant, c.len-count.ensures, ap length items, count_more groups c.args.range.start place no_group (omega arith) below)
+
+pub overflow_add-count : goal.overflow_add-count
+overflow_add-count c =
+    let groups = c.args.self.now in
+    let all = count_within groups c.args.range.start (c.loop-place.place + 1) in
+    let sets = ap (λ g. length (sets_of g)) c.self.view_is in
+    record { fits = omega (arith, more (goal.at.overflow_add-count c).After-len-count, all, sets, c.self.invariant.1) }
+
+pub loop-place-preserved : goal.loop-place-preserved
+loop-place-preserved c = more (goal.at.loop-place-preserved c).After-len-count
