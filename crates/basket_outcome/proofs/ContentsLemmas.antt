@@ -19,8 +19,8 @@ module _ {A : Type 0} (say : A → Contents) where
       says IsDefined IsDefined say (result_and_then (λ a. Ok (say a))) (λ a answer. ap (result_and_then (λ a. Ok (say a)))) (λ fault. refl) defined fails left failed read result (as_said read result is)
 
 -- what holds after `Ok` of what was read holds after `Ok` of what is made of it
-pub still : {A P : Type 0} (next : A → Result Contents ReadFault) (read : Result A ReadFault) (result : Result Contents ReadFault) → result ≡ result_and_then next read → OnOk read P → OnOk result P
-still next (Ok a) (Ok contents) is held = held
-still next (Ok a) (Err fault) is held = tt
-still next (Err fault) (Ok contents) is held = absurd cc
-still next (Err fault) (Err other) is held = tt
+pub still : {A : Type 0} (P : Type 0) (next : A → Result Contents ReadFault) (read : Result A ReadFault) (result : Result Contents ReadFault) → result ≡ result_and_then next read → OnOk read P → OnOk result P
+still P next (Ok a) (Ok contents) is held = held
+still P next (Ok a) (Err fault) is held = tt
+still P next (Err fault) (Ok contents) is held = absurd cc
+still P next (Err fault) (Err other) is held = tt
