@@ -81,7 +81,7 @@ $(YARDSTICK): bench/yardstick.cpp
 	$(CXX) -O3 -march=x86-64-v2 -std=c++17 -o $@ $<
 
 # Times the program, beside the C++ program, its stages, the Python package and the page, and writes bench/RESULTS.md.
-# It wants valgrind, and an idle machine for some 25 minutes.
+# It wants valgrind and an idle machine; bench/COST.md says how long it takes.
 bench: $(PROGRAM) $(STAGES) $(YARDSTICK) page
 	tools/python-packages
 	bench/run.py $(PROGRAM) --beside $(YARDSTICK) --stages $(STAGES) --frames bench/frames.py \

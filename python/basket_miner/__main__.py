@@ -18,7 +18,7 @@ def _parser() -> argparse.ArgumentParser:
     command = commands.add_parser("explore", help=told, description=told)
     command.add_argument("file", help="the baskets, as the program basket reads them")
     command.add_argument("--form", choices=["fimi", "baskets", "single"])
-    command.add_argument("--sep", choices=[*SEPARATORS, *SEPARATORS.values()])
+    command.add_argument("--sep", choices=[*SEPARATORS])
     command.add_argument("--header", action="store_true")
     command.add_argument(
         "--weight", action="store_true", help="a record begins with its weight"

@@ -25,7 +25,7 @@ Basket = tuple[set[int], int]
 Given = bytes | str | Path
 ASKS = ("items", "sets", "closed", "maximal", "rules")
 FORMS = ("fimi", "baskets", "single")
-SEPARATORS = {"comma": ",", "semicolon": ";", "tab": "\t", "pipe": "|"}
+SEPARATORS = dict(zip("comma semicolon tab pipe , ; \t |".split(" "), 2 * ",;\t|"))
 _MOST_NUMBER, _MOST_WEIGHT, _MOST_DRAWN = 2**32 - 1, 2**40 - 1, 1_000
 
 
