@@ -190,4 +190,5 @@ def main() -> None:
     print(*instructions.dearer(before, "\n".join(found)), sep="\n")
 
 
-main()
+if __name__ == "__main__":
+    main()
