@@ -4,7 +4,7 @@ PREFIX ?= $(HOME)/.local
 PROGRAM := crates/basket_cli/out/basket_cli
 STAGES := crates/basket_bench/out/basket_bench
 YARDSTICK := bench/out/yardstick
-TESTS := crates/basket_checks/% crates/basket_runs/%
+TESTS := crates/basket_checks/% crates/mine_checks/% crates/basket_runs/%
 SOURCES := crates.txt $(filter-out $(TESTS),$(shell find crates -name out -prune -o -type f \( -name '*.rt' -o -name '*.antt' \) -print))
 PLACE := $(DESTDIR)$(PREFIX)
 
@@ -25,11 +25,11 @@ demo:
 try:
 	@tools/try.py $(if $(SETS),--sets "$(SETS)") "$(FILE)" $(WORDS)
 
-# Builds the program without its proofs, and runs the tests of the program and of the Python package over it.
+# Builds the program without its proofs, and runs the tests of the program, the page and the Python package over it.
 check:
 	tools/test.py --check
 
-# The gate: proves every crate and its tests, and tests the program and the Python package.
+# The gate: proves every crate and its tests, and tests the program, the page and the Python package.
 test:
 	tools/test.py
 

@@ -23,11 +23,12 @@ import basket_miner as miner  # noqa: E402
 from basket_miner import _program  # noqa: E402
 from basket_miner._baskets import Baskets  # noqa: E402
 from basket_miner._report import sets_frame  # noqa: E402
+from basket_miner.frequent_patterns import fpgrowth  # noqa: E402
 
 BASKETS, SIZE, GOODS = 1_000_000, 10, 2_000
 LONG: Any = {"basket": "receipt", "item": "product"}
-# The rows and columns of a wide frame.
-WIDE = 200_000, 400
+# The rows and columns of wide frames; the second has very many sets of three items and more.
+WIDE, DENSE = (200_000, 400), (20_000, 120)
 
 
 def seconds(work: Callable[[], object], runs: int = 2) -> float:
@@ -89,6 +90,20 @@ def wide_frames() -> None:
         print(f"  {kind}: {seconds(lambda: miner.baskets(frame)):.2f} s")
 
 
+def limited_sizes() -> None:
+    """Items and pairs alone, beside all sets."""
+    rows, columns = DENSE
+    chances = 0.05 + 0.45 * np.linspace(0, 1, columns) ** 3
+    truths = pd.DataFrame(np.random.default_rng(46).random(DENSE) < chances)
+    print(f"{rows} rows of {columns} columns, sets of 0.3% by fpgrowth:")
+    for name, most in (("items and pairs", 2), ("all", None)):
+
+        def found() -> pd.DataFrame:
+            return fpgrowth(truths, 0.003, max_len=most)
+
+        print(f"  {name}, {len(found())} sets: {seconds(found):.2f} s")
+
+
 def large_report() -> None:
     """The frame of a report of 524,287 sets."""
     # All subsets of a basket of 19 items are frequent.
@@ -112,6 +127,7 @@ def large_report() -> None:
 def main() -> None:
     long_frames()
     wide_frames()
+    limited_sizes()
     large_report()
 
 

@@ -190,7 +190,7 @@ struct Prefix {
     }
 };
 
-// A basket of a class of at most 64 items, a bit an item, and how many are equal to it.
+// A basket of a class of at most 64 items, a bit for each item, and how many are equal to it.
 struct Word { u64 items; u32 weight; };
 
 // Mines classes of at most 64 items.

@@ -1,7 +1,7 @@
 
 // What the program's own `look` says of a file, taken over into the form: it shows the command that mines the file.
 const LOOKED_AT = (1 << 20) + 1; // One byte more than it reads tells it that there are more.
-const FORMS = { single: "an item a line", baskets: "a basket a line", fimi: "numbers, a basket a line", counts: "sets with counts", "csv-counts": "sets with counts" };
+const FORMS = { single: "an item on each line", baskets: "a basket on each line", fimi: "numbers, a basket on each line", counts: "sets with counts", "csv-counts": "sets with counts" };
 const LETTERS = { comma: ",", semicolon: ";", tab: "\t", pipe: "|" };
 const MOST_LAYERS = 20; // A file that is packed again and again is unpacked so often.
 

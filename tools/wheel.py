@@ -1,11 +1,11 @@
 #!/usr/bin/env python3
 """Makes a wheel of the Python package with the proved program and its page in it, under dist/.
 
-usage: tools/wheel.py [FOLDER]    at the top of the repository, after `make`; FOLDER instead of dist
+usage: tools/wheel.py [FOLDER]    at the top of the repository, after `make` and `make page`; FOLDER instead of dist
 
-`BASKET` names another program, and `PAGE` another page than dist/basket.html. The wheel's tag is that of the oldest C library that has all symbols which
-the program asks for. It needs `setuptools`, `wheel` and `pip` of the system's Python, `objdump`, and no
-network: tools/python-packages installs them. The same program and commit give the same bytes.
+`BASKET` names another program, and `PAGE` another page than dist/basket.html. The wheel's tag is that of the oldest
+C library that has all symbols which the program asks for. It needs `setuptools`, `wheel` and `pip` of the system's
+Python, `objdump`, and no network: tools/python-packages installs them. The same program and commit give the same bytes.
 """
 
 import os
@@ -16,6 +16,8 @@ import sys
 import tempfile
 from pathlib import Path
 
+from package import output_of
+
 PROGRAM = Path(os.environ.get("BASKET", "crates/basket_cli/out/basket_cli"))
 PAGE = Path(os.environ.get("PAGE", "dist/basket.html"))
 PACKAGE = Path("python")
@@ -24,12 +26,6 @@ PYTHON = "/usr/bin/python3"
 LICENCES = ("LICENSE", "LICENSE-APACHE", "LICENSE-MIT", "NOTICE")
 # The oldest C library that a tag can name: a static program asks for none.
 LEAST = (2, 5)
-
-
-def output_of(*words: str) -> str:
-    return subprocess.run(
-        words, stdout=subprocess.PIPE, text=True, check=True
-    ).stdout.strip()
 
 
 def demand() -> None:

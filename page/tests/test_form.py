@@ -26,71 +26,71 @@ EXCEL = RECEIPTS.replace(",", ";").replace("\n", "\r\n")
 PRICES = with_column(2, "price", ["0.99"] * len(PAIRS))
 # Files that have the same receipts, and what the page says of their form.
 SAME = (
-    (RECEIPTS.encode(), "an item a line, separated by comma, with a header"),
+    (RECEIPTS.encode(), "an item on each line, separated by comma, with a header"),
     (
         RECEIPTS.encode("utf-8-sig"),
-        "an item a line, separated by comma, with a header",
+        "an item on each line, separated by comma, with a header",
     ),
     (
         EXCEL.encode("utf-8-sig"),
-        "an item a line, separated by semicolon, with a header",
+        "an item on each line, separated by semicolon, with a header",
     ),
     (
         f"sep=;\r\n{EXCEL}".encode(),
-        "an item a line, separated by semicolon, with a header",
+        "an item on each line, separated by semicolon, with a header",
     ),
     (
         RECEIPTS.replace(",", "\t").encode("utf-16"),
-        "an item a line, separated by tab, with a header",
+        "an item on each line, separated by tab, with a header",
     ),
     (
         RECEIPTS.encode("utf-16-be"),
-        "an item a line, separated by comma, with a header",
+        "an item on each line, separated by comma, with a header",
     ),
     (
         RECEIPTS.replace(",", "|").encode(),
-        "an item a line, separated by pipe, with a header",
+        "an item on each line, separated by pipe, with a header",
     ),
     (
         "".join(f"{item},{receipt}\n" for receipt, item in ROWS).encode(),
-        "an item a line, separated by comma, with a header",
+        "an item on each line, separated by comma, with a header",
     ),
     (
         with_column(
             0, "date", [f"2026-11-{1 + place % 5:02}" for place in range(len(PAIRS))]
         ).encode(),
-        "an item a line, separated by comma, with a header",
+        "an item on each line, separated by comma, with a header",
     ),
     (
         PRICES.replace(",", ";").replace(".", ",").encode(),
-        "an item a line, separated by semicolon, with a header",
+        "an item on each line, separated by semicolon, with a header",
     ),
     (
         RECEIPTS.partition("\n")[2].encode(),
-        "an item a line, separated by comma, without a header",
+        "an item on each line, separated by comma, without a header",
     ),
     (
         matrix("1", "0").encode(),
-        "a basket a line, separated by comma, without a header",
+        "a basket on each line, separated by comma, without a header",
     ),
     (
         matrix("True", "False").encode(),
-        "a basket a line, separated by comma, without a header",
+        "a basket on each line, separated by comma, without a header",
     ),
-    (PLAIN.encode(), "a basket a line, separated by comma, without a header"),
+    (PLAIN.encode(), "a basket on each line, separated by comma, without a header"),
     (
         f"first,second\n{PLAIN}".encode(),
-        "a basket a line, separated by comma, with a header",
+        "a basket on each line, separated by comma, with a header",
     ),
     (
         "".join(
             f"{place},{line}\n" for place, line in enumerate(PLAIN.splitlines(), 1)
         ).encode(),
-        "a basket a line, separated by comma, without a header",
+        "a basket on each line, separated by comma, without a header",
     ),
     (
         gzip.compress(RECEIPTS.encode()),
-        "an item a line, separated by comma, with a header",
+        "an item on each line, separated by comma, with a header",
     ),
 )
 
@@ -140,8 +140,8 @@ def test_a_person_can_choose_other_columns(shown: webdriver.Chrome) -> None:
 def test_numbers_and_counts_are_known(shown: webdriver.Chrome) -> None:
     counts = run(["sets", "--min", "2"], SHOP).out + b"(15)\n"
     for content, said in (
-        (SHOP, "numbers, a basket a line"),
-        (SHOP.replace(b"\n", b"\r"), "numbers, a basket a line"),
+        (SHOP, "numbers, a basket on each line"),
+        (SHOP.replace(b"\n", b"\r"), "numbers, a basket on each line"),
         (counts, "sets with counts"),
     ):
         assert not give(shown, content).startswith("basket:")

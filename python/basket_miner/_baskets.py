@@ -70,17 +70,19 @@ def _fimi(numbers: Array, ends: Array, size: int, weights: Array | None) -> byte
     """The lines of baskets, whose last numbers are those at `ends`, all below `size`.
 
     Each number with what stands after it, and each weight, is taken from a table of texts
-    that the zero bytes after them make equally long.
+    that zero bytes make equally long, unless the table would be longer than the lines.
     """
-    texts = [b"%d " % number for number in range(size)]
-    texts += [b"%d\n" % number for number in range(size)]
+    if weights is None and len(numbers) < 2 * size:
+        after = np.where(ends, ord("\n"), ord(" "))
+        return _texts(numbers, after).tobytes().translate(None, b"\0")
+    texts = [_texts(np.arange(size), ord(after)) for after in " \n"]
     if weights is not None:
         distinct, places = np.unique(weights, return_inverse=True)
         starts = np.flatnonzero(np.r_[True, ends][:-1])
-        numbers = np.insert(numbers + size * ends, starts, len(texts) + places)
+        numbers = np.insert(numbers + size * ends, starts, 2 * size + places)
         ends = np.zeros(len(numbers), dtype=bool)
-        texts += [b"%dx " % weight for weight in distinct]
-    table = np.array(texts, dtype=bytes)
+        texts.append(np.array([b"%dx " % weight for weight in distinct], dtype=bytes))
+    table = np.concatenate(texts)
 
     def portion(start: int) -> bytes:
         part = slice(start, start + _TOKENS_AT_ONCE)
@@ -88,6 +90,17 @@ def _fimi(numbers: Array, ends: Array, size: int, weights: Array | None) -> byte
         return content.translate(None, b"\0")
 
     return b"".join(map(portion, range(0, len(numbers), _TOKENS_AT_ONCE)))
+
+
+def _texts(numbers: Array, after: Array | int) -> Array:
+    """Numbers as texts with a byte after each, and zero bytes in front."""
+    width = len(str(numbers.max(initial=0)))
+    rest, table = numbers, np.zeros((len(numbers), width + 1), dtype=np.uint8)
+    for column in range(width)[::-1]:
+        table[:, column] = np.where(rest > 0, rest % 10 + ord("0"), 0)
+        rest = rest // 10
+    table[numbers == 0, -2], table[:, -1] = ord("0"), after
+    return table.view(f"S{width + 1}").ravel()
 
 
 def grouped(places: Array, numbers: Array) -> tuple[Array, Array]:

@@ -11,7 +11,7 @@ import pandas as pd
 
 from ._baskets import Baskets
 from ._errors import DataError
-from ._frames import long_frame, matrix
+from ._frames import Rows, long_frame, long_rows, matrix
 from ._keywords import BasketsOptions, Layout, changed, filled
 from ._lists import listed
 from ._signatures import BasketsCall
@@ -34,9 +34,7 @@ def read(data: Data, keywords: Layout) -> Baskets:
         DataError: the data are none of these, or a keyword does not go with them.
     """
     layout = filled(Layout, keywords)
-    if layout["missing"] not in ("refuse", "drop"):
-        raise DataError(f'missing is "refuse" or "drop", not {layout["missing"]!r}')
-    drop = layout["missing"] == "drop"
+    drop = _drops(layout)
     if isinstance(data, Baskets):
         _refuse_others(layout, "", "prepared baskets")
         return data
@@ -50,14 +48,7 @@ def read(data: Data, keywords: Layout) -> Baskets:
                 layout, "weight missing", "a frame with a column for each item"
             )
             return wide_frame(data, layout["weight"], drop)
-        _refuse_others(layout, "basket item weight missing", "a frame")
-        if layout["basket"] is None or layout["item"] is None:
-            raise DataError(
-                "a frame with a row for each item needs both basket= and item="
-            )
-        return long_frame(
-            data, layout["basket"], layout["item"], layout["weight"], drop
-        )
+        return long_frame(rows_of(data, layout))
     if is_table(data):
         return read(frame_of(data), keywords)
     if hasattr(data, "tocsr"):
@@ -65,6 +56,23 @@ def read(data: Data, keywords: Layout) -> Baskets:
         return matrix(data, layout["names"])
     _refuse_others(layout, "missing", "an iterable of baskets")
     return listed(data, drop)
+
+
+def rows_of(frame: pd.DataFrame, keywords: Layout) -> Rows:
+    """The rows of a frame with a row for each item."""
+    layout = filled(Layout, keywords)
+    _refuse_others(layout, "basket item weight missing", "a frame")
+    basket, item = layout["basket"], layout["item"]
+    if basket is None or item is None:
+        raise DataError("a frame with a row for each item needs both basket= and item=")
+    return long_rows(frame, basket, item, layout["weight"], _drops(layout))
+
+
+def _drops(layout: Layout) -> bool:
+    """Whether missing values are left out."""
+    if layout["missing"] not in ("refuse", "drop"):
+        raise DataError(f'missing is "refuse" or "drop", not {layout["missing"]!r}')
+    return layout["missing"] == "drop"
 
 
 @Typed[BasketsCall]()

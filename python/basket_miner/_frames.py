@@ -1,6 +1,7 @@
 """Baskets from data frames with a row for each item, and from sparse matrices; columns by their names."""
 
 from collections.abc import Hashable, Iterable
+from dataclasses import dataclass
 from typing import Any
 
 import numpy as np
@@ -18,33 +19,56 @@ LONG_HINT = (
 )
 
 
-def long_frame(
+@dataclass(frozen=True)
+class Rows:
+    """Rows of a frame, each with an item of a basket, none of which misses a value.
+
+    Args:
+        places: for each row the place of its basket, by first appearance.
+        ids: those of the baskets, by place.
+        numbers: for each row the number of its item, by first appearance.
+        labels: those of the items, by number.
+        weights: those of the baskets, by place, if they have weights.
+    """
+
+    places: Array
+    ids: pd.Index | Array
+    numbers: Array
+    labels: Labels
+    weights: Array | None
+
+
+def long_frame(rows: Rows) -> Baskets:
+    """Baskets of rows, of which those of one basket need not stand together."""
+    places, numbers = rows.places, rows.numbers
+    if (places[1:] < places[:-1]).any():
+        places, numbers = grouped(places, numbers)
+    return baskets_of(places, numbers, rows.labels, rows.weights)
+
+
+def long_rows(
     frame: pd.DataFrame,
     basket: Hashable,
     item: Hashable,
     weight: Hashable | None,
     drop: bool,
-) -> Baskets:
-    """Baskets of a frame with a row for each item of a basket.
-
-    Rows of one basket need not stand together. Items are numbered by their first rows.
-    """
+) -> Rows:
+    """The rows of a frame with a row for each item of a basket."""
     names = [basket, item] if weight is None else [basket, item, weight]
     columns = [column_of(frame, name) for name in names]
-    places, _ = numbered(columns[0], basket)
+    places, ids = numbered(columns[0], basket)
     numbers, items = numbered(columns[1], item)
     are_there = [places >= 0, numbers >= 0]
     are_there += [there(column) for column in columns[2:]]
     refuse_gaps(are_there, names, drop)
     if not all(is_there.all() for is_there in are_there):
         kept = frame[np.logical_and.reduce(are_there)]
-        return long_frame(kept, basket, item, weight, drop)
+        return long_rows(kept, basket, item, weight, drop)
     weights = None
     if weight is not None:
-        weights = _weights_by_place(places, checked_weights(plain(columns[2])), weight)
-    if (places[1:] < places[:-1]).any():
-        places, numbers = grouped(places, numbers)
-    return baskets_of(places, numbers, items.tolist(), weights)
+        values = checked_weights(plain(columns[2]))
+        weights = weights_by_place(places, values, f"column {weight!r}")
+    return Rows(places, ids, numbers, items.tolist(), weights)
 
 
 def without_drop(fault: DataError, hint: str) -> DataError:
@@ -134,11 +158,12 @@ def plain(column: pd.Series) -> Array:
     return np.array(values.tolist(), dtype=None) if values.dtype == object else values
 
 
-def _weights_by_place(places: Array, values: Array, name: Hashable) -> Array:
+def weights_by_place(places: Array, values: Array, what: str) -> Array:
+    """The weights of baskets from those of their rows, or `DataError` where rows of one basket differ."""
     weights = np.zeros(places.max(initial=-1) + 1, dtype=np.int64)
     weights[places] = values
     if (weights[places] != values).any():
-        raise DataError(f"column {name!r} has several weights in one basket")
+        raise DataError(f"{what} has several weights in one basket")
     return weights
 
 

@@ -1,5 +1,6 @@
 """The measures of rules, by mlxtend's names, from counts of baskets."""
 
+from fractions import Fraction
 from typing import Any
 
 import numpy as np
@@ -58,6 +59,26 @@ def measures(both: Array, left: Array, right: Array, total: int) -> dict[str, Ar
         "certainty": _quotients(excess, left * (total - right)),
         "kulczynski": _quotients(both * (left + right), 2 * left * right),
     }
+
+
+def least_confidence(metric: str, threshold: Fraction, share: Fraction) -> Fraction:
+    """A confidence that no rule lies below whose measure is at least a threshold.
+
+    Args:
+        metric: the name of the measure.
+        threshold: of it.
+        share: of all baskets, that each side of a rule is in at least.
+    """
+    if threshold <= 0:
+        return Fraction(0)
+    bounds = {
+        **dict.fromkeys(("confidence", "jaccard", "certainty"), threshold),
+        "lift": threshold * share,
+        "leverage": threshold + share,
+        "conviction": 1 - (1 - share) / threshold,
+        "kulczynski": 2 * threshold - 1,
+    }
+    return min(max(bounds.get(metric, Fraction(0)), Fraction(0)), Fraction(1))
 
 
 def _quotients(tops: Array, bottoms: Any, by_zero: float = 0.0) -> Array:

@@ -6,6 +6,7 @@ import numbers
 from collections.abc import Iterable
 from dataclasses import replace
 from decimal import Decimal
+from fractions import Fraction
 from typing import Any
 
 import numpy as np
@@ -18,11 +19,13 @@ from ._frames import LONG_HINT, column_of, without_drop
 from ._given_sets import itemsets_of
 from ._keywords import Miner, Work
 from ._levels import not_above, sized
-from ._measures import MEASURES
+from ._measures import MEASURES, least_confidence, measures
 from ._minimum import MOST_COUNT
 from ._program import run
-from ._report import sets_frame
+from ._report import rules_frame, sets_frame
 
+# What confidences are fractions of.
+_PARTS = 10**9
 # Neighbouring floats of 32 bits are less than half a basket of so many apart.
 _MOST_OF_SINGLES = 2**22
 
@@ -136,7 +139,36 @@ def _counts(supports: pd.Series, transactions: int) -> Array:
     return counts
 
 
-def rules_report(words: list[str], baskets: Baskets) -> bytes:
+def rules_that_hold(
+    baskets: Baskets, least: int, metric: str, threshold: float
+) -> pd.DataFrame:
+    """The rules whose metric is at least a threshold.
+
+    Args:
+        baskets: the counts of itemsets, as `counted` makes them.
+        least: no count lies below it.
+        metric: the name of a measure.
+        threshold: of it.
+    """
+    total = baskets.weight or 1
+    # Infinite ones have no fraction.
+    near = Fraction(float(min(max(threshold, 0), _PARTS)))
+    confidence = least_confidence(metric, near, Fraction(least, total))
+    # A little less, since the threshold is compared with floats.
+    share = max(math.floor(confidence * _PARTS) - 1, 0)
+    if metric in ("support", "leverage"):
+        # The leverage is the support without a part.
+        least = max(least, math.floor(min(near, Fraction(1)) * total) - 1)
+
+    def holds(both: Array, left: Array, right: Array) -> Array:
+        known = measures(both, left, right, total)[metric]
+        return np.asarray(known >= threshold)
+
+    report = _rules_report([f"--min={least}", f"--conf={share}/{_PARTS}"], baskets)
+    return rules_frame(report, baskets, total, holds=holds)
+
+
+def _rules_report(words: list[str], baskets: Baskets) -> bytes:
     try:
         return run(["rules", "--form=counts", *words], baskets.source)
     except InputError as fault:
@@ -189,6 +221,6 @@ def refuse_nulls(null_values: bool, df: pd.DataFrame | None) -> None:
         return
     if not isinstance(df, pd.DataFrame) or df.isna().any(axis=None):
         raise DataError(
-            "null_values=True is here for frames without missing values alone, in df_orig for "
-            "rules: fill them with False first"
+            "null_values=True is here for frames without missing values alone, for rules in "
+            "df_orig=; give df.fillna(False) instead, which counts what is missing as not there"
         )

@@ -4,38 +4,26 @@ import itertools
 import numbers
 import operator
 import os
-from collections import defaultdict
+from collections import Counter, defaultdict
 from collections.abc import Hashable, Iterator
-from dataclasses import dataclass
-from fractions import Fraction
 from typing import Any, Literal
 
 import numpy as np
 import pandas as pd
 
-from ._baskets import Baskets
-from ._columns import labels_column
+from ._baskets import Array, Baskets
+from ._columns import fractions_of, labels_column
 from ._data import Data
 from ._errors import DataError
 from ._frames import column_of, without_drop
 from ._given_sets import itemsets_of
 from ._lists import each
+from ._measures import measures
 from ._numbering import numbered
+from ._ranks import FIGURES, best_first
 from ._rule_counts import RuleCounts, counts_of
 from ._tables import frame_of, is_table
 from ._wide_frames import wide_pairs
-
-_FIGURES = ("lift", "confidence", "count")
-
-
-@dataclass(frozen=True)
-class _Rule:
-    label: Hashable
-    antecedents: frozenset[Any]
-    consequents: frozenset[Any]
-    count: int
-    confidence: Fraction
-    lift: Fraction
 
 
 def recommend(
@@ -68,90 +56,80 @@ def recommend(
     its place in the iterable), `item`, `rule` (the label of the rule's row), `count`, `confidence` and
     `lift`. Raises `DataError` where the rules, the baskets or an argument do not fit.
     """
-    if by not in _FIGURES:
-        raise DataError(f"by is one of {', '.join(_FIGURES)}, not {by!r}")
+    if by not in FIGURES:
+        raise DataError(f"by is one of {', '.join(FIGURES)}, not {by!r}")
     if not isinstance(top, numbers.Integral) or top < 1:
         raise DataError(f"top is a number of at least 1, not {top!r}")
-    by_item = _by_item(_best_first(rules, by))
-    known: dict[frozenset[Any], list[tuple[Any, _Rule]]] = {}
+    counts = counts_of(rules)
+    order = best_first(counts, by)
+    index = _Index(rules, order.tolist())
+    known: dict[frozenset[Any], list[tuple[Any, int]]] = {}
     rows = []
     for name, items in _baskets(baskets, basket, item):
         if items not in known:
-            known[items] = _offers(by_item, items, top)
+            known[items] = index.offers(items, top)
         rows += [(name, *offer) for offer in known[items]]
-    found = pd.DataFrame(
-        {
-            "basket": labels_column([name for name, _, _ in rows]),
-            "item": labels_column([offered for _, offered, _ in rows]),
-            "rule": labels_column([rule.label for _, _, rule in rows]),
-            "count": np.array([rule.count for *_, rule in rows], dtype=np.int64),
-            "confidence": np.array(
-                [*map(float, (rule.confidence for *_, rule in rows))]
-            ),
-            "lift": np.array([*map(float, (rule.lift for *_, rule in rows))]),
-        }
+    places = order[np.array([rank for *_, rank in rows], dtype=np.intp)]
+    found = {
+        "basket": labels_column([name for name, _, _ in rows]),
+        "item": labels_column([offered for _, offered, _ in rows]),
+        "rule": labels_column(rules.index[places].tolist()),
+        **_figures(counts, places, exact),
+    }
+    return pd.DataFrame(found)
+
+
+def _figures(counts: RuleCounts, places: Array, exact: bool) -> dict[str, Any]:
+    """The figures of the rules at some places."""
+    both, left, right = (
+        part[places] for part in (counts.both, counts.left, counts.right)
     )
+    known = measures(both, left, right, counts.total)
+    found = {"count": both, "confidence": known["confidence"], "lift": known["lift"]}
     if exact:
-        for figure in ("confidence", "lift"):
-            values = [getattr(rule, figure) for *_, rule in rows]
-            found[f"exact_{figure}"] = pd.Series(values, dtype=object)
+        wide = both.astype(object) * counts.total, left.astype(object) * right
+        found["exact_confidence"] = fractions_of((both, left))
+        found["exact_lift"] = fractions_of(wide)
     return found
 
 
-def _best_first(rules: pd.DataFrame, by: str) -> list[_Rule]:
-    counts = counts_of(rules)
-    sides = (itemsets_of(rules, name) for name in ("antecedents", "consequents"))
-    found = [
-        _Rule(label, left, right, *figures)
-        for label, left, right, figures in zip(rules.index, *sides, _figures(counts))
-    ]
-    names = [*dict.fromkeys((by, *_FIGURES))]
+class _Index:
+    """Rules by what a basket must have. A rule's rank is its number from the best on."""
 
-    def strength(rule: _Rule) -> list[Any]:
-        values = [getattr(rule, name) for name in names]
-        # Fractions are compared only where their floats are equal, since that takes long.
-        return [part for value in values for part in (float(value), value)]
+    def __init__(self, rules: pd.DataFrame, order: list[int]) -> None:
+        left, right = (
+            itemsets_of(rules, name) for name in ("antecedents", "consequents")
+        )
+        self._consequents = [right[place] for place in order]
+        ranks: dict[frozenset[Any], list[int]] = defaultdict(list)
+        for rank, place in enumerate(order):
+            ranks[left[place]].append(rank)
+        # Antecedents stand at the one of their items that the fewest of them have.
+        frequencies = Counter(itertools.chain.from_iterable(ranks))
+        self._by_item: dict[Any, list[tuple[frozenset[Any], list[int]]]]
+        self._by_item = defaultdict(list)
+        for items, found in ranks.items():
+            if items:
+                rarest = min(items, key=frequencies.__getitem__)
+                self._by_item[rarest].append((items, found))
 
-    return sorted(found, key=strength, reverse=True)
-
-
-def _figures(counts: RuleCounts) -> Iterator[tuple[int, Fraction, Fraction]]:
-    columns = (counts.both.tolist(), counts.left.tolist(), counts.right.tolist())
-    for both, left, right in zip(*columns):
-        yield both, Fraction(both, left), Fraction(both * counts.total, left * right)
-
-
-def _by_item(rules: list[_Rule]) -> dict[Any, list[tuple[int, _Rule]]]:
-    """The rules with their places, each at the one of its antecedents that the fewest rules have."""
-    frequencies: dict[Any, int] = defaultdict(int)
-    for rule in rules:
-        for label in rule.antecedents:
-            frequencies[label] += 1
-    found: dict[Any, list[tuple[int, _Rule]]] = defaultdict(list)
-    for place, rule in enumerate(rules):
-        if rule.antecedents:
-            rarest = min(rule.antecedents, key=frequencies.__getitem__)
-            found[rarest].append((place, rule))
-    return found
-
-
-def _offers(
-    by_item: dict[Any, list[tuple[int, _Rule]]], items: frozenset[Any], top: int
-) -> list[tuple[Any, _Rule]]:
-    """The first items to offer to a basket, each with its rule."""
-    speaking = sorted(
-        (place, rule)
-        for label in items
-        for place, rule in by_item.get(label, ())
-        if rule.antecedents <= items and rule.consequents.isdisjoint(items)
-    )
-    offers: dict[Any, _Rule] = {}
-    for _, rule in speaking:
-        for label in sorted(rule.consequents, key=str):
-            offers.setdefault(label, rule)
-        if len(offers) >= top:
-            break
-    return [*offers.items()][:top]
+    def offers(self, items: frozenset[Any], top: int) -> list[tuple[Any, int]]:
+        """The first items to offer to a basket, each with the rank of its rule."""
+        speaking = [
+            ranks
+            for label in items
+            for antecedents, ranks in self._by_item.get(label, ())
+            if antecedents <= items
+        ]
+        offers: dict[Any, int] = {}
+        for rank in sorted(itertools.chain.from_iterable(speaking)):
+            consequents = self._consequents[rank]
+            if consequents.isdisjoint(items):
+                for label in sorted(consequents, key=str):
+                    offers.setdefault(label, rank)
+                if len(offers) >= top:
+                    break
+        return [*offers.items()][:top]
 
 
 def _baskets(

@@ -4,10 +4,8 @@ import contextlib
 import csv
 import gc
 import io
-import itertools
-from collections.abc import Iterable, Iterator
+from collections.abc import Callable, Iterable, Iterator
 from dataclasses import dataclass
-from typing import Any
 
 import numpy as np
 import pandas as pd
@@ -22,21 +20,54 @@ from ._columns import (
     supports_of,
 )
 from ._errors import DataError
+from ._numbers import Itemset, numbers_of, places_of, shared, split
 
-Itemset = frozenset[Any]
-
-_BLANKS = bytes.maketrans(b"()/=>", b"     ")
 # Below it, products of two weights are whole numbers that a float holds.
 _MOST_WEIGHT_OF_FLOATS = 2**26
+
+
+# For each rule whether it is wanted, by the weights of the baskets that have both sides, the antecedents, the consequents.
+Holds = Callable[[Array, Array, Array], Array]
+
+
+@dataclass(frozen=True)
+class _Figures:
+    """Those of rules."""
+
+    counts: Array
+    confidences: Fractions
+    lifts: Fractions
+
+    def at(self, kept: Array) -> "_Figures":
+        """Those of some of the rules."""
+        (sure, of_sure), (lift, of_lift) = self.confidences, self.lifts
+        return _Figures(
+            self.counts[kept],
+            (sure[kept], of_sure[kept]),
+            (lift[kept], of_lift[kept]),
+        )
+
+    def of_sides(self, weight: int) -> tuple[Array, Array]:
+        """What the baskets weigh that have the antecedents of each rule, and those with its consequents.
+
+        The confidence and the lift are quotients of these weights and the count, which give them back.
+        """
+        (sure, of_sure), (lift, of_lift) = self.confidences, self.lifts
+        both = self.counts.astype(sure.dtype)
+        left = both * of_sure // sure
+        if both.dtype == object:
+            right = both * weight * of_lift // (left * lift)
+        else:
+            # Floats, since the product above may have more than 64 bits; the weights are small here.
+            right = np.rint(both / left * weight / (lift / of_lift))
+        return left.astype(np.int64), right.astype(np.int64)
 
 
 @dataclass(frozen=True)
 class _Rules:
     antecedents: list[Itemset]
     consequents: list[Itemset]
-    counts: Array
-    confidences: Fractions
-    lifts: Fractions
+    figures: _Figures
 
 
 @contextlib.contextmanager
@@ -82,9 +113,14 @@ def sets_frame(
 
 @_without_collections()
 def rules_frame(
-    report: bytes, baskets: Baskets, weight: int, *, exact: bool = False
+    report: bytes,
+    baskets: Baskets,
+    weight: int,
+    *,
+    exact: bool = False,
+    holds: Holds | None = None,
 ) -> pd.DataFrame:
-    """The frame of a report of `rules`.
+    """The frame of a report of `rules`, of a report by numbers only those rules that hold.
 
     The columns are `antecedents` and `consequents` (`frozenset`), `count` (`int64`) and
     `support`, `confidence` and `lift` (`float64`, the floats nearest to the exact values); with
@@ -92,24 +128,25 @@ def rules_frame(
     are `antecedent support` and `consequent support`, and with `exact` the same as `Fraction`.
     """
     if baskets.separator is None:
-        found = _numbered_rules(report, baskets.labels, weight)
+        found = _numbered_rules(report, baskets.labels, weight, holds)
     else:
         found = _named_rules(report, baskets.separator)
-    whole, lifts = baskets.whole(weight), found.lifts
+    figures = found.figures
+    whole, lifts = baskets.whole(weight), figures.lifts
     if whole != weight:
         lifts = lifts[0].astype(object) * whole, lifts[1].astype(object) * weight
     columns = {
         "antecedents": objects_of(found.antecedents),
         "consequents": objects_of(found.consequents),
-        **supports_of(found.counts, whole),
-        "confidence": quotients_of(found.confidences),
+        **supports_of(figures.counts, whole),
+        "confidence": quotients_of(figures.confidences),
         "lift": quotients_of(lifts),
     }
     if exact:
-        columns["exact_support"] = shares_of(found.counts, whole)
-        columns["exact_confidence"] = fractions_of(found.confidences)
+        columns["exact_support"] = shares_of(figures.counts, whole)
+        columns["exact_confidence"] = fractions_of(figures.confidences)
         columns["exact_lift"] = fractions_of(lifts)
-    sides = dict(zip(("antecedent", "consequent"), _side_counts(found, weight)))
+    sides = dict(zip(("antecedent", "consequent"), figures.of_sides(weight)))
     columns |= {f"{side} support": counts / whole for side, counts in sides.items()}
     if exact:
         for side, counts in sides.items():
@@ -117,91 +154,41 @@ def rules_frame(
     return pd.DataFrame(columns)
 
 
-def _side_counts(found: _Rules, weight: int) -> tuple[Array, Array]:
-    """What the baskets weigh that have the antecedents of each rule, and those with its consequents.
-
-    The confidence and the lift are quotients of these weights and the count, which give them back.
-    """
-    (sure, of_sure), (lift, of_lift) = found.confidences, found.lifts
-    both = found.counts.astype(sure.dtype)
-    left = both * of_sure // sure
-    if both.dtype == object:
-        right = both * weight * of_lift // (left * lift)
-    else:
-        # Floats, since the product above may have more than 64 bits; the weights are small here.
-        right = np.rint(both / left * weight / (lift / of_lift))
-    return left.astype(np.int64), right.astype(np.int64)
-
-
 def _numbered_sets(report: bytes, labels: Labels | None) -> tuple[list[Itemset], Array]:
     """Sets and counts of lines as `1 2 (7)`."""
-    blanks, ends = _places(report, b" "), _places(report, b"\n")
+    blanks, ends = places_of(report, b" "), places_of(report, b"\n")
     sizes = np.diff(np.searchsorted(blanks, ends), prepend=0)
-    numbers = _numbers(report)
+    numbers = numbers_of(report)
     counts_at = np.cumsum(sizes + 1) - 1
     items = np.delete(numbers, counts_at)
-    return _split(items, sizes, labels), numbers[counts_at]
+    return split(items, sizes, labels), numbers[counts_at]
 
 
-def _numbered_rules(report: bytes, labels: Labels | None, weight: int) -> _Rules:
+def _numbered_rules(
+    report: bytes, labels: Labels | None, weight: int, holds: Holds | None
+) -> _Rules:
     """Rules of lines as `1 2 => 3 (7) 7/10 7/8`."""
-    blanks, ends = _places(report, b" "), _places(report, b"\n")
+    blanks, ends = places_of(report, b" "), places_of(report, b"\n")
     until_end = np.searchsorted(blanks, ends)
-    until_arrow = np.searchsorted(blanks, _places(report, b"="))
+    until_arrow = np.searchsorted(blanks, places_of(report, b"="))
     in_line = np.diff(until_end, prepend=0)
     left = until_arrow - (until_end - in_line)
     right = in_line - left - 3
-    numbers = _numbers(report, is_large=weight >= _MOST_WEIGHT_OF_FLOATS)
+    numbers = numbers_of(report, is_large=weight >= _MOST_WEIGHT_OF_FLOATS)
     stops = np.cumsum(left + right + 5)
-    figures = [numbers[stops - back] for back in (5, 4, 3, 2, 1)]
-    figures_at = (stops[:, None] - np.arange(5, 0, -1)).ravel()
-    items = np.delete(numbers, figures_at)
-    sides = _sides(items, np.column_stack((left, right)).ravel(), labels)
-    return _Rules(
-        sides[0::2],
-        sides[1::2],
-        figures[0].astype(np.int64),
-        (figures[1], figures[2]),
-        (figures[3], figures[4]),
+    parts = [numbers[stops - back] for back in (5, 4, 3, 2, 1)]
+    figures = _Figures(
+        parts[0].astype(np.int64), (parts[1], parts[2]), (parts[3], parts[4])
     )
-
-
-def _places(report: bytes, byte: bytes) -> Array:
-    return np.flatnonzero(np.frombuffer(report, dtype=np.uint8) == byte[0])
-
-
-def _numbers(report: bytes, is_large: bool = False) -> Array:
-    """All numbers of a report of numbers, of 64 bits or as large as they come."""
-    if not report:
-        return np.empty(0, dtype=np.int64)
-    text = report.translate(_BLANKS)
-    if is_large:
-        return np.array([int(word) for word in text.split()], dtype=object)
-    return np.fromstring(text, dtype=np.int64, sep=" ")
-
-
-def _split(items: Array, sizes: Array, labels: Labels | None) -> list[Itemset]:
-    """The labels of items, cut into sets of these sizes."""
-    values = iter(items.tolist())
-    if labels is not None:
-        values = map(labels.__getitem__, values)
-    parts = map(itertools.islice, itertools.repeat(values), sizes.tolist())
-    return [frozenset(part) for part in parts]
-
-
-def _sides(items: Array, sizes: Array, labels: Labels | None) -> list[Itemset]:
-    """As `_split`, but each different set is made once: rules have few beside their number."""
-    whole = items.astype(np.int64)
-    content, width = whole.tobytes(), whole.itemsize
-    stops = (width * np.cumsum(sizes)).tolist()
-    keys = [content[start:stop] for start, stop in zip([0, *stops], stops)]
-    made: dict[bytes, Itemset] = {}
-    for key in {*keys}:
-        numbers = np.frombuffer(key, dtype=np.int64).tolist()
-        made[key] = frozenset(
-            numbers if labels is None else map(labels.__getitem__, numbers)
-        )
-    return [*map(made.__getitem__, keys)]
+    parts_at = (stops[:, None] - np.arange(5, 0, -1)).ravel()
+    items, sizes = np.delete(numbers, parts_at), np.column_stack((left, right))
+    if holds is not None:
+        # Before the sides are made, which takes most of the time.
+        kept = holds(figures.counts, *figures.of_sides(weight))
+        items = items[np.repeat(kept, left + right)]
+        figures, sizes = figures.at(kept), sizes[kept]
+    sides = shared(items, sizes.ravel(), labels)
+    return _Rules(sides[0::2], sides[1::2], figures)
 
 
 def _named_sets(report: bytes, separator: str) -> tuple[list[Itemset], Array]:
@@ -218,9 +205,11 @@ def _named_rules(report: bytes, separator: str) -> _Rules:
     return _Rules(
         [frozenset(row[4 : 4 + left]) for row, left in zip(rows, lefts)],
         [frozenset(row[4 + left :]) for row, left in zip(rows, lefts)],
-        np.array([int(row[0]) for row in rows], dtype=np.int64),
-        _parts(row[1] for row in rows),
-        _parts(row[2] for row in rows),
+        _Figures(
+            np.array([int(row[0]) for row in rows], dtype=np.int64),
+            _parts(row[1] for row in rows),
+            _parts(row[2] for row in rows),
+        ),
     )
 
 

@@ -15,7 +15,6 @@ Raschka, MLxtend: providing machine learning and data science utilities and exte
 Python's scientific computing stack, Journal of Open Source Software 3 (24), 2018.
 """
 
-import math
 from collections.abc import Sequence
 
 import numpy as np
@@ -32,12 +31,9 @@ from ._mlxtend import (
     refuse_metrics,
     refuse_nulls,
     refuse_thresholds,
-    rules_report,
+    rules_that_hold,
     transactions_of,
 )
-from ._report import rules_frame
-
-_PARTS = 10**9
 
 
 def apriori(
@@ -143,21 +139,15 @@ def association_rules(
         return by_support(df, min_threshold, figures)
     transactions = transactions_of(df, num_itemsets)
     baskets, counts = counted(df, transactions)
-    # A little less than the threshold, since it is compared as a float below.
-    share = min(max(min_threshold, 0), 1)
-    confidence = math.floor(share * _PARTS) - 1 if metric == "confidence" else 0
-    least = min(counts.values(), default=1)
-    if metric == "support":
-        least = max(least, math.floor(share * transactions) - 1)
-    words = [f"--min={least}", f"--conf={max(confidence, 0)}/{_PARTS}"]
-    found = rules_frame(rules_report(words, baskets), baskets, transactions)
+    found = rules_that_hold(
+        baskets, min(counts.values(), default=1), metric, min_threshold
+    )
     left, right = (
         np.array([*map(counts.__getitem__, found[side])], dtype=np.int64)
         for side in ("antecedents", "consequents")
     )
     known = measures(found["count"].to_numpy(), left, right, transactions)
     rules = found[["antecedents", "consequents"]].assign(**known)
-    kept = rules[rules[metric] >= min_threshold].reset_index(drop=True)
-    answer = kept[["antecedents", "consequents", *figures]]
+    answer = rules[["antecedents", "consequents", *figures]]
     answer.attrs[TRANSACTIONS] = transactions
     return answer

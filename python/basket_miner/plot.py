@@ -158,7 +158,7 @@ def minimums(
 
 
 def strongest(frame: pd.DataFrame, axes: Axes | None = None, most: int = 15) -> Axes:
-    """The rules of highest lift as a matrix, a row an antecedent and a column a consequent.
+    """The rules of highest lift as a matrix, with a row for each antecedent and a column for each consequent.
 
     A cell has its rule's lift, which is its colour too, below it the confidence, and where the frame
     has them the number of baskets with both sides. Of equal lifts the rule of higher confidence comes

@@ -95,6 +95,11 @@ def test_parts_that_do_not_go_together_are_refused(
         (client.scatter(ROWS), COLUMNS | {"item": "good"}, "no column 'good'"),
         (client.scatter([[["tea", None]]]), {}, "missing item"),
         (
+            client.scatter([ROWS[0], ROWS[2].replace("milk", None)]),
+            COLUMNS,
+            "'product' has missing values, .*part 2 of 2",
+        ),
+        (
             client.scatter([ROWS[0], ROWS[2].set_axis(["r", "p"], axis=1)]),
             COLUMNS,
             "no column 'receipt' .part 2 of 2.",

@@ -2,6 +2,9 @@
 """Baskets of Dask frames whose ids are equal and look different, beside one run over the rows."""
 
 import datetime
+import math
+import random
+import warnings
 from collections.abc import Sequence
 from decimal import Decimal
 from fractions import Fraction
@@ -14,11 +17,13 @@ import pytest
 from dask.bag.core import from_sequence
 from dask.dataframe.multi import concat
 from dask.dataframe.io.io import from_pandas
-from distributed import Client
+from distributed import Client, worker
 
 import basket_miner
 from basket_miner import cluster
+from basket_miner._program import run
 from basket_miner.cluster._keys import keys_of
+from basket_miner.cluster._labels import Numbering, joined, packed, unpacked
 
 COLUMNS: dict[str, Any] = {"basket": "receipt", "item": "product"}
 PAIR = [[{"tea"}, 40, 1.0], [{"jam"}, 40, 1.0], [{"tea", "jam"}, 40, 1.0]]
@@ -79,6 +84,47 @@ def test_labels_that_are_not_equal_to_their_copies_come_back(client: Client) -> 
         assert found["count"].tolist() == [2, 2, 1]
         sizes = [sorted(map(str, itemset)) for itemset in found["itemsets"]]
         assert sizes == [[str(gap)], ["tea"], [str(gap), "tea"]]
+
+
+@pytest.mark.parametrize(
+    "labels",
+    [
+        *([], [""], ["tea", ""], ["tea", "a\0b"], ["\0"], ["\ud800", "tä"]),
+        *([1, "tea"], [True, 2.5], [np.str_("tea")], [("a", math.nan), "tea"]),
+    ],
+    ids=ascii,
+)
+def test_labels_of_any_type_come_back_from_their_bytes(labels: list[Any]) -> None:
+    content = packed(labels)
+    assert str(unpacked(content)) == str(labels)
+    numbering = Numbering(joined(packed(["first"]), content, content))
+    numbers = numbering.of(packed(["first", *labels])).tolist()
+    assert numbers == [*range(len(labels) + 1)]
+
+
+def test_many_labels_keep_their_numbers_and_bring_no_warning_of_the_engine(
+    client: Client, monkeypatch: pytest.MonkeyPatch
+) -> None:
+    # The engine warns of a megabyte in its graph, once in a process.
+    monkeypatch.setattr(worker, "_warn_dumps_warned", [False], raising=False)
+    chance = random.Random(1)
+    names = [f"product {number}" for number in range(100_000)]
+    lists = [chance.sample(names, 8) for _ in range(20_000)]
+    rows = pd.DataFrame({"receipt": range(20_000), "product": lists}).explode("product")
+    # Cut in the midst of baskets.
+    cuts = [rows[start::3] for start in range(3)]
+    given: list[tuple[list[Any], Any, Any]] = [
+        ([lists[:9_000], lists[9_000:]], {}, lists),
+        (cuts, COLUMNS, pd.concat(cuts)),
+    ]
+    for parts, columns, everything in given:
+        whole = basket_miner.baskets(everything, **columns)
+        with warnings.catch_warnings():
+            warnings.filterwarnings("error", message="(Large object|Sending large)")
+            found = cluster.prepare(client.scatter(parts), client=client, **columns)
+        assert found.labels == whole.labels and len(found.labels or ()) > 70_000
+        report = cluster.report(found, "items", "--min=1", client=client)
+        assert report == run(["items", "--min=1"], whole.source)
 
 
 @pytest.mark.parametrize("kind", ["int8", "uint64", "Int64", "object", "float64"])

@@ -137,6 +137,47 @@ def test_each_measure_can_be_the_metric(metric: str) -> None:
         pd.testing.assert_frame_equal(least, wanted)
 
 
+def shop(seed: int, most: int) -> pd.DataFrame:
+    """Rows of true and false of some items, of which some are rare."""
+    chance = random.Random(seed)
+    rows = [
+        [chance.random() < 0.9 / (item + 1) for item in range(7)] for _ in range(most)
+    ]
+    return pd.DataFrame(rows, columns=[*"abcdefg"])
+
+
+@pytest.mark.parametrize("metric", [*NAMES, *MORE])
+@pytest.mark.parametrize("seed", [1, 2])
+def test_the_rules_at_a_threshold_are_those_of_all_that_meet_it(
+    metric: str, seed: int
+) -> None:
+    itemsets = apriori(shop(seed, 40), min_support=0.05, use_colnames=True)
+    found = association_rules(itemsets, metric=metric, min_threshold=-math.inf)
+    assert len(found) > 50
+    values = sorted({*found[metric]})
+    for value in [*values[:: max(len(values) // 4, 1)], values[-1]]:
+        for threshold in (value, math.nextafter(value, math.inf)):
+            least = association_rules(itemsets, metric=metric, min_threshold=threshold)
+            wanted = found[found[metric] >= threshold].reset_index(drop=True)
+            pd.testing.assert_frame_equal(least, wanted, check_exact=True)
+    assert len(association_rules(itemsets, metric=metric, min_threshold=1e300)) == (
+        sum(found[metric] == math.inf)
+    )
+
+
+@pytest.mark.parametrize("metric", [*NAMES, *MORE])
+def test_very_many_baskets_have_the_rules_of_few_with_the_same_supports(
+    metric: str,
+) -> None:
+    itemsets = apriori(shop(3, 32), min_support=0.1, use_colnames=True)
+    itemsets.attrs.clear()
+    few, many = (
+        association_rules(itemsets, number, metric=metric, min_threshold=0.25)
+        for number in (32, 2**40 - 32)
+    )
+    pd.testing.assert_frame_equal(few, many, check_exact=True)
+
+
 @pytest.mark.parametrize("metric", ["confidence", "support", "lift"])
 def test_no_figure_lies_above_an_infinite_threshold(metric: str) -> None:
     itemsets = apriori(FRAME, min_support=0.6)
@@ -269,7 +310,7 @@ def test_rules_at_a_threshold_are_those_of_brute_force(metric: str) -> None:
     [
         ("from 1 on, not 0", lambda: apriori(FRAME, max_len=0)),
         ("from 1 on, not '2'", lambda: hmine(FRAME, max_len="2")),  # type: ignore[arg-type]
-        ("without missing values", lambda: fpgrowth(GAPS, null_values=True)),
+        ("give df.fillna.False. instead", lambda: fpgrowth(GAPS, null_values=True)),
         ("without missing values", lambda: fpmax(GAPS, null_values=True)),
         (
             "without missing values",

@@ -1,5 +1,6 @@
 """The measures of rules are those of their definitions, to the last digit."""
 
+import itertools
 import math
 import random
 from fractions import Fraction
@@ -7,7 +8,7 @@ from fractions import Fraction
 import numpy as np
 import pytest
 
-from basket_miner._measures import measures
+from basket_miner._measures import least_confidence, measures
 
 
 def by_definition(
@@ -44,3 +45,19 @@ def test_a_measure_is_the_float_nearest_to_its_exact_value(most: int) -> None:
         assert {name: values[0] for name, values in found.items()} == {
             name: float(value) for name, value in exact.items()
         }
+
+
+def test_no_rule_that_meets_a_threshold_has_less_than_the_least_confidence() -> None:
+    for total in range(1, 8):
+        for left, right, both in itertools.product(range(1, total + 1), repeat=3):
+            if not left + right - total <= both <= min(left, right):
+                continue
+            supports = [Fraction(count, total) for count in (left, right, both)]
+            shares = [min(supports), min(supports) / 9]
+            for metric, value in by_definition(*supports).items():
+                threshold = Fraction(min(float(10**9), value))
+                for share in shares:
+                    least = least_confidence(metric, threshold, share)
+                    assert 0 <= least <= Fraction(both, left), (metric, supports)
+    assert least_confidence("jaccard", Fraction(3, 4), Fraction(1, 9)) == 0.75
+    assert least_confidence("conviction", Fraction(3), Fraction(1, 4)) == 0.75

@@ -28,7 +28,7 @@ def by_first_appearance(values: list[Any]) -> tuple[list[int], list[Any]]:
 
 KINDS: dict[str, Callable[[], Any]] = {
     "few objects": lambda: CHANCE.choices(TEXTS, k=ROWS),
-    "an object a row": lambda: [f"{CHANCE.choice(TEXTS)}!" for _ in range(ROWS)],
+    "an object for each row": lambda: [f"{CHANCE.choice(TEXTS)}!" for _ in range(ROWS)],
     "equal objects": lambda: CHANCE.choices([*TEXTS, *map("".join, TEXTS)], k=ROWS),
     "few at first": lambda: [TEXTS[0]] * ROWS + [f"{number}" for number in range(99)],
     "numbers and texts": lambda: CHANCE.choices([1, True, 1.0, "1", (1, 2)], k=ROWS),

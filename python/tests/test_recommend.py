@@ -12,6 +12,8 @@ import pytest
 
 import brute
 from basket_miner import DataError, baskets, recommend, rules
+from basket_miner._ranks import FIGURES, best_first
+from basket_miner._rule_counts import RuleCounts
 from basket_miner.frequent_patterns import apriori, association_rules
 
 RECEIPTS = Path(__file__).parents[2] / "examples/receipts.csv"
@@ -69,6 +71,33 @@ def test_offers_are_those_of_brute_force(by: Any, top: int) -> None:
     assert [*offers[exact].itertuples(index=False, name=None)] == wanted
     for name in ("confidence", "lift"):
         assert offers[name].tolist() == [*map(float, offers[f"exact_{name}"])]
+
+
+@pytest.mark.parametrize("by", FIGURES)
+@pytest.mark.parametrize("total", [60, 2**26 - 1, 2**26, 2**40])
+def test_rules_are_ranked_by_exact_figures_where_floats_are_equal(
+    by: str, total: int
+) -> None:
+    chance = random.Random(total)
+    near = range(total - 9, total)
+    sides = [(chance.choice(near), chance.choice(near)) for _ in range(300)]
+    table = np.array([(min(side) - chance.randint(0, 2), *side) for side in sides])
+    counts = RuleCounts(table[:, 0], table[:, 1], table[:, 2], total)
+
+    def figures(place: int) -> list[Any]:
+        both, left, right = table[place].tolist()
+        known = {
+            "lift": Fraction(both * total, left * right),
+            "confidence": Fraction(both, left),
+            "count": both,
+        }
+        return [known[by], *known.values()]
+
+    # Equal ones keep their order.
+    wanted = sorted(range(len(table)), key=figures, reverse=True)
+    assert best_first(counts, by).tolist() == wanted
+    lifts = {figures(place)[1] for place in wanted}
+    assert (len({*map(float, lifts)}) < len(lifts)) == (total > 60)
 
 
 def test_all_forms_of_baskets_get_the_same_offers() -> None:

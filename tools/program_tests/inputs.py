@@ -55,7 +55,7 @@ def repeated() -> Baskets:
 
 
 def fimi(baskets: Baskets) -> bytes:
-    """A basket a line."""
+    """A basket on each line."""
     return "".join(f"{' '.join(map(str, basket))}\n" for basket in baskets).encode()
 
 

@@ -42,6 +42,14 @@ class Advice(unittest.TestCase):
             ),
             (["sets", "--min", "120%"], f"{least}; a share is at most 100%"),
             (["sets", "--min", "3/2"], f"{least}; a share is at most 100%"),
+            *(
+                (
+                    ["sets", "--min", share],
+                    f"{least}; both numbers of a share are at most 4294967295, "
+                    "and the second at least 1",
+                )
+                for share in ("1/0", "1/4294967296")
+            ),
             (["sets", "--min", "20 %"], least),
             (["sets", "--min", "-5"], least),
             ([*SETS, "--conf", "1/2"], "only `rules` takes --conf"),
@@ -161,7 +169,7 @@ class Advice(unittest.TestCase):
     def test_a_run_over_a_named_pipe_ends(self) -> None:
         rows: tuple[tuple[list[str], bytes, str], ...] = (
             (["sets", "--min", "5"], b"1 2\n", "hint: no set meets --min in "),
-            (["sets", "--min", "1", "--form", "baskets"], b"milk\n", ""),
+            (["sets", "--min", "1", "--form", "baskets"], b"milk\n", "$"),
             (["sets", "--min", "1"], b"milk\n", "basket: line 1: byte 0x6D"),
         )
         for words, given, text in rows:
@@ -174,8 +182,8 @@ class Advice(unittest.TestCase):
                     assert writer.stdin
                     writer.stdin.write(given)
                     writer.stdin.close()
-                    said = said_at_terminal([*words, str(pipe)])
-                self.assertTrue("".join(said).startswith(text), said)
+                    said = "".join(said_at_terminal([*words, str(pipe)]))
+                self.assertRegex(said, f"^{text}")
 
     def test_who_sits_before_standard_input_is_told_that_it_is_read(self) -> None:
         above, below = pty.openpty()

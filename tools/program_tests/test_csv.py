@@ -113,10 +113,32 @@ def long_text(line_end: str, header: bool) -> tuple[str, Counter[str]]:
     return text.getvalue(), counts
 
 
+def long_pairs(line_end: str, header: bool) -> tuple[str, Counter[str]]:
+    """Such a text of pairs, and how many baskets have each name. Most ids come in several parts."""
+    source = random.Random(line_end)
+    text = io.StringIO()
+    writer = csv.writer(text, lineterminator=line_end)
+    if header:
+        writer.writerow(["two\nlines", "header"])
+    found: dict[str, set[int]] = {}
+    for number in range(60_000):
+        basket = source.randrange(9_000)
+        space = " " if basket % 50 else "\n"
+        name = source.choice((*NAMES, f"week {number // 3_000}", f"new {number}", " "))
+        row = [f" receipt{space}{basket}", name, "more"]
+        writer.writerow(row[: source.randint(2, 3)])
+        if name != " ":
+            found.setdefault(name, set()).add(basket)
+    return text.getvalue(), Counter({name: len(ids) for name, ids in found.items()})
+
+
+LONG_TEXTS = {"baskets": long_text, "single": long_pairs}
+
+
 class Workers(unittest.TestCase):
     """Reports over texts of which workers read parts."""
 
-    words = ["items", "--form", "baskets", "--min", "2"]
+    words = ["items", "--min", "2", "--form"]
 
     def counted(self, given: bytes, words: list[str], workers: int) -> list[list[str]]:
         ended = run([*self.words, *words, "--workers", str(workers)], given)
@@ -124,13 +146,15 @@ class Workers(unittest.TestCase):
         return records(ended.out, ",")
 
     def test_workers_count_what_another_reader_counts(self) -> None:
-        for line_end, header in itertools.product(("\n", "\r\n"), (False, True)):
-            text, counts = long_text(line_end, header)
+        for form, line_end, header in itertools.product(
+            LONG_TEXTS, ("\n", "\r\n"), (False, True)
+        ):
+            text, counts = LONG_TEXTS[form](line_end, header)
             # In the order of their first appearance.
             wanted = [[str(n), name] for name, n in counts.items() if n > 1]
-            words = ["--header"] if header else []
+            words = [form, "--header"] if header else [form]
             for workers in (1, 2, 3, 4, 7):
-                with self.subTest(line_end=line_end, header=header, workers=workers):
+                with self.subTest(words=words, line_end=line_end, workers=workers):
                     self.assertEqual(
                         self.counted(text.encode(), words, workers), wanted
                     )
@@ -138,34 +162,56 @@ class Workers(unittest.TestCase):
     def test_a_record_may_go_on_over_many_parts(self) -> None:
         lines = "bread\n" * 100_000
         given = f'tea\ntea\n"{lines}",tea\ntea\n'.encode()
-        blank = b"\n" * 200_000 + b"header\ntea\ntea\n"
+        pairs = f'1,tea\n2,tea\n"{lines}",tea\n2,tea\n'.encode()
+        blank = b"\n" * 200_000 + b"id,name\n1,tea\n2,tea\n"
         for workers in (1, 2, 4, 7):
             with self.subTest(workers=workers):
-                self.assertEqual(self.counted(given, [], workers), [["4", "tea"]])
-                found = self.counted(blank, ["--header"], workers)
-                self.assertEqual(found, [["2", "tea"]])
+                for words, text, found in (
+                    (["baskets"], given, [["4", "tea"]]),
+                    (["single"], pairs, [["3", "tea"]]),
+                    (["baskets", "--header"], blank, [["2", "tea"]]),
+                    (["single", "--header"], blank, [["2", "tea"]]),
+                ):
+                    self.assertEqual(self.counted(text, words, workers), found)
 
     def test_a_fault_in_any_part_is_that_of_its_record(self) -> None:
         lines = [f"1,name {number % 50}".encode() for number in range(40_000)]
-        for place, (bad, told) in itertools.product(
+        for place, (words, bad, told) in itertools.product(
             (0, 1, 13_333, 20_000, 39_999),
-            ((b"1,\xff", "field is not UTF-8"), (b"0,tea", "bad weight")),
+            (
+                (["baskets", "--weight"], b"1,\xff", "field is not UTF-8"),
+                (["baskets", "--weight"], b"0,tea", "bad weight"),
+                (["single"], b"1,tea,\xff", "field is not UTF-8"),
+                (["single"], b"1", "fewer than two fields"),
+            ),
         ):
-            given = b"\n".join([*lines[:place], bad, *lines[place + 1 :], b"0,last"])
+            given = b"\n".join([*lines[:place], bad, *lines[place + 1 :], b"0"])
             for workers in (1, 2, 4, 7):
                 with self.subTest(place=place, told=told, workers=workers):
-                    words = [*self.words, "--weight", "--workers", str(workers)]
-                    ended = run(words, given)
+                    ended = run([*self.words, *words, "--workers", str(workers)], given)
                     said = f"basket: record {place + 1}: {told}\n"
                     self.assertEqual((ended.out, ended.said), (b"", said))
+
+    def test_sets_of_pairs_are_the_same_for_every_number_of_workers(self) -> None:
+        given = long_pairs("\n", False)[0].encode()
+        words = ["sets", "--min", "40", "--form", "single"]
+        one, *others = (
+            run([*words, "--workers", workers], given)
+            for workers in ("1", "2", "5", "7")
+        )
+        self.assertEqual((one.said, one.status), ("", 0))
+        for other in others:
+            self.assertEqual((other.out, other.said), (one.out, one.said))
 
     def test_weights_of_all_parts_are_added(self) -> None:
         # The greatest weight of all baskets is 256 times that of one, and 255.
         half = b"4294967295,tea\n" * 128
-        for more, said in ((255, ""), (256, "total weight above 1099511627775")):
+        light = (b"1099511627520,tea\n255,bread\n254,milk\n", "", 0)
+        heavy = (b"", "basket: total weight above 1099511627775\n", 3)
+        for more, wanted in ((255, light), (256, heavy)):
             given = half + b"1,bread,milk\n" * (more - 1) + b"\n" * 200_000 + half
             for workers in (1, 2, 4):
                 with self.subTest(more=more, workers=workers):
-                    words = [*self.words, "--weight", "--workers", str(workers)]
-                    ended = run(words, given + b"1,bread\n")
-                    self.assertEqual(ended.said, said and f"basket: {said}\n")
+                    words = [*self.words, "baskets", "--weight", "--workers"]
+                    ended = run([*words, str(workers)], given + b"1,bread\n")
+                    self.assertEqual((ended.out, ended.said, ended.status), wanted)

@@ -168,8 +168,12 @@ class Others(unittest.TestCase):
                 self.assertIn(text, said_of(content))
 
     def test_names_can_not_change_a_terminal(self) -> None:
-        self.assertNotIn("\x1b", said_of(b"a,\x1b[31mb\nc,d\n" * 5))
-        self.assertNotIn("\x9b", said_of("a,\x9b31mb\nc,d\n".encode() * 5))
+        self.assertIn("is no text", said_of(b"a,\x1b[31mb\nc,d\n" * 5))
+        for letter in ("\x7f", "\x9b"):
+            with self.subTest(letter=letter):
+                said = said_of(f"a,{letter}31mb\nc,d\n".encode() * 5)
+                self.assertNotIn(letter, said)
+                self.assertIn("?31mb", said)
 
     def test_only_the_beginning_is_read_and_that_is_said(self) -> None:
         endless = ["sh", "-c", f"yes 1 2 3 | '{PROGRAM}' look"]

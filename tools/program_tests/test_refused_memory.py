@@ -12,6 +12,7 @@ from typing import ClassVar
 
 from . import inputs
 from .program import MINERS, PROGRAM, ROOT, SECONDS, Run
+from .test_csv import long_text, records
 from .test_miners import ANSWERS, summed
 from .test_reports import NINE_BASKETS, SETS
 
@@ -153,6 +154,22 @@ class Refused(unittest.TestCase):
             wanted, asked = self.refused(words, 0)
             self.assertEqual(summed(wanted), (lines, digest, "", 0))
             for _ in range(10):
+                number = source.randint(1, asked)
+                with self.subTest(words=words, number=number):
+                    ended, _ = self.refused(words, number)
+                    self.assertIn(ended, (wanted, OUT_OF_MEMORY))
+
+    def test_allocations_of_workers_that_read_csv_in_parts(self) -> None:
+        source = random.Random(6)
+        text, counts = long_text("\n", header=False)
+        (self.folder / "given").write_bytes(text.encode())
+        for ask, least in (("items", 2), ("sets", 5_000)):
+            words = f"{ask} --min {least} --form baskets --workers 3"
+            # No pair of names is in so many baskets.
+            rows = [[str(n), name] for name, n in counts.items() if n >= least]
+            wanted, asked = self.refused(words, 0)
+            self.assertEqual(records(wanted.out, ","), rows)
+            for _ in range(20):
                 number = source.randint(1, asked)
                 with self.subTest(words=words, number=number):
                     ended, _ = self.refused(words, number)

@@ -5,7 +5,7 @@ import tempfile
 import unittest
 from pathlib import Path
 
-from edits import Edit
+from edits import TRIED, Edit
 from package import links_of
 from prove import Report
 
@@ -82,6 +82,20 @@ class Tools(unittest.TestCase):
                 edit.write_text(lines, encoding="utf-8")
                 with self.subTest(text=text):
                     self.assertEqual(Edit("one", edit).fault(), wanted)
+
+    def test_a_refusal_that_shows_nothing_of_a_contract_is_not_taken(self) -> None:
+        rows = {
+            "refused, as it must be": True,
+            "refused, as it must be: src/lib.rt:4:1: error": True,
+            "refused, as it must be (only because a proof file names what ..": False,
+            "refused, as it must be (only by a limit of the prover, which ..": False,
+            "NOT REFUSED: the crate is still proved with this edit": False,
+        }
+        for said, is_refused in rows.items():
+            with self.subTest(said=said):
+                found = TRIED.match(f"rt: must-fail one/other.edit: {said}")
+                assert found
+                self.assertEqual(bool(found[3]), is_refused)
 
     def test_what_the_checker_counts_is_taken_also_after_the_tests_of_a_crate(
         self,

@@ -13,7 +13,7 @@ use basket_mining::{cutting, mine_in_place};
 use basket_outcome::{Contents, PreparedReport, RunFault, listing, report_listing, style_of};
 use basket_plan::{Ask, Form, Plan};
 use basket_read::ReadFault;
-use basket_report::{items_report, rules_report};
+use basket_report::items_report;
 use mine_limit::MineFault;
 use mine_pieces::{Open, count_shared};
 use std::alloc::Global;
@@ -131,35 +131,15 @@ fn report_baskets<R: Threads + Sync>(
     ensures err { (fault : MiningFault) → result ≡ Err fault → fault ≢ MineFault.Memory → report_of_baskets database names.now plan.now.question ≡ Err fault }
 {
     let style = style_of(names, plan.layout().separator);
-    let workers = plan.workers();
-    match plan.ask() {
-        Ask::Items => {
-            let counts = count_shared(rt, alloc, database.baskets(), cutting(plan), &Open)?;
-            let minimum = plan.minimum();
-            Ok(PreparedReport::Text(items_report(
-                alloc,
-                &counts,
-                minimum,
-                database.total(),
-                style,
-            )?))
-        }
-        Ask::Sets => {
-            let (frequent, _) = mine_in_place(rt, alloc, database, plan, &Open)?;
-            Ok(PreparedReport::of_sets(alloc, frequent.into_sets(), style, workers)?)
-        }
-        Ask::Closed => {
-            let (frequent, _) = mine_in_place(rt, alloc, database, plan, &Open)?;
-            Ok(PreparedReport::of_closed(alloc, frequent, style, workers)?)
-        }
-        Ask::Maximal => {
-            let (frequent, _) = mine_in_place(rt, alloc, database, plan, &Open)?;
-            Ok(PreparedReport::of_maximal(alloc, frequent, style, workers)?)
-        }
-        Ask::Rules(confidence) => {
-            let (frequent, _) = mine_in_place(rt, alloc, database, plan, &Open)?;
-            let texts = rules_report(rt, alloc, &frequent, confidence, style, workers)?;
-            Ok(PreparedReport::Texts(texts))
-        }
+    let ask = plan.ask();
+    if let Ask::Items = ask {
+        let counts = count_shared(rt, alloc, database.baskets(), cutting(plan), &Open)?;
+        let minimum = plan.minimum();
+        let total = database.total();
+        let text = items_report(alloc, &counts, minimum, total, style)?;
+        return Ok(PreparedReport::Text(text));
     }
+    let (frequent, _) = mine_in_place(rt, alloc, database, plan, &Open)?;
+    let workers = plan.workers();
+    Ok(PreparedReport::of_frequent(rt, alloc, frequent, ask, style, workers)?)
 }

@@ -73,10 +73,11 @@ fn bound(option: &str, value: &str) -> &'static str {
         return if is_whole(percent) { MOST_SHARE } else { "" };
     }
     if let Some((above, below)) = value.split_once('/') {
-        return if is_whole(above) && is_whole(below) {
-            MOST_SHARE
-        } else {
-            ""
+        return match (above.parse::<u32>(), below.parse::<u32>()) {
+            (Ok(_), Ok(1..)) => MOST_SHARE,
+            _ if is_whole(above) && is_whole(below) =>
+                "both numbers of a share are at most 4294967295, and the second at least 1",
+            _ => "",
         };
     }
     if !is_whole(value) {

@@ -1,5 +1,5 @@
 -- How a text goes on with one more byte.
-use Rattle.std.proofs.Common.{◌≡◌, ◌≢◌, ℕ, ◌+◌, ◌<◌, ◌≤◌, true, false, List, [], ◌∷◌, ◌++◌, length, take, take-add, drop, suc, cond, Some, refl, sym, ap, ◌∙◌, subst, append_assoc, arith}
+use Rattle.std.proofs.Common.{◌≡◌, ℕ, ◌+◌, true, false, List, [], ◌∷◌, ◌++◌, length, take, take-add, drop, suc, cond, Some, refl, sym, ap, ◌∙◌, subst, append_assoc, arith}
 use Rattle.std.specs.List.{list_all}
 use Rattle.std.proofs.lemmas.Bool.{and_from}
 use Rattle.std.proofs.lemmas.List.{append-nil, length-append}
@@ -15,7 +15,7 @@ use Rattle.basket_counts.specs.Counts.{ListedSet, is_line, fault_at_from, fault_
 use Rattle.basket_counts.specs.Line.{line_state, line_at, said_at, digit_fault_in, IsLineSoFar}
 use Rattle.basket_counts.specs.ListedSets.{HasEntries}
 use Rattle.basket_counts.specs.Text.{IsTextSoFar}
-use Rattle.basket_read.proofs.theory.Cuts.{cut, cut_ended, cut_on, size_after}
+use Rattle.basket_read.proofs.theory.Cuts.{cut_ended, cut_on}
 use Rattle.basket_counts.proofs.LineLemmas.{no_line_feed, line_says, digit_says}
 use Rattle.basket_counts.proofs.GrammarLemmas.{line_prefix, line_prefixes_are_good}
 use Rattle.basket_read.proofs.theory.Grammar as grammar
@@ -86,20 +86,6 @@ module _ (text : SetText) (number : ℕ) (bytes : List ℕ) (t : IsTextSoFar tex
         listed = subst (HasEntries new.listed) (ap (λ (k : Cut). entries_from number k.ended) (sym k)) (says_all new.listed more);
         state = is ∙ ap (λ (k : Cut). line_at k.last) (sym k);
       }
-
--- ---- a text of few bytes has few lines
-
--- a line feed for each line that has ended
-pub few_lines : (text : SetText) (number : ℕ) (bytes : List ℕ) → IsTextSoFar text number bytes → text.ended + 1 ≤ length bytes + number
-few_lines text number bytes t = let few = size_after is_line_feed (cut [] []) bytes in let lines = t.ended in omega arith
-
--- and more bytes where a line has begun
-pub fewer_lines : (text : SetText) (number : ℕ) (bytes : List ℕ) → IsTextSoFar text number bytes → line_state text.line ≢ line_at [] → text.ended + 1 < length bytes + number
-fewer_lines text number bytes t some = at (cut_at is_line_feed bytes).last refl
-  where
-    at : (last : List ℕ) → (cut_at is_line_feed bytes).last ≡ last → text.ended + 1 < length bytes + number
-    at [] e = absurd (some (t.state ∙ ap line_at e))
-    at (byte ∷ last) e = let few = size_after is_line_feed (cut [] []) bytes in let lines = t.ended in let long = ap length e in omega arith
 
 -- ---- bytes up to a place
 

@@ -1,8 +1,8 @@
 //! Texts that workers read side by side.
-ghost use Rattle.std.specs.Prelude.{◌≡◌, ◌≤◌, ◌+◌, length};
+ghost use Rattle.std.specs.Prelude.{◌≡◌, ◌+◌, length, IfOk, IfErr};
 ghost use Rattle.std.specs.Thread.{IsSync};
 ghost use Rattle.basket_read.specs.Cut.{cut_at};
-ghost use Rattle.basket_read.specs.Fimi.{is_line_feed, MOST_BYTES};
+ghost use Rattle.basket_read.specs.Fimi.{is_line_feed};
 ghost use Rattle.basket_counts.specs.Text.{SaysFrom};
 
 use crate::listed_sets::ListedSets;
@@ -20,7 +20,6 @@ pub fn listed_shared<R: Threads + Sync>(
     bytes: &[u8],
     workers: u32,
 ) -> Result<ListedSets, ReadFault>
-    requires { before + length bytes.now ≤ MOST_BYTES }
     ensures { SaysFrom (before + 1) bytes.now result }
 {
     let Some(end) = middle_of(bytes, workers) else {
@@ -32,11 +31,11 @@ pub fn listed_shared<R: Threads + Sync>(
     let (later, listed) = join(
         rt,
         || -> Result<ListedSets, ReadFault>
-            requires { IsSync R.row × (before + length prefix.now + length rest.now ≤ MOST_BYTES) }
+            requires { IsSync R.row }
             ensures { SaysFrom (before + length (cut_at is_line_feed prefix.entry.now).ended + 1) rest.entry.now result }
-        { listed_shared(rt, alloc, before + line_feeds(prefix), rest, others) },
+        { listed_shared(rt, alloc, lines_after(before, prefix)?, rest, others) },
         || -> Result<ListedSets, ReadFault>
-            requires { IsSync R.row × (before + length prefix.now ≤ MOST_BYTES) }
+            requires { IsSync R.row }
             ensures { SaysFrom (before + 1) prefix.entry.now result }
         { listed_shared(rt, alloc, before, prefix, few) },
     );
@@ -45,17 +44,19 @@ pub fn listed_shared<R: Threads + Sync>(
     Ok(listed)
 }
 
-/// How many lines end in the bytes.
-fn line_feeds(bytes: &[u8]) -> u32
-    requires { length bytes.now ≤ MOST_BYTES }
-    ensures count { result ≡ length (cut_at is_line_feed bytes.now).ended }
-    ensures few { result ≤ length bytes.now }
+/// How many lines have ended after the bytes, if so many ended before them.
+fn lines_after(before: u32, bytes: &[u8]) -> Result<u32, ReadFault>
+    ensures count { IfOk result (λ count. count ≡ before + length (cut_at is_line_feed bytes.now).ended) }
+    ensures err { IfErr result (λ fault. fault ≡ ReadFault.Memory) }
 {
-    let mut count = 0;
+    let mut count = u64::from(before);
     for byte in bytes {
         if *byte == b'\n' {
             count += 1;
         }
     }
-    count
+    match u32::try_from(count) {
+        Ok(count) => Ok(count),
+        Err(_) => Err(ReadFault::Memory),
+    }
 }

@@ -1,7 +1,6 @@
 //! A text of which not all has been read.
-ghost use Rattle.std.specs.Prelude.{◌≡◌, ◌≢◌, ◌<◌, ◌≤◌, ◌+◌, ℕ, List, [], ◌∷◌, ◌++◌, length, None, OnOk, MatchResult, if◌then◌else◌};
+ghost use Rattle.std.specs.Prelude.{◌≡◌, ◌+◌, ℕ, List, [], ◌∷◌, ◌++◌, None, Some, OnOk, MatchResult, if◌then◌else◌};
 ghost use Rattle.basket_sets.specs.Number.{is_digit};
-ghost use Rattle.basket_read.specs.Fimi.{MOST_BYTES};
 ghost use Rattle.basket_read.specs.Fault.{ReturnsFault};
 ghost use Rattle.basket_counts.specs.Counts.{ListedSet, fault_from};
 ghost use Rattle.basket_counts.specs.Line.{line_state, line_at, said_at, digit_fault_in};
@@ -19,6 +18,7 @@ use std::alloc::{AllocError, Global};
 #[derive(Debug, Drop)]
 pub struct SetText {
     alloc: Global,
+    /// One too many for a `u32` counts as out of memory.
     ended: u32,
     listed: ListedSets,
     line: SetLine,
@@ -40,13 +40,12 @@ impl SetText {
     /// Takes a byte.
     #[inline(always)]
     fn take(&mut self, byte: u8) -> Result<(), ReadFault>
-        requires { self.old.ended < MOST_BYTES }
         ensures { (line : ℕ) (bytes : List ℕ) → IsTextSoFar self.old line bytes →
             MatchResult result (λ _. IsTextSoFar self.new line (bytes ++ byte ∷ [])) (λ fault. ReturnsFault fault (fault_from line (bytes ++ byte ∷ []))) }
     {
         if byte == b'\n' {
             self.end_line()?;
-            self.ended += 1;
+            self.ended = self.ended.checked_add(1).ok_or(ReadFault::Memory)?;
             return Ok(());
         }
         if !self.line.take(byte)? {
@@ -57,10 +56,11 @@ impl SetText {
 
     /// The fault of a byte that can't stand here.
     fn fault_at(&self, byte: u8) -> ReadFault
-        requires { self.now.ended < MOST_BYTES }
-        ensures { result ≡ (if is_digit byte then digit_fault_in (line_state self.now.line).tail (self.now.ended + 1) byte else ReadFault.Byte (self.now.ended + 1) byte) }
+        ensures { ReturnsFault result (Some (if is_digit byte then digit_fault_in (line_state self.now.line).tail (self.now.ended + 1) byte else ReadFault.Byte (self.now.ended + 1) byte)) }
     {
-        let line = self.ended + 1;
+        let Some(line) = self.ended.checked_add(1) else {
+            return ReadFault::Memory;
+        };
         if byte.is_ascii_digit() {
             self.line.tail().digit_fault(line, byte)
         } else {
@@ -70,7 +70,6 @@ impl SetText {
 
     /// Adds what the line says, and begins a new line.
     fn end_line(&mut self) -> Result<(), AllocError>
-        requires { line_state self.old.line ≢ line_at [] → self.old.ended < MOST_BYTES }
         ensures line { OnOk result (line_state self.new.line ≡ line_at []) }
         ensures ended { self.new.ended ≡ self.old.ended }
         ensures listed { (entries : List ListedSet) → HasEntries self.old.listed entries →
@@ -80,8 +79,9 @@ impl SetText {
         let numbers = self.line.numbers();
         let tail = self.line.tail();
         if tail.is_there() || !numbers.is_empty() {
+            let line = self.ended.checked_add(1).ok_or(AllocError)?;
             let set = Itemset::from_items(self.alloc, numbers)?;
-            self.listed.add(set, tail.count(), self.ended + 1)?;
+            self.listed.add(set, tail.count(), line)?;
         }
         self.line.clear();
         Ok(())
@@ -90,7 +90,6 @@ impl SetText {
 
 /// What a text says that follows so many lines, or its first fault.
 pub fn listed_in(alloc: Global, before: u32, bytes: &[u8]) -> Result<ListedSets, ReadFault>
-    requires { before + length bytes.now ≤ MOST_BYTES }
     ensures { SaysFrom (before + 1) bytes.now result }
 {
     let mut text = SetText::new(alloc, before);

@@ -1,21 +1,20 @@
 -- The baskets of records, one after another.
-use Rattle.std.proofs.Common.{◌≡◌, ℕ, Bool, true, false, cond, List, [], ◌∷◌, ◌++◌, map, drop, fold, Some, None, Result, Ok, Err, unwrap_or, refl, sym, ap, ◌∙◌, subst, append-nil, append_assoc}
+use Rattle.std.proofs.Common.{◌≡◌, ℕ, Bool, true, false, cond, List, [], ◌∷◌, ◌++◌, map, drop, fold, Option, Some, None, Result, Ok, Err, unwrap_or, refl, sym, ap, ◌∙◌, subst, append-nil, append_assoc}
 use Rattle.std.specs.List.{flat_map, list_all}
-use Rattle.std.specs.Result.{MatchResult, OnOk, IfErr}
+use Rattle.std.specs.Result.{OnOk}
 use Rattle.std.proofs.lemmas.Bool.{and_parts}
 use Rattle.std.proofs.lemmas.List.Concat.{flat_map-append}
 use Rattle.std.proofs.lemmas.List.Folds.{list_all-append}
 use Rattle.std.proofs.lemmas.List.Sums.{fold-append}
 use Rattle.basket_sets.specs.declared.weighted.Weighted.{Weighted}
 use Rattle.basket_read.specs.declared.fault.ReadFault.{ReadFault}
-use Rattle.basket_read.specs.declared.fault.ReadFault.TheVariants.{Memory, NotText}
+use Rattle.basket_read.specs.declared.fault.ReadFault.TheVariants.{NotText}
 use mir.Val.{bool_byte}
 use Rattle.basket_read.specs.Fimi.{basket_of_numbers}
-use Rattle.basket_read.specs.Fault.{ReturnsFault}
 use Rattle.basket_csv.specs.declared.baskets.Baskets.{Baskets}
 use Rattle.basket_csv.specs.Baskets.{HasRead}
 use Rattle.basket_csv.specs.RecordCollector.{Start}
-use Rattle.basket_csv.specs.Csv.{is_text, names_of, fields_before, names_in, weight_of, weight_fault, basket_fault, all_names, basket_of, baskets_in}
+use Rattle.basket_csv.specs.Csv.{is_text, fields_before, names_in, weight_of, weight_fault, basket_fault, all_names, basket_of, baskets_in}
 use Rattle.basket_read.specs.GatheredBaskets.{HasGathered}
 use Rattle.basket_csv.specs.Names.{with_name, in_order, number_in, is_among, are_among}
 use Rattle.basket_csv.proofs.NamesLemmas.{numbers_stay, all_among}
@@ -67,6 +66,15 @@ pub no_fault : (weighted : Bool) (nth : ℕ) (row : List (List ℕ)) (first weig
 no_fault weighted nth row first weight f text whole w =
     let is : is_text row ≡ true = whole ∙ ap (λ n. is_text (drop n row)) (sym f) ∙ sym text in
     ap (λ b. cond b (weight_fault nth (weight_of weighted row)) (Some (NotText nth))) is ∙ ap (weight_fault nth) (sym w)
+
+-- whether a record has a fault does not depend on its number
+pub any_number : (weighted : Bool) (n m : ℕ) (row : List (List ℕ)) → basket_fault weighted n row ≡ None → basket_fault weighted m row ≡ None
+any_number weighted n m row e = at (is_text row) (weight_of weighted row) e
+  where
+    at : (text : Bool) (weight : Option ℕ) → cond text (weight_fault n weight) (Some (NotText n)) ≡ None → cond text (weight_fault m weight) (Some (NotText m)) ≡ None
+    at true (Some weight) e = refl
+    at true None e = absurd cc
+    at false weight e = absurd cc
 
 -- a record was added: its basket comes after those before
 pub added : {X : Type 0} (old new : Baskets) (start : Start) (rows : List (List (List ℕ))) (row : List (List ℕ)) (weight : ℕ) (numbers : List ℕ) (r : Result X ReadFault)

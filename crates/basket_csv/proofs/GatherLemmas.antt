@@ -1,8 +1,7 @@
 -- The baskets of parts, one after another.
-use Rattle.std.proofs.Common.{◌≡◌, ◌≢◌, ℕ, suc, ◌+◌, ◌≤◌, ◌<◌, Bool, true, false, cond, List, [], ◌∷◌, ◌++◌, Option, Some, None, Result, Ok, Err, ◌⊎◌, drop, get_or, leb, length, ltb, map, take, unwrap_or, refl, sym, ap, ◌∙◌, subst, append_assoc, append-nil, inl, inr, arith}
+use Rattle.std.proofs.Common.{◌≡◌, ℕ, ◌+◌, ◌≤◌, ◌<◌, Bool, true, false, cond, List, [], ◌∷◌, ◌++◌, Option, Some, None, Ok, Err, ◌⊎◌, drop, get_or, length, ltb, map, take, unwrap_or, refl, sym, ap, ◌∙◌, subst, append_assoc, append-nil, inl, inr, arith}
 use Rattle.std.specs.List.{flat_map, list_all}
-use Rattle.std.specs.Result.{OnOk}
-use Rattle.std.proofs.lemmas.Bool.{and_parts, cases_Bool, le-leb, leb-false, leb-true, ltb-true}
+use Rattle.std.proofs.lemmas.Bool.{and_parts, cases_Bool, le-leb, ltb-true}
 use Rattle.std.proofs.lemmas.List.{at_drop_more, get_or-map, length-append, length-map, length-take, take-append-drop, take_more}
 use Rattle.std.proofs.lemmas.List.Concat.{flat_map-append}
 use Rattle.std.proofs.lemmas.List.Folds.{list_all-append}
@@ -13,22 +12,19 @@ use Rattle.basket_sets.specs.Number.{number_of}
 use Rattle.basket_sets.specs.Support.{total_of}
 use Rattle.basket_sets.proofs.theory.Support.{support-append}
 use Rattle.basket_read.specs.Fimi.{basket_of_numbers, if_light, MOST_NUMBER}
-use Rattle.basket_read.specs.declared.fault.ReadFault.{ReadFault}
-use Rattle.basket_read.specs.declared.fault.ReadFault.TheVariants.{Heavy, Memory}
-use Rattle.basket_read.specs.Fault.{ReturnsBy}
+use Rattle.basket_read.specs.declared.fault.ReadFault.TheVariants.{Heavy}
 use Rattle.basket_read.specs.declared.item_counts.ItemCounts.{ItemCounts}
 use Rattle.basket_read.specs.GatheredBaskets.{AreGathered, Gathers, HasGathered}
 use Rattle.basket_read.specs.declared.gathered.GatheredBaskets.{GatheredBaskets}
 use Rattle.basket_read.proofs.theory.Numbers.{one_basket}
-use Rattle.basket_read.proofs.theory.Gathered.{kept_few, one_each}
+use Rattle.basket_read.proofs.theory.Gathered.{one_each}
 use Rattle.basket_csv.specs.declared.part.RecordSize.{RecordSize}
 use Rattle.basket_csv.specs.declared.renumbered.RenumberedRecords.{RenumberedRecords}
 use Rattle.basket_csv.specs.Csv.{all_names, basket_of, field_in, names_in, positive, weight_of}
 use Rattle.basket_csv.specs.Field.{trimmed}
 use Rattle.basket_csv.specs.Names.{number_in}
 use Rattle.basket_csv.specs.Part.{InParts, Rows, size_of}
-use Rattle.basket_csv.specs.Renumbered.{AreRenumbered, GathersParts, HaveRows}
-use Rattle.basket_csv.proofs.InPartsLemmas.{in_halves}
+use Rattle.basket_csv.specs.Renumbered.{AreRenumbered}
 
 -- a list whose images are those of two lists is cut between them
 cut_images : {X Y : Type 0} (f : X → ℕ) (g : Y → ℕ) (left : List X) (own rest : List Y) → map f left ≡ map g (own ++ rest)
@@ -112,12 +108,6 @@ module _ (weighted : Bool) (names : List (List ℕ)) (renumbering : List ℕ) (c
           below = ap (list_all (λ number. ltb number (length renumbering))) back ∙ both_below.1;
         }
 
-    -- at most so many baskets are kept
-    pub few_kept : gathered.heavy ≡ false → length gathered.baskets + 1 ≤ length baskets + length sizes
-    few_kept light =
-        let each = one_each (basket_of weighted names) (λ row. one_basket _ _) (take at rows) in
-        omega (arith, kept_few _ _ _ h.gathered light, each, length-append baskets (flat_map (basket_of weighted names) (take at rows)), length-take at rows, within, inside)
-
 -- ---- baskets after others
 
 regrouped : (a b c d : List Weighted) → (b ≡ []) ⊎ (c ≡ []) → (a ++ b) ++ (c ++ d) ≡ (a ++ c) ++ (b ++ d)
@@ -181,75 +171,3 @@ part_more weighted names rows counting gathered new left others part is add (don
       subst (HasGathered new counting) (sym (flat_map-append (basket_of weighted names) done own)) (add (flat_map (basket_of weighted names) done) own has mine),
       in_rest,
     )
-
--- ---- the baskets of two halves
-
--- baskets that may be had are light
-light_is : (baskets found : List Weighted) → if_light baskets ≡ Ok found → baskets ≡ found
-light_is baskets found e = at (leb (total_of baskets) MOST_WEIGHT) e
-  where
-    at : (light : Bool) → cond light (Ok baskets) (Err Heavy) ≡ Ok found → baskets ≡ found
-    at true same = cc
-    at false same = absurd cc
-
-not_leb : (a b : ℕ) → b < a → leb a b ≡ false
-not_leb a b above = elim (cases_Bool (leb a b)) [ inl e ↦ absurd (let below = leb-true a b e in omega arith) | inr e ↦ e ]
-
--- what weighs too much does so with more
-heavy_more : (baskets all : List Weighted) (fault : ReadFault) → total_of baskets ≤ total_of all → if_light baskets ≡ Err fault → if_light all ≡ Err fault
-heavy_more baskets all fault more e = at (leb (total_of baskets) MOST_WEIGHT) refl e
-  where
-    at : (light : Bool) → leb (total_of baskets) MOST_WEIGHT ≡ light → cond light (Ok baskets) (Err Heavy) ≡ Err fault → if_light all ≡ Err fault
-    at true is same = absurd cc
-    at false is same =
-        let above = leb-false (total_of baskets) MOST_WEIGHT is in
-        ap (λ light. cond light (Ok all) (Err Heavy)) (not_leb (total_of all) MOST_WEIGHT (omega arith)) ∙ same
-
-module _ (counting weighted : Bool) (names : List (List ℕ)) (parts front back : List RenumberedRecords) (rows : Rows) (halves : parts ≡ front ++ back) (all : InParts (AreRenumbered weighted names) parts rows) where
-  abbrev of : List (List (List ℕ)) → List Weighted
-  of own = flat_map (basket_of weighted names) own
-
-  both : (first : Rows) × (others : Rows) × (rows ≡ first ++ others) × InParts (AreRenumbered weighted names) front first × InParts (AreRenumbered weighted names) back others
-  both = in_halves (AreRenumbered weighted names) front back rows (subst (λ l. InParts (AreRenumbered weighted names) l rows) halves all)
-
-  pub front_heavy : (result : Result ItemCounts ReadFault) (fault : ReadFault) → result ≡ Err fault → GathersParts counting front result → fault ≢ Memory → if_light (of rows) ≡ Err fault
-  front_heavy result fault is has other =
-      let (first, others, same, in_front, in_back) = both in
-      let sum = ap total_of (ap of same ∙ flat_map-append (basket_of weighted names) first others) ∙ support-append (of first) (of others) [] in
-      heavy_more (of first) (of rows) fault (omega (arith, sum)) (subst (λ r. ReturnsBy (Gathers counting) r (if_light (of first))) is (has weighted names first in_front) other)
-
-  pub back_heavy : (result : Result ItemCounts ReadFault) (fault : ReadFault) → result ≡ Err fault → GathersParts counting back result → fault ≢ Memory → if_light (of rows) ≡ Err fault
-  back_heavy result fault is has other =
-      let (first, others, same, in_front, in_back) = both in
-      let sum = ap total_of (ap of same ∙ flat_map-append (basket_of weighted names) first others) ∙ support-append (of first) (of others) [] in
-      heavy_more (of others) (of rows) fault (omega (arith, sum)) (subst (λ r. ReturnsBy (Gathers counting) r (if_light (of others))) is (has weighted names others in_back) other)
-
-  -- the counts of the halves are those of their baskets, which are those of all
-  pub halves_found : (a b : Result ItemCounts ReadFault) (counts later : ItemCounts) → a ≡ Ok counts → b ≡ Ok later → GathersParts counting front a → GathersParts counting back b
-      → (baskets : List Weighted) × (more : List Weighted) × AreGathered counting counts baskets × AreGathered counting later more × (of rows ≡ baskets ++ more)
-  halves_found a b counts later is_a is_b has_a has_b =
-      let (first, others, same, in_front, in_back) = both in
-      let (baskets, light, gathered) = subst (λ r. ReturnsBy (Gathers counting) r (if_light (of first))) is_a (has_a weighted names first in_front) in
-      let (more, light_too, gathered_too) = subst (λ r. ReturnsBy (Gathers counting) r (if_light (of others))) is_b (has_b weighted names others in_back) in (
-        baskets,
-        more,
-        gathered,
-        gathered_too,
-        ap of same ∙ flat_map-append (basket_of weighted names) first others ∙ ap (λ l. l ++ of others) (light_is (of first) baskets light) ∙ ap (λ l. baskets ++ l) (light_is (of others) more light_too),
-      )
-
-  -- no more baskets than records
-  pub few_found : (baskets more : List Weighted) → of rows ≡ baskets ++ more → length rows ≤ MOST_BASKETS → length baskets + length more ≤ MOST_BASKETS
-  few_found baskets more is few =
-      let each = one_each (basket_of weighted names) (λ row. one_basket _ _) rows in
-      omega (arith, each, few, ap length is, length-append baskets more)
-
-  pub front_rows : length rows ≤ MOST_BASKETS → HaveRows front
-  front_rows few =
-      let (first, others, same, in_front, in_back) = both in
-      (weighted, names, first, in_front, omega (arith, few, ap length same, length-append first others))
-
-  pub back_rows : length rows ≤ MOST_BASKETS → HaveRows back
-  back_rows few =
-      let (first, others, same, in_front, in_back) = both in
-      (weighted, names, others, in_back, omega (arith, few, ap length same, length-append first others))

@@ -4,13 +4,11 @@ use Rattle.std.specs.List.{list_all}
 use Rattle.std.proofs.lemmas.List.{length-map, map-append}
 use Rattle.std.proofs.lemmas.List.Concat.{flat_map-append}
 use Rattle.std.proofs.lemmas.List.Sums.{fold-append}
-use Rattle.basket_csv.specs.declared.part.NumberedRecords.{NumberedRecords}
 use Rattle.basket_csv.specs.declared.renumbered.RenumberedRecords.{RenumberedRecords}
 use Rattle.basket_csv.specs.declared.part.Part.{Part}
-use Rattle.basket_csv.specs.RecordCollector.{Start}
 use Rattle.basket_csv.specs.Csv.{names_in, weight_of, all_names}
 use Rattle.basket_csv.specs.Names.{with_name, in_order, number_in, are_among}
-use Rattle.basket_csv.specs.Part.{InParts, HasPart, IsPart, Rows, size, size_of}
+use Rattle.basket_csv.specs.Part.{HasPart, InParts, Rows, size, size_of}
 use Rattle.basket_csv.specs.Renumbered.{AreRenumbered}
 use Rattle.basket_csv.proofs.BasketLemmas.{all_names_more, names_more, read_among}
 use Rattle.basket_csv.proofs.NamesLemmas.{numbers_stay, all_among}
@@ -38,39 +36,36 @@ in_each has other step (part ∷ parts) rows (mine, later, is, h, rest) = (mine,
 -- ---- the records of a part, one after another
 
 -- a record was added: its numbers come after those before
-pub part_added : (old new : Part) (start : Start) (rows : Rows) (row : List (List ℕ)) (weight : ℕ) (numbers : List ℕ)
+pub part_added : (old new : Part) (weighted : Bool) (rows : Rows) (row : List (List ℕ)) (weight : ℕ) (numbers : List ℕ)
     → Some weight ≡ weight_of old.weighted row → new.weighted ≡ old.weighted
     → new.names ≡ fold with_name old.names (names_in old.weighted row) → numbers ≡ map (number_in new.names) (names_in old.weighted row)
     → new.records.numbers.items ≡ old.records.numbers.items ++ numbers → new.records.sizes.items ≡ old.records.sizes.items ++ size (length numbers) weight ∷ []
-    → HasPart old start rows → HasPart new start (rows ++ row ∷ [])
-part_added old new start rows row weight numbers w same names ns all sizes h =
-    let weighted = start.weighted in
+    → HasPart weighted old rows → HasPart weighted new (rows ++ row ∷ [])
+part_added old new weighted rows row weight numbers w same names ns all sizes h =
     let before = in_order (all_names weighted rows) in
     let order = in_order (all_names weighted (rows ++ row ∷ [])) in
     let is : new.names ≡ order =
-    names ∙ ap (λ b. fold with_name old.names (names_in b row)) h.weighted ∙ ap (λ o. fold with_name o (names_in weighted row)) h.names ∙ sym (names_more weighted [] rows row) in
-    let own : numbers ≡ map (number_in order) (names_in weighted row) = ns ∙ ap (λ b. map (number_in new.names) (names_in b row)) h.weighted ∙ ap (λ o. map (number_in o) (names_in weighted row)) is in
+    names ∙ ap (λ b. fold with_name old.names (names_in b row)) h.same ∙ ap (λ o. fold with_name o (names_in weighted row)) h.names ∙ sym (names_more weighted [] rows row) in
+    let own : numbers ≡ map (number_in order) (names_in weighted row) = ns ∙ ap (λ b. map (number_in new.names) (names_in b row)) h.same ∙ ap (λ o. map (number_in o) (names_in weighted row)) is in
     let stay : map (number_in before) (all_names weighted rows) ≡ map (number_in order) (all_names weighted rows) =
     sym (ap (λ o. map (number_in o) (all_names weighted rows)) (names_more weighted [] rows row) ∙ numbers_stay before (names_in weighted row) (all_names weighted rows) (read_among [] (all_names weighted rows))) in
     record {
-      weighted = same ∙ h.weighted;
+      same = same ∙ h.same;
       names = is;
-      numbered = record {
-        numbers = all ∙ ap (λ k. k ++ numbers) (h.numbered.numbers ∙ stay) ∙ ap (λ k. map (number_in order) (all_names weighted rows) ++ k) own
-            ∙ sym (map-append (number_in order) (all_names weighted rows) (names_in weighted row)) ∙ ap (map (number_in order)) (sym (all_names_more weighted rows row));
-        sizes = sizes ∙ ap (λ s. s ++ size (length numbers) weight ∷ []) h.numbered.sizes
-            ∙ ap (λ s. map (size_of weighted) rows ++ s ∷ [])
-            (ap (λ n. size n weight) (ap length own ∙ length-map (names_in weighted row) (number_in order)) ∙ ap (λ o. size (length (names_in weighted row)) (unwrap_or o 1)) (w ∙ ap (λ b. weight_of b row) h.weighted))
-            ∙ sym (map-append (size_of weighted) rows (row ∷ []));
-      };
+      numbers = all ∙ ap (λ k. k ++ numbers) (h.numbers ∙ stay) ∙ ap (λ k. map (number_in order) (all_names weighted rows) ++ k) own
+          ∙ sym (map-append (number_in order) (all_names weighted rows) (names_in weighted row)) ∙ ap (map (number_in order)) (sym (all_names_more weighted rows row));
+      sizes = sizes ∙ ap (λ s. s ++ size (length numbers) weight ∷ []) h.sizes
+          ∙ ap (λ s. map (size_of weighted) rows ++ s ∷ [])
+          (ap (λ n. size n weight) (ap length own ∙ length-map (names_in weighted row) (number_in order)) ∙ ap (λ o. size (length (names_in weighted row)) (unwrap_or o 1)) (w ∙ ap (λ b. weight_of b row) h.same))
+          ∙ sym (map-append (size_of weighted) rows (row ∷ []));
     }
 
 -- ---- the names of parts, numbered together
 
 -- some parts are renumbered, and these are left
-abbrev pub Renumbers : Bool → List (List ℕ) → List (List ℕ) → List (NumberedRecords × List (List ℕ)) → List RenumberedRecords → Rows → Type 0
+abbrev pub Renumbers : Bool → List (List ℕ) → List (List ℕ) → List Part → List RenumberedRecords → Rows → Type 0
 Renumbers weighted before known left all rows =
-    (done : Rows) × (rest : Rows) × (rows ≡ done ++ rest) × InParts (IsPart weighted) left rest
+    (done : Rows) × (rest : Rows) × (rows ≡ done ++ rest) × InParts (HasPart weighted) left rest
     × (known ≡ fold with_name before (all_names weighted done)) × InParts (AreRenumbered weighted known) all done
 
 renumbered_still : (weighted : Bool) (known others new : List (List ℕ)) → new ≡ fold with_name known others → (part : RenumberedRecords) (rows : Rows) → AreRenumbered weighted known part rows → AreRenumbered weighted new part rows
@@ -83,27 +78,27 @@ renumbered_still weighted known others new is part rows h =
       sizes = h.sizes;
     }
 
-renumbered_now : (weighted : Bool) (known new : List (List ℕ)) (part : NumberedRecords × List (List ℕ)) (one : RenumberedRecords) (rows : Rows)
-    → new ≡ fold with_name known (all_names weighted rows) → one.records ≡ part.0 → one.names.items ≡ map (number_in new) part.1 → IsPart weighted part rows → AreRenumbered weighted new one rows
+renumbered_now : (weighted : Bool) (known new : List (List ℕ)) (part : Part) (one : RenumberedRecords) (rows : Rows)
+    → new ≡ fold with_name known (all_names weighted rows) → one.records ≡ part.records → one.names.items ≡ map (number_in new) part.names → HasPart weighted part rows → AreRenumbered weighted new one rows
 renumbered_now weighted known new part one rows is records names h =
     let some = all_names weighted rows in
     let own = in_order some in
     let among = read_among [] some in
-    let numbers : one.records.numbers.items ≡ map (number_in own) some = ap (λ r. r.numbers.items) records ∙ h.numbered.numbers in
+    let numbers : one.records.numbers.items ≡ map (number_in own) some = ap (λ r. r.numbers.items) records ∙ h.numbers in
     let at : one.names.items ≡ map (number_in new) own = names ∙ ap (map (number_in new)) h.names in
     let long : length one.names.items ≡ length own = ap length at ∙ length-map own (number_in new) in
     record {
       below = ap (λ n. list_all (λ number. ltb number n) one.records.numbers.items) long ∙ ap (list_all (λ number. ltb number (length own))) numbers ∙ numbers_below own some among;
       among = ap (λ n. are_among n some) is ∙ all_among known some;
       numbers = ap (λ n. map (λ number. get_or n number 0) one.records.numbers.items) at ∙ ap (map (λ number. get_or (map (number_in new) own) number 0)) numbers ∙ numbers_at new own some among;
-      sizes = ap (λ r. r.sizes.items) records ∙ h.numbered.sizes;
+      sizes = ap (λ r. r.sizes.items) records ∙ h.sizes;
     }
 
-pub renumbers_more : (weighted : Bool) (before known new : List (List ℕ)) (left rest : List (NumberedRecords × List (List ℕ))) (part : NumberedRecords × List (List ℕ)) (all more : List RenumberedRecords) (one : RenumberedRecords) (rows : Rows)
-    → left ≡ part ∷ rest → new ≡ fold with_name known part.1 → one.records ≡ part.0 → one.names.items ≡ map (number_in new) part.1 → more ≡ all ++ one ∷ []
+pub renumbers_more : (weighted : Bool) (before known new : List (List ℕ)) (left rest : List Part) (part : Part) (all more : List RenumberedRecords) (one : RenumberedRecords) (rows : Rows)
+    → left ≡ part ∷ rest → new ≡ fold with_name known part.names → one.records ≡ part.records → one.names.items ≡ map (number_in new) part.names → more ≡ all ++ one ∷ []
     → Renumbers weighted before known left all rows → Renumbers weighted before new rest more rows
 renumbers_more weighted before known new left rest part all more one rows is names records numbers grown (done, others, same, parts, known_is, renumbered) =
-    let (own, later, first, has, in_rest) = subst (λ l. InParts (IsPart weighted) l others) is parts in
+    let (own, later, first, has, in_rest) = subst (λ l. InParts (HasPart weighted) l others) is parts in
     let added : new ≡ fold with_name known (all_names weighted own) = names ∙ ap (fold with_name known) has.names ∙ add_in_order known (all_names weighted own) in (
       done ++ own,
       later,

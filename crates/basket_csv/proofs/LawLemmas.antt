@@ -12,10 +12,10 @@ use Rattle.basket_csv.specs.Laws.{names_with}
 use Rattle.basket_csv.specs.Names.{with_name, in_order, is_among}
 use Rattle.basket_csv.proofs.NamesLemmas.{among_all, consed, among_with, equal_bytes}
 
-abbrev Pair : Type 0
+abbrev pub Pair : Type 0
 Pair = List ℕ × List ℕ
 
-abbrev Group : Type 0
+abbrev pub Group : Type 0
 Group = List ℕ × List (List ℕ)
 
 -- an id with names, and with its names in some pairs
@@ -27,15 +27,15 @@ group_of pairs id = (id, names_with pairs id)
 
 -- ---- equal bytes
 
-equal : (a b : List ℕ) → bytes_eq a b ≡ true → a ≡ b
+pub equal : (a b : List ℕ) → bytes_eq a b ≡ true → a ≡ b
 equal a b e = (bytes_eq-Decides a b).0 e
 
-other_way : (a b : List ℕ) → bytes_eq a b ≡ false → bytes_eq b a ≡ false
+pub other_way : (a b : List ℕ) → bytes_eq a b ≡ false → bytes_eq b a ≡ false
 other_way a b e = false_from_ne_true (bytes_eq b a) (λ f. both_ways (bytes_eq a b) e ((bytes_eq-Decides a b).1 (sym (equal b a f))))
 
 -- ---- ids of which each is there once
 
-abbrev Distinct : List (List ℕ) → Type 0
+abbrev pub Distinct : List (List ℕ) → Type 0
 Distinct [] = Unit {0}
 Distinct (id ∷ ids) = (is_among ids id ≡ false) × Distinct ids
 
@@ -45,7 +45,7 @@ distinct_last (first ∷ ids) id e d =
     let h = or_parts (bytes_eq id first) (is_among ids id) e in
     (list_any-append (bytes_eq first) ids (id ∷ []) ∙ or_from (is_among ids first) (bytes_eq first id || false) d.0 (or_from (bytes_eq first id) false (other_way id first h.0) refl), distinct_last ids id h.1 d.1)
 
-distinct_with : (ids : List (List ℕ)) (id : List ℕ) → Distinct ids → Distinct (with_name ids id)
+pub distinct_with : (ids : List (List ℕ)) (id : List ℕ) → Distinct ids → Distinct (with_name ids id)
 distinct_with ids id d = at (is_among ids id) refl
   where
     at : (b : Bool) → is_among ids id ≡ b → Distinct (cond b ids (ids ++ id ∷ []))

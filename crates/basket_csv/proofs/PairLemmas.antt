@@ -1,82 +1,58 @@
 -- Pairs of an id and a name, one after another.
-use Rattle.std.proofs.Common.{◌≡◌, ℕ, zero, suc, ◌+◌, ◌≤◌, ◌<◌, Bool, true, false, cond, not, ◌||◌, List, [], ◌∷◌, ◌++◌, length, map, filter, fold, set, get_or, None, Result, refl, sym, ap, ◌∙◌, subst, append_assoc, arith}
-use Rattle.std.specs.List.{flat_map, list_any}
+use Rattle.std.proofs.Common.{◌≡◌, ℕ, zero, suc, ◌+◌, ◌≤◌, ◌<◌, Bool, true, false, cond, not, ltb, List, [], ◌∷◌, ◌++◌, length, map, filter, fold, set, get_or, Some, None, Result, refl, sym, ap, ◌∙◌, subst, append_assoc, arith}
+use Rattle.std.specs.List.{flat_map}
 use Rattle.std.specs.Result.{OnOk}
-use Rattle.std.specs.Str.{bytes_eq, is_utf8}
+use Rattle.std.specs.Str.{is_utf8}
 use Rattle.std.proofs.lemmas.Bool.{and_parts}
-use Rattle.std.proofs.lemmas.List.{length-map, map-append}
+use Rattle.std.proofs.lemmas.List.{map-append}
 use Rattle.std.proofs.lemmas.List.Elements.{filter-append}
 use Rattle.std.proofs.lemmas.List.Folds.{flat_map-map}
-use Rattle.std.proofs.lemmas.List.Filters.{length-filter_both}
 use Rattle.std.proofs.lemmas.List.Sums.{fold-append}
 use Rattle.basket_read.specs.declared.fault.ReadFault.{ReadFault}
+use Rattle.basket_read.specs.declared.fault.ReadFault.TheVariants.{NotText, ShortRecord}
 use Rattle.basket_read.specs.Fimi.{basket_of_numbers, is_nil}
 use Rattle.basket_csv.specs.declared.pairs.Pairs.{Pairs}
-use Rattle.basket_csv.specs.Csv.{field_in, pair_fault, pair_of, pairs_of, with_pair, gather, names_of_pairs}
+use Rattle.basket_csv.specs.Csv.{field_in, is_text, pair_fault, pair_of, pairs_of, with_pair, gather, names_of_pairs}
 use Rattle.basket_csv.specs.Field.{trimmed}
 use Rattle.basket_csv.specs.Names.{with_name, in_order, number_in, are_among}
 use Rattle.basket_csv.specs.Row.{IsKnownPair}
 use Rattle.basket_csv.specs.Named.{NamedBasket, are_named}
 use Rattle.basket_csv.specs.Pairs.{HasPairs, added_at, numbers_of}
+use Rattle.basket_csv.proofs.GroupLemmas.{groups_more, ids_more, one_pair, with_group}
+use Rattle.basket_csv.proofs.LawLemmas.{Group}
 use Rattle.basket_csv.proofs.NamedLemmas.{pairs_are_numbered}
 use Rattle.basket_csv.proofs.RowLemmas.{known_some}
-use Rattle.basket_csv.proofs.NamesLemmas.{consed, numbers_stay, number_stays}
+use Rattle.basket_csv.proofs.NamesLemmas.{numbers_stay, number_stays}
 
--- ---- a number that was added to a group
+-- ---- numbers that were added to a group
 
-pub group_known : {A : Type 0} (f : A → List ℕ) (groups : List A) (place number : ℕ) (old new : A) → place < length groups → old ≡ get_or groups place old → f new ≡ f old ++ number ∷ []
-    → map f (set groups place new) ≡ added_at (map f groups) place number
-group_known f [] place number old new below e n = absurd (omega arith)
-group_known f (group ∷ groups) zero number old new below e n = ap (λ x. x ∷ map f groups) (n ∙ ap (λ g. f g ++ number ∷ []) e)
-group_known f (group ∷ groups) (suc place) number old new below e n = ap (λ gs. f group ∷ gs) (group_known f groups place number old new (omega arith) e n)
+pub group_known : {A : Type 0} (f : A → List ℕ) (groups : List A) (place : ℕ) (numbers : List ℕ) (old new : A) → place < length groups → old ≡ get_or groups place old → f new ≡ f old ++ numbers
+    → map f (set groups place new) ≡ added_at (map f groups) place numbers
+group_known f [] place numbers old new below e n = absurd (omega arith)
+group_known f (group ∷ groups) zero numbers old new below e n = ap (λ x. x ∷ map f groups) (n ∙ ap (λ g. f g ++ numbers) e)
+group_known f (group ∷ groups) (suc place) numbers old new below e n = ap (λ gs. f group ∷ gs) (group_known f groups place numbers old new (omega arith) e n)
 
-pub group_new : {A : Type 0} (f : A → List ℕ) (groups : List A) (place number : ℕ) (new : A) → length groups ≤ place → f new ≡ number ∷ []
-    → map f (groups ++ new ∷ []) ≡ added_at (map f groups) place number
-group_new f [] place number new all n = ap (λ g. g ∷ []) n
-group_new f (group ∷ groups) zero number new all n = absurd (omega arith)
-group_new f (group ∷ groups) (suc place) number new all n = ap (λ gs. f group ∷ gs) (group_new f groups place number new (omega arith) n)
+pub group_new : {A : Type 0} (f : A → List ℕ) (groups : List A) (place : ℕ) (numbers : List ℕ) (new : A) → length groups ≤ place → f new ≡ numbers
+    → map f (groups ++ new ∷ []) ≡ added_at (map f groups) place numbers
+group_new f [] place numbers new all n = ap (λ g. g ∷ []) n
+group_new f (group ∷ groups) zero numbers new all n = absurd (omega arith)
+group_new f (group ∷ groups) (suc place) numbers new all n = ap (λ gs. f group ∷ gs) (group_new f groups place numbers new (omega arith) n)
 
--- ---- groups with one pair more
+-- ---- groups of names
 
-abbrev Groups : Type 0
-Groups = List (List ℕ × List (List ℕ))
-
-abbrev baskets_of : Groups → List NamedBasket
+abbrev pub baskets_of : List Group → List NamedBasket
 baskets_of groups = map (λ group. (group.1, 1)) groups
 
-ids_more : (groups : Groups) (id name : List ℕ) → with_name (map (λ g. g.0) groups) id ≡ map (λ g. g.0) (with_pair groups (id, name))
-ids_more [] id name = refl
-ids_more (group ∷ groups) id name = at (bytes_eq id group.0) (ids_more groups id name)
-  where
-    at : (b : Bool) → with_name (map (λ g. g.0) groups) id ≡ map (λ g. g.0) (with_pair groups (id, name))
-        → cond (b || list_any (bytes_eq id) (map (λ g. g.0) groups)) (group.0 ∷ map (λ g. g.0) groups) (group.0 ∷ map (λ g. g.0) groups ++ id ∷ [])
-        ≡ map (λ g. g.0) (cond b ((group.0, group.1 ++ name ∷ []) ∷ groups) (group ∷ with_pair groups (id, name)))
-    at true later = refl
-    at false later = consed (list_any (bytes_eq id) (map (λ g. g.0) groups)) group.0 id (map (λ g. g.0) groups) ∙ ap (λ ids. group.0 ∷ ids) later
-
-groups_more : (names : List (List ℕ)) (groups : Groups) (id name : List ℕ)
-    → added_at (numbers_of names groups) (number_in (map (λ g. g.0) groups) id) (number_in names name) ≡ numbers_of names (with_pair groups (id, name))
-groups_more names [] id name = refl
-groups_more names (group ∷ groups) id name = at (bytes_eq id group.0) (groups_more names groups id name)
-  where
-    at : (b : Bool) → added_at (numbers_of names groups) (number_in (map (λ g. g.0) groups) id) (number_in names name) ≡ numbers_of names (with_pair groups (id, name))
-        → added_at (map (number_in names) group.1 ∷ numbers_of names groups) (cond (not b) (1 + number_in (map (λ g. g.0) groups) id) 0) (number_in names name)
-        ≡ numbers_of names (cond b ((group.0, group.1 ++ name ∷ []) ∷ groups) (group ∷ with_pair groups (id, name)))
-    at true later = ap (λ g. g ∷ numbers_of names groups) (sym (map-append (number_in names) group.1 (name ∷ [])))
-    at false later =
-        let next : 1 + number_in (map (λ g. g.0) groups) id ≡ suc (number_in (map (λ g. g.0) groups) id) = omega arith in
-        ap (λ place. added_at (map (number_in names) group.1 ∷ numbers_of names groups) place (number_in names name)) next ∙ ap (λ gs. map (number_in names) group.1 ∷ gs) later
-
-groups_stay : (names : List (List ℕ)) (name : List ℕ) (groups : Groups) → are_named names (baskets_of groups) ≡ true → numbers_of (with_name names name) groups ≡ numbers_of names groups
-groups_stay names name [] e = refl
-groups_stay names name (group ∷ groups) e =
+pub groups_stay : (names others : List (List ℕ)) (groups : List Group) → are_named names (baskets_of groups) ≡ true → numbers_of (fold with_name names others) groups ≡ numbers_of names groups
+groups_stay names others [] e = refl
+groups_stay names others (group ∷ groups) e =
     let h = and_parts (are_among names group.1) (are_named names (baskets_of groups)) e in
-    ap (λ g. g ∷ numbers_of (with_name names name) groups) (numbers_stay names (name ∷ []) group.1 h.0) ∙ ap (λ gs. map (number_in names) group.1 ∷ gs) (groups_stay names name groups h.1)
+    ap (λ g. g ∷ numbers_of (fold with_name names others) groups) (numbers_stay names others group.1 h.0) ∙ ap (λ gs. map (number_in names) group.1 ∷ gs) (groups_stay names others groups h.1)
 
 -- ---- what was read, with one pair more
 
-gather_more : (pairs : List (List ℕ × List ℕ)) (pair : List ℕ × List ℕ) → gather (pairs ++ pair ∷ []) ≡ with_pair (gather pairs) pair
-gather_more pairs pair = fold-append with_pair [] pairs (pair ∷ [])
+gather_more : (pairs : List (List ℕ × List ℕ)) (id name : List ℕ) → gather (pairs ++ (id, name) ∷ []) ≡ with_group (gather pairs) (id, name ∷ [])
+gather_more pairs id name = fold-append with_pair [] pairs ((id, name) ∷ []) ∙ sym (one_pair (gather pairs) id name)
 
 names_more : (known : List (List ℕ)) (pairs : List (List ℕ × List ℕ)) (pair : List ℕ × List ℕ) → names_of_pairs known (pairs ++ pair ∷ []) ≡ with_name (names_of_pairs known pairs) pair.1
 names_more known pairs pair =
@@ -86,31 +62,33 @@ names_more known pairs pair =
 pub paired : (old new : Pairs) (known : List (List ℕ)) (pairs : List (List ℕ × List ℕ)) (id name : List ℕ) (number place : ℕ)
     → new.names ≡ with_name old.names name → number ≡ number_in new.names name
     → new.ids ≡ with_name old.ids id → place ≡ number_in new.ids id
-    → map (λ group. group.items) new.groups.items ≡ added_at (map (λ group. group.items) old.groups.items) place number
+    → map (λ group. group.items) new.groups.items ≡ added_at (map (λ group. group.items) old.groups.items) place (number ∷ [])
     → HasPairs old known pairs → HasPairs new known (pairs ++ (id, name) ∷ [])
 paired old new known pairs id name number place a b c d e h =
     let before = names_of_pairs known pairs in
     let after : new.names ≡ with_name before name = a ∙ ap (λ ns. with_name ns name) h.names in
-    let all = gather_more pairs (id, name) in
+    let all = gather_more pairs id name in
     let names = names_more known pairs (id, name) in
     let ids = map (λ g. g.0) (gather pairs) in
     let ids_after : new.ids ≡ with_name ids id = c ∙ ap (λ is. with_name is id) h.ids in
     let at_place : place ≡ number_in ids id = d ∙ ap (λ is. number_in is id) ids_after ∙ number_stays ids id in
     let its_number : number ≡ number_in (with_name before name) name = b ∙ ap (λ ns. number_in ns name) after in
-    let stay : map (λ group. group.items) old.groups.items ≡ numbers_of (with_name before name) (gather pairs) = h.groups ∙ sym (groups_stay before name (gather pairs) (pairs_are_numbered known pairs).1) in
+    let stay : map (λ group. group.items) old.groups.items ≡ numbers_of (with_name before name) (gather pairs) = h.groups ∙ sym (groups_stay before (name ∷ []) (gather pairs) (pairs_are_numbered known pairs).1) in
     record {
       names = after ∙ sym names;
-      ids = ids_after ∙ ids_more (gather pairs) id name ∙ ap (map (λ g. g.0)) (sym all);
-      groups = e ∙ ap (λ gs. added_at gs place number) stay ∙ ap (λ p. added_at (numbers_of (with_name before name) (gather pairs)) p number) at_place
-          ∙ ap (added_at (numbers_of (with_name before name) (gather pairs)) (number_in ids id)) its_number
-          ∙ groups_more (with_name before name) (gather pairs) id name ∙ ap (λ gs. numbers_of (with_name before name) gs) (sym all) ∙ ap (λ ns. numbers_of ns (gather (pairs ++ (id, name) ∷ []))) (sym names);
+      ids = ids_after ∙ ids_more (gather pairs) (id, name ∷ []) ∙ ap (map (λ g. g.0)) (sym all);
+      groups = e ∙ ap (λ gs. added_at gs place (number ∷ [])) stay ∙ ap (λ p. added_at (numbers_of (with_name before name) (gather pairs)) p (number ∷ [])) at_place
+          ∙ ap (λ n. added_at (numbers_of (with_name before name) (gather pairs)) (number_in ids id) (n ∷ [])) its_number
+          ∙ groups_more (with_name before name) (gather pairs) (id, name ∷ []) ∙ ap (λ gs. numbers_of (with_name before name) gs) (sym all) ∙ ap (λ ns. numbers_of ns (gather (pairs ++ (id, name) ∷ []))) (sym names);
     }
 
-pairs_more : (rows : List (List (List ℕ))) (row : List (List ℕ)) → is_nil (trimmed (field_in row 1)) ≡ false → pairs_of (rows ++ row ∷ []) ≡ pairs_of rows ++ pair_of row ∷ []
-pairs_more rows row some =
+pub pairs_both : (rows more : List (List (List ℕ))) → pairs_of (rows ++ more) ≡ pairs_of rows ++ pairs_of more
+pairs_both rows more =
     let has_name : List ℕ × List ℕ → Bool = λ pair. not (is_nil pair.1) in
-    ap (filter has_name) (map-append pair_of rows (row ∷ [])) ∙ filter-append has_name (map pair_of rows) (pair_of row ∷ [])
-    ∙ ap (λ b. pairs_of rows ++ cond (not b) (pair_of row ∷ []) []) some
+    ap (filter has_name) (map-append pair_of rows more) ∙ filter-append has_name (map pair_of rows) (map pair_of more)
+
+pairs_more : (rows : List (List (List ℕ))) (row : List (List ℕ)) → is_nil (trimmed (field_in row 1)) ≡ false → pairs_of (rows ++ row ∷ []) ≡ pairs_of rows ++ pair_of row ∷ []
+pairs_more rows row some = pairs_both rows (row ∷ []) ∙ ap (λ b. pairs_of rows ++ cond (not b) (pair_of row ∷ []) []) some
 
 -- a record whose pair was added
 pub pair_added : {X : Type 0} (new : Pairs) (known : List (List ℕ)) (rows : List (List (List ℕ))) (row : List (List ℕ)) (id name : List ℕ) (r : Result X ReadFault)
@@ -121,7 +99,7 @@ pair_added new known rows row id name r a b some h =
 
 -- a record of a known id and a known name, whose numbers were added
 pub known_paired : (old new : Pairs) (known : List (List ℕ)) (rows : List (List (List ℕ))) (row : List (List ℕ)) (place number : ℕ)
-    → new.names ≡ old.names → new.ids ≡ old.ids → map (λ group. group.items) new.groups.items ≡ added_at (map (λ group. group.items) old.groups.items) place number
+    → new.names ≡ old.names → new.ids ≡ old.ids → map (λ group. group.items) new.groups.items ≡ added_at (map (λ group. group.items) old.groups.items) place (number ∷ [])
     → IsKnownPair old.ids old.names row place number → HasPairs old known (pairs_of rows) → HasPairs new known (pairs_of (rows ++ row ∷ []))
 known_paired old new known rows row place number names same groups pair h =
     let id = pair.id in
@@ -150,33 +128,11 @@ no_fault nth (field ∷ []) two id name = absurd (omega (arith, two))
 no_fault nth (field ∷ other ∷ []) two id name = rw (id, name) refl
 no_fault nth (field ∷ other ∷ more ∷ fields) two id name = absurd (omega (arith, two))
 
--- ---- how many groups there are
-
-with_pair_few : (groups : List (List ℕ × List (List ℕ))) (pair : List ℕ × List ℕ) → length (with_pair groups pair) ≤ length groups + 1
-with_pair_few [] pair = omega arith
-with_pair_few (group ∷ groups) pair = at (bytes_eq pair.0 group.0) (with_pair_few groups pair)
+-- whether a record has a fault does not depend on its number
+pub any_number : (n m : ℕ) (row : List (List ℕ)) → pair_fault n row ≡ None → pair_fault m row ≡ None
+any_number n m row e = at (is_text row) (ltb (length row) 2) e
   where
-    at : (same : Bool) → length (with_pair groups pair) ≤ length groups + 1
-        → length (cond same ((group.0, group.1 ++ pair.1 ∷ []) ∷ groups) (group ∷ with_pair groups pair)) ≤ length (group ∷ groups) + 1
-    at true later = omega arith
-    at false later = omega (arith, later)
-
-gathered_few : (groups : List (List ℕ × List (List ℕ))) (pairs : List (List ℕ × List ℕ)) → length (fold with_pair groups pairs) ≤ length groups + length pairs
-gathered_few groups [] = omega arith
-gathered_few groups (pair ∷ pairs) = omega (arith, gathered_few (with_pair groups pair) pairs, with_pair_few groups pair)
-
--- there are no more groups than records
-pub few_groups : (read : Pairs) (known : List (List ℕ)) (rows : List (List (List ℕ))) → HasPairs read known (pairs_of rows) → length read.groups.items ≤ length rows
-few_groups read known rows has =
-    let names = names_of_pairs known (pairs_of rows) in
-    let groups = gather (pairs_of rows) in
-    let named : List ℕ × List ℕ → Bool = λ pair. not (is_nil pair.1) in
-    omega (
-      arith,
-      length-map read.groups.items (λ group. group.items),
-      ap length has.groups,
-      length-map groups (λ (group : List ℕ × List (List ℕ)). map (number_in names) group.1),
-      gathered_few [] (pairs_of rows),
-      length-filter_both named (λ pair. not (named pair)) (λ pair. refl) (map pair_of rows),
-      length-map rows pair_of,
-    )
+    at : (text short : Bool) → cond text (cond short (Some (ShortRecord n)) None) (Some (NotText n)) ≡ None → cond text (cond short (Some (ShortRecord m)) None) (Some (NotText m)) ≡ None
+    at true false e = refl
+    at true true e = absurd cc
+    at false short e = absurd cc

@@ -1,24 +1,20 @@
 -- A part of a text, none of whose records goes on after it, is read as a text of its own.
-use Rattle.std.proofs.Common.{◌≡◌, ◌⊎◌, inl, inr, ⊎_elim, ℕ, zero, suc, ◌+◌, ◌-◌, ◌<◌, Bool, true, false, cond, eqb, ◌&&◌, ◌||◌, List, [], ◌∷◌, ◌++◌, length, get_or, take, drop, Option, Some, None, refl, sym, ap, ◌∙◌, subst, arith, append-nil}
-use Rattle.std.specs.List.{starts_with}
-use Rattle.std.proofs.lemmas.Bool.{eqb-true, or_parts, and_parts, false≢true}
-use Rattle.std.proofs.lemmas.List.{take_more, take_all, length-drop, get_or-drop}
+use Rattle.std.proofs.Common.{◌≡◌, ◌⊎◌, inl, inr, ⊎_elim, ℕ, zero, suc, ◌+◌, ◌<◌, Bool, true, false, cond, eqb, ◌||◌, List, [], ◌∷◌, ◌++◌, length, Option, Some, None, refl, sym, ap, ◌∙◌, arith, append-nil}
+use Rattle.std.proofs.lemmas.Bool.{eqb-true, or_parts}
 use Rattle.csv.specs.Machine.{Read, next_record, step, in_field, start_field, start_record, ends_at_end, is_end, fields_after, field_after}
-use Rattle.csv.specs.Reading.{records_from, strip_bom, is_bom}
+use Rattle.csv.specs.Reading.{records_from, strip_bom}
 use Rattle.csv.specs.declared.parser.State.{State}
 use Rattle.csv.specs.declared.parser.State.TheVariants as st
 use Rattle.csv.specs.declared.parser.Action.{Action}
 use Rattle.csv.specs.declared.parser.Action.TheVariants as act
 use Rattle.basket_csv.specs.Csv.{after_header}
-use Rattle.basket_csv.specs.Parts.{IsCut, IsWhole}
+use Rattle.basket_csv.specs.Parts.{IsWhole}
 use Rattle.basket_csv.specs.Records.{config_of, records_of, last_after, may_go_on, last_may_go_on}
 use Rattle.basket_csv.proofs.RecordLemmas.{leaves, fewer_left, records_none, records_some}
+use Rattle.basket_csv.proofs.LastLemmas.{last_push}
+use Rattle.basket_csv.proofs.MarkLemmas.{ends_stripped, stripped_part}
 
 -- ---- bytes
-
-last_push : {X : Type 0} (d x : X) (xs : List X) → last_after d (xs ++ x ∷ []) ≡ x
-last_push d x [] = refl
-last_push d x (y ∷ xs) = last_push y x xs
 
 other_byte : (c d : ℕ) → eqb d 10 ≡ false → eqb c d ≡ true → eqb c 10 ≡ false
 other_byte c d other same = ap (λ x. eqb x 10) (eqb-true c d same) ∙ other
@@ -217,48 +213,6 @@ joined separator (suc n) last s bytes more other few fits begins ends whole =
         at None e = records_none (config_of separator) s a (same ∙ e) ∙ sym (records_none (config_of separator) t b e)
         at (Some read) e = records_some (config_of separator) s a read begins (same ∙ e) ∙ sym (records_some (config_of separator) t b read begins2 e)
 
--- ---- the mark at the start of a text
-
--- a mark at the start of a text that ends with a line feed is in that text
-stripped_part : (bytes more : List ℕ) → eqb (last_after 10 bytes) 10 ≡ true → strip_bom more ≡ more → strip_bom (bytes ++ more) ≡ strip_bom bytes ++ more
-unfolding strip_bom
-stripped_part [] more ends none = none
-stripped_part (a ∷ []) more ends none = subst (λ x. strip_bom (x ∷ more) ≡ x ∷ more) (sym (eqb-true a 10 ends)) (at more)
-  where
-    at : (more : List ℕ) → strip_bom (10 ∷ more) ≡ 10 ∷ more
-    at [] = refl
-    at (b ∷ []) = refl
-    at (b ∷ c ∷ more) = refl
-stripped_part (a ∷ b ∷ []) more ends none = subst (λ x. strip_bom (a ∷ x ∷ more) ≡ a ∷ x ∷ more) (sym (eqb-true b 10 ends)) (at more)
-  where
-    at : (more : List ℕ) → strip_bom (a ∷ 10 ∷ more) ≡ a ∷ 10 ∷ more
-    at [] = refl
-    at (c ∷ more) = first (eqb a 0xEF) (eqb c 0xBF)
-      where
-        first : (x y : Bool) → cond ((x && false) && y) more (a ∷ 10 ∷ c ∷ more) ≡ a ∷ 10 ∷ c ∷ more
-        first true true = refl
-        first true false = refl
-        first false true = refl
-        first false false = refl
-stripped_part (a ∷ b ∷ c ∷ bytes) more ends none = at (is_bom a b c)
-  where
-    at : (is : Bool) → cond is (bytes ++ more) (a ∷ b ∷ c ∷ (bytes ++ more)) ≡ cond is bytes (a ∷ b ∷ c ∷ bytes) ++ more
-    at true = refl
-    at false = refl
-
--- and what is left ends with a line feed too
-ends_stripped : (bytes : List ℕ) → eqb (last_after 10 bytes) 10 ≡ true → eqb (last_after 10 (strip_bom bytes)) 10 ≡ true
-unfolding strip_bom
-ends_stripped [] ends = ends
-ends_stripped (a ∷ []) ends = ends
-ends_stripped (a ∷ b ∷ []) ends = ends
-ends_stripped (a ∷ b ∷ c ∷ bytes) ends = at (is_bom a b c) bytes ends
-  where
-    at : (is : Bool) (bytes : List ℕ) → eqb (last_after c bytes) 10 ≡ true → eqb (last_after 10 (cond is bytes (a ∷ b ∷ c ∷ bytes))) 10 ≡ true
-    at true [] ends = refl
-    at true (d ∷ bytes) ends = ends
-    at false bytes ends = ends
-
 -- ---- the law
 
 pub no_records : (separator : ℕ) → records_of separator [] ≡ []
@@ -285,40 +239,3 @@ whole_part separator header part other whole has more (inr cut) =
     passed false first has = refl
     passed true [] has = absurd (let some = has refl in omega (arith, some))
     passed true (row ∷ first) has = refl
-
--- ---- the end of a part
-
--- a text that doesn't start with the mark has none
-pub no_mark : (bytes : List ℕ) → starts_with eqb bytes (0xEF ∷ 0xBB ∷ 0xBF ∷ []) ≡ false → strip_bom bytes ≡ bytes
-unfolding strip_bom
-no_mark [] none = refl
-no_mark (a ∷ []) none = refl
-no_mark (a ∷ b ∷ []) none = refl
-no_mark (a ∷ b ∷ c ∷ bytes) none = at (is_bom a b c) refl
-  where
-    begins : (a b c : ℕ) → a ≡ 0xEF → b ≡ 0xBB → c ≡ 0xBF → starts_with eqb (a ∷ b ∷ c ∷ bytes) (0xEF ∷ 0xBB ∷ 0xBF ∷ []) ≡ true
-    begins a b c e f g = rw (e, f, g) refl
-
-    at : (is : Bool) → is_bom a b c ≡ is → cond is bytes (a ∷ b ∷ c ∷ bytes) ≡ a ∷ b ∷ c ∷ bytes
-    at false e = refl
-    at true e =
-        let (two, third) = and_parts (eqb a 0xEF && eqb b 0xBB) (eqb c 0xBF) e in
-        let (first, second) = and_parts (eqb a 0xEF) (eqb b 0xBB) two in
-        absurd (false≢true (sym none ∙ begins a b c (eqb-true a 0xEF first) (eqb-true b 0xBB second) (eqb-true c 0xBF third)))
-
--- what is left after a place
-left_after : (bytes : List ℕ) (place : ℕ) → take (length bytes - place) (drop place bytes) ≡ drop place bytes
-left_after bytes place = take_all (length bytes - place) (drop place bytes) (let left = length-drop place bytes in omega (arith, left))
-
--- a text may be cut after a line feed, if it doesn't go on with the mark
-pub cut_after : (bytes : List ℕ) (place more : ℕ) → more < length (take (length bytes - place) (drop place bytes)) → get_or (take (length bytes - place) (drop place bytes)) more 0 ≡ 10
-    → starts_with eqb (take (length bytes - (place + more + 1)) (drop (place + more + 1) bytes)) (0xEF ∷ 0xBB ∷ 0xBF ∷ []) ≡ false
-    → IsCut (take (place + more + 1) bytes) (drop (place + more + 1) bytes)
-cut_after bytes place more within is none =
-    let left = ap length (left_after bytes place) ∙ length-drop place bytes in
-    let inside : place + more < length bytes = omega (arith, left, within) in
-    let byte : get_or bytes (place + more) 0 ≡ 10 = sym (get_or-drop place bytes more 0) ∙ ap (λ l. get_or l more 0) (sym (left_after bytes place)) ∙ is in
-    inr (
-      ap (last_after 10) (take_more bytes (place + more) 0 inside) ∙ last_push 10 (get_or bytes (place + more) 0) (take (place + more) bytes) ∙ byte,
-      no_mark (drop (place + more + 1) bytes) (ap (λ l. starts_with eqb l (0xEF ∷ 0xBB ∷ 0xBF ∷ [])) (sym (left_after bytes (place + more + 1))) ∙ none),
-    )

@@ -1,11 +1,7 @@
 -- A record takes two bytes, except that the last may take one, so that a text has only so many.
-use Rattle.std.proofs.Common.{◌≡◌, ℕ, zero, suc, ◌+◌, ◌-◌, ◌*◌, ◌≤◌, ◌<◌, Bool, true, false, cond, eqb, ◌&&◌, List, [], ◌∷◌, ◌++◌, length, Option, Some, None, unwrap_or, Bor, refl, sym, ap, ◌∙◌, subst, arith}
+use Rattle.std.proofs.Common.{◌≡◌, ℕ, zero, suc, ◌+◌, ◌-◌, ◌*◌, ◌≤◌, ◌<◌, Bool, true, false, cond, eqb, ◌&&◌, List, [], ◌∷◌, ◌++◌, length, Option, Some, None, refl, sym, ap, ◌∙◌, subst, arith}
 use Rattle.csv.specs.Machine.{Read, next_record, step, in_field, start_field, start_record, after_end, ends_with, is_byte, ends_at_end, is_end, fields_after, field_after}
-use Rattle.std.specs.Prelude.{slice_get}
-use Rattle.csv.specs.Records.{field_at}
-use Rattle.csv.specs.Reading.{records, records_from, records_next, source_of, ReadRecord, Reached, strip_bom, is_bom}
-use Rattle.csv.specs.declared.reader.Reader.{Reader}
-use Rattle.csv.proofs.ReadFacts.{rows-more, rows-end}
+use Rattle.csv.specs.Reading.{records_from, records_next, strip_bom}
 use Rattle.csv.specs.declared.parser.Config.{Config}
 use Rattle.csv.specs.declared.parser.State.{State}
 use Rattle.csv.specs.declared.parser.State.TheVariants as st
@@ -15,7 +11,8 @@ use Rattle.csv.specs.declared.parser.Terminator.{Terminator}
 use Rattle.csv.specs.declared.parser.Terminator.TheVariants as term
 use Rattle.basket_read.specs.Fimi.{MOST_BYTES}
 use Rattle.basket_csv.specs.Csv.{after_header}
-use Rattle.basket_csv.specs.Records.{MOST_RECORDS, config_of, last_after, may_go_on, records_of}
+use Rattle.basket_csv.specs.Records.{MOST_RECORDS, config_of, records_of}
+use Rattle.basket_csv.proofs.MarkLemmas.{stripped}
 
 -- a step that ends a record leaves a state at which the end of the text ends none
 abbrev Ends : State × Action → Type 0
@@ -183,70 +180,7 @@ few_records cfg (suc n) s bytes begins = at (next_record cfg s [] [] bytes) refl
         let two = two_bytes cfg s bytes read begins e in
         omega (arith, few, fewer, two)
 
--- ---- a reader of records
-
--- the bytes and the records that a reader of bytes in memory has left
-abbrev Memory : Type 0
-Memory = Reader (Bor (List ℕ))
-
-abbrev known : Memory → Option (List ℕ)
-known r = source_of (λ s. Some s.now) r
-
-abbrev left : Memory → List ℕ
-left r = unwrap_or (known r) []
-
-abbrev rows : Memory → List (List (List ℕ))
-rows r = records_from r.config (length (left r) + 1) r.state (left r)
-
--- what a reader of records has and keeps
-pub record Goes (a b : Reader (Bor (List ℕ))) (row : List (List ℕ)) : Type 0 where
-  pub begins : ends_at_end b.state ≡ false
-  pub known : source_of (λ s. Some s.now) b ≡ Some (unwrap_or (source_of (λ s. Some s.now) b) [])
-  pub rows : records_from a.config (length (unwrap_or (source_of (λ s. Some s.now) a) []) + 1) a.state (unwrap_or (source_of (λ s. Some s.now) a) [])
-      ≡ row ∷ records_from b.config (length (unwrap_or (source_of (λ s. Some s.now) b) []) + 1) b.state (unwrap_or (source_of (λ s. Some s.now) b) [])
-
-pub read_next : (a b : Reader (Bor (List ℕ))) (row : List (List ℕ)) → ends_at_end a.state ≡ false → known a ≡ Some (left a) → ReadRecord (λ s. Some s.now) a b true row → Goes a b row
-unfolding Reached
-read_next a b row begins e r =
-    let h = rows-more (λ (s : Bor (List ℕ)). Some s.now) a b row a.config a.state (left a) (left a) [] refl e (refl, refl) r in
-    let (z, at_z, reached) = h in
-    let (read, next, same, ends) = reached in
-    let (state, rest) = ends in
-    let fewer = leaves a.config a.state [] [] (left a) read next in
-    let left_z : left b ≡ z = ap (λ o. unwrap_or o []) at_z in
-    let goes_on : records_from a.config (length read.2 + 1) read.1 read.2 ≡ rows b =
-    ap (λ bytes. records_from a.config (length bytes + 1) read.1 bytes) (rest ∙ sym left_z) ∙ ap (λ s. records_from a.config (length (left b) + 1) s (left b)) state
-    ∙ ap (λ cfg. records_from cfg (length (left b) + 1) b.state (left b)) (sym r.2) in
-    record {
-      begins = ap ends_at_end (sym state) ∙ fewer.begins;
-      known = at_z ∙ ap Some (sym left_z);
-      rows = records_some a.config a.state (left a) read begins next ∙ ap (λ row. row ∷ records_from a.config (length read.2 + 1) read.1 read.2) (sym same) ∙ ap (λ later. row ∷ later) goes_on;
-    }
-
-pub read_last : (a b : Reader (Bor (List ℕ))) (row : List (List ℕ)) → known a ≡ Some (left a) → ReadRecord (λ s. Some s.now) a b false row → rows a ≡ []
-read_last a b row e r = records_none a.config a.state (left a) (rows-end (λ (s : Bor (List ℕ)). Some s.now) a b row a.config (left a) refl e r)
-
--- a text is no longer without its mark
-stripped_mark : (a b c : ℕ) (bytes : List ℕ) (is : Bool) → length (cond is bytes (a ∷ b ∷ c ∷ bytes)) ≤ length (a ∷ b ∷ c ∷ bytes)
-stripped_mark a b c bytes true = omega arith
-stripped_mark a b c bytes false = omega arith
-
-pub stripped : (bytes : List ℕ) → length (strip_bom bytes) ≤ length bytes
-unfolding strip_bom
-stripped [] = omega arith
-stripped (a ∷ []) = omega arith
-stripped (a ∷ b ∷ []) = omega arith
-stripped (a ∷ b ∷ c ∷ bytes) = stripped_mark a b c bytes (is_bom a b c)
-
-pub known_bytes : (o : Option (List ℕ)) (bytes : List ℕ) → o ≡ Some bytes → o ≡ Some (unwrap_or o [])
-known_bytes o bytes e = e ∙ ap (λ p. Some (unwrap_or p [])) (sym e)
-
--- a new reader of bytes in memory has all their records left
-pub all_left : (r : Reader (Bor (List ℕ))) (cfg : Config) (bytes : List ℕ) → r.config ≡ cfg → r.state ≡ st.StartRecord → source_of (λ s. Some s.now) r ≡ Some bytes
-    → records_from r.config (length (unwrap_or (source_of (λ s. Some s.now) r) []) + 1) r.state (unwrap_or (source_of (λ s. Some s.now) r) []) ≡ records cfg bytes
-all_left r cfg bytes config state e =
-    ap (λ o. records_from r.config (length (unwrap_or o []) + 1) r.state (unwrap_or o [])) e ∙ ap (λ s. records_from r.config (length bytes + 1) s bytes) state
-    ∙ ap (λ cfg. records_from cfg (length bytes + 1) st.StartRecord bytes) config
+-- ---- texts
 
 -- a text that is not too long has no more records than that
 pub few_records_of : (separator : ℕ) (bytes : List ℕ) → length bytes ≤ MOST_BYTES → length (records_of separator bytes) ≤ MOST_RECORDS
@@ -262,36 +196,3 @@ few_of_text separator header bytes short = at header (records_of separator bytes
     at false rows few = few
     at true [] few = few
     at true (row ∷ rows) few = omega (arith, few)
-
--- ---- how a record ends
-
-last_field : (field : List ℕ) (fields : List (List ℕ)) → field_at (field ∷ fields) (length fields) ≡ Some (last_after field fields)
-unfolding field_at
-last_field field [] = refl
-last_field field (next ∷ fields) = last_field next fields
-
-last_byte : (byte : ℕ) (bytes : List ℕ) → slice_get (byte ∷ bytes) (length bytes) ≡ Some (last_after byte bytes)
-last_byte byte [] = refl
-last_byte byte (next ∷ bytes) = last_byte next bytes
-
-last_in : (field : List ℕ) → unwrap_or (slice_get field (length field - 1)) 0 ≡ last_after 0 field
-last_in [] = refl
-last_in (byte ∷ bytes) =
-    let place : length (byte ∷ bytes) - 1 ≡ length bytes = omega arith in
-    ap (λ n. unwrap_or (slice_get (byte ∷ bytes) n) 0) place ∙ ap (λ o. unwrap_or o 0) (last_byte byte bytes)
-
--- a record may go on if its last field has a last byte, which is a line feed
-pub some_field : (fields : List (List ℕ)) (place : ℕ) (field : List ℕ) (byte : Option ℕ) → place ≡ length fields - 1 → Some field ≡ field_at fields place
-    → byte ≡ slice_get field (length field - 1) → may_go_on fields ≡ eqb (unwrap_or byte 0) 10
-unfolding field_at
-some_field [] place field byte at_place is ends = absurd cc
-some_field (first ∷ fields) place field byte at_place is ends =
-    let last : place ≡ length fields = omega (arith, at_place) in
-    let same : last_after first fields ≡ field = ap (λ o. unwrap_or o []) (sym (is ∙ ap (field_at (first ∷ fields)) last ∙ last_field first fields)) in
-    ap (λ f. eqb (last_after 0 f) 10) same ∙ ap (λ c. eqb c 10) (sym (last_in field)) ∙ ap (λ o. eqb (unwrap_or o 0) 10) (sym ends)
-
-pub no_field : (fields : List (List ℕ)) (place : ℕ) → place ≡ length fields - 1 → None ≡ field_at fields place → may_go_on fields ≡ false
-no_field [] place at_place is = refl
-no_field (first ∷ fields) place at_place is =
-    let last : place ≡ length fields = omega (arith, at_place) in
-    absurd (let none : ◌≡◌ {A = Option (List ℕ)} None (Some (last_after first fields)) = is ∙ ap (field_at (first ∷ fields)) last ∙ last_field first fields in cc)

@@ -1,14 +1,15 @@
 -- What has been read of records that have an id and a name each.
 use Rattle.std.specs.Prelude.{◌≡◌, ℕ, zero, suc, List, [], ◌∷◌, ◌++◌, map}
 use Rattle.basket_csv.specs.declared.pairs.Pairs.{Pairs}
-use Rattle.basket_csv.specs.Csv.{gather, names_of_pairs}
+use Rattle.basket_csv.specs.Csv.{gather, names_of_pairs, pairs_of}
 use Rattle.basket_csv.specs.Names.{number_in}
+use Rattle.basket_csv.specs.Part.{Rows}
 
--- lists of numbers with one number more, in the list at a place or in a new last one
-abbrev pub added_at : List (List ℕ) → ℕ → ℕ → List (List ℕ)
-added_at [] place number = (number ∷ []) ∷ []
-added_at (group ∷ groups) zero number = (group ++ number ∷ []) ∷ groups
-added_at (group ∷ groups) (suc place) number = group ∷ added_at groups place number
+-- lists of numbers with more numbers, in the list at a place or in a new last one
+abbrev pub added_at : List (List ℕ) → ℕ → List ℕ → List (List ℕ)
+added_at [] place numbers = numbers ∷ []
+added_at (group ∷ groups) zero numbers = (group ++ numbers) ∷ groups
+added_at (group ∷ groups) (suc place) numbers = group ∷ added_at groups place numbers
 
 -- the numbers of the names of each group
 abbrev pub numbers_of : List (List ℕ) → List (List ℕ × List (List ℕ)) → List (List ℕ)
@@ -19,3 +20,7 @@ pub record HasPairs (read : Pairs) (known : List (List ℕ)) (pairs : List (List
   pub names : read.names ≡ names_of_pairs known pairs
   pub ids : read.ids ≡ map (λ group. group.0) (gather pairs)
   pub groups : map (λ group. group.items) read.groups.items ≡ numbers_of (names_of_pairs known pairs) (gather pairs)
+
+-- the same of the records of a part, whose ids and names are numbered apart
+abbrev pub HasPartPairs : Pairs → Rows → Type 0
+HasPartPairs part rows = HasPairs part [] (pairs_of rows)

@@ -8,7 +8,7 @@ ghost use Rattle.basket_csv.specs.Csv.{Named, is_text, weight_of, weight_written
 ghost use Rattle.basket_csv.specs.Names.{number_in, with_name};
 ghost use Rattle.basket_csv.specs.Baskets.{AreNamedCounts, HasRead};
 
-use crate::collector::RecordCollector;
+use crate::collector::{RecordCollector, TextCollector};
 use crate::field::trim;
 use crate::names::{Names, Numbering};
 use crate::row::{number_names, text_at};
@@ -104,15 +104,7 @@ impl Baskets {
 }
 
 impl RecordCollector for Baskets {
-    type Found = ItemCounts;
-
-    ghost Said = { Named };
-
-    ghost fault_of = { λ start. basket_fault start.weighted };
-
-    ghost said_of = { λ start. baskets_said start.weighted start.known };
-
-    ghost finds = { λ start. AreNamedCounts start.counting };
+    ghost fault_of = { basket_fault };
 
     ghost has_read = { λ baskets start rows. HasRead baskets start rows };
 
@@ -120,6 +112,16 @@ impl RecordCollector for Baskets {
         let weight = number_basket(self.weighted, nth, row, &mut self.names, &mut self.numbers)?;
         self.gathered.add(&self.numbers, weight)
     }
+}
+
+impl TextCollector for Baskets {
+    type Found = ItemCounts;
+
+    ghost Said = { Named };
+
+    ghost said_of = { λ start. baskets_said start.weighted start.known };
+
+    ghost finds = { λ start. AreNamedCounts start.counting };
 
     fn finish(self) -> Result<(ItemCounts, Names), ReadFault> {
         let Baskets {

@@ -1,5 +1,5 @@
 //! Adding the records of a text, one after another.
-ghost use Rattle.std.specs.Prelude.{◌≡◌, ◌≢◌, ◌≤◌, ◌+◌, List, ℕ, [], ◌∷◌, ◌++◌, length, Option, None, Result, true, MatchResult, OnOk, IfOk, IfErr};
+ghost use Rattle.std.specs.Prelude.{◌≡◌, ◌≢◌, ◌≤◌, ◌+◌, Bool, List, ℕ, [], ◌∷◌, ◌++◌, length, Option, None, Result, true, MatchResult, OnOk, IfOk, IfErr};
 ghost use Rattle.csv.specs.Records.{fields_of};
 ghost use Rattle.basket_read.specs.declared.fault.ReadFault.{ReadFault};
 ghost use Rattle.basket_read.specs.declared.fault.ReadFault.TheVariants.{Read};
@@ -13,6 +13,7 @@ ghost use Rattle.basket_csv.specs.Parts.{IsWhole};
 use crate::dialect::Dialect;
 use crate::names::Names;
 use crate::records::Records;
+use crate::seed::Seed;
 use basket_read::{MAX_BYTES, ReadFault};
 use csv::ByteRecord;
 use std::alloc::Global;
@@ -20,20 +21,8 @@ use std::alloc::Global;
 /// What records are added to. After a faulty record, or if memory runs out, all that was added is
 /// lost.
 pub trait RecordCollector {
-    /// What the records are read as, beside the names.
-    type Found;
-
-    // What is defined of records.
-    ghost Said: { Type 0 };
-
-    // The fault of a record with this number.
-    ghost fault_of: { Start → ℕ → List (List ℕ) → Option ReadFault };
-
-    // What records without a fault say.
-    ghost said_of: { Start → List (List (List ℕ)) → Result Said ReadFault };
-
-    // What is found, with the names, fits what is said.
-    ghost finds: { Start → Self.Found × List (List ℕ) → Result Said ReadFault → Type 0 };
+    // The fault of a record with this number, if records have weights or not.
+    ghost fault_of: { Bool → ℕ → List (List ℕ) → Option ReadFault };
 
     // These are the records that were added.
     ghost has_read: { Self → Start → List (List (List ℕ)) → Type 0 };
@@ -43,20 +32,45 @@ pub trait RecordCollector {
         requires few { nth ≤ MOST_RECORDS }
         requires read { (start : Start) × (rows : List (List (List ℕ))) × (start.first + length rows ≡ nth) × has_read self.old start rows }
         ensures fault { (start : Start) (rows : List (List (List ℕ))) → has_read self.old start rows →
-            MatchResult result (λ _. fault_of start nth (fields_of row.now) ≡ None) (λ fault. ReturnsFault fault (fault_of start nth (fields_of row.now))) }
+            MatchResult result (λ _. fault_of start.weighted nth (fields_of row.now) ≡ None) (λ fault. ReturnsFault fault (fault_of start.weighted nth (fields_of row.now))) }
         ensures read { (start : Start) (rows : List (List (List ℕ))) → start.first + length rows ≡ nth → has_read self.old start rows →
             OnOk result (has_read self.new start (rows ++ fields_of row.now ∷ [])) }
         ensures not_read { IfErr result (λ fault. fault ≢ Read) };
+}
+
+/// A collector of all records of a text.
+pub trait TextCollector: RecordCollector {
+    /// What the records are read as, beside the names.
+    type Found;
+
+    // What is defined of records.
+    ghost Said: { Type 0 };
+
+    // What records without a fault say.
+    ghost said_of: { Start → List (List (List ℕ)) → Result Said ReadFault };
+
+    // What is found, with the names, fits what is said.
+    ghost finds: { Start → Self.Found × List (List ℕ) → Result Said ReadFault → Type 0 };
 
     /// What the records say, none of which has a fault.
     fn finish(self) -> Result<(Self::Found, Names), ReadFault>
-        requires { (start : Start) × (rows : List (List (List ℕ))) × (length rows ≤ MOST_RECORDS) × has_read self start rows }
-        ensures said { (start : Start) (rows : List (List (List ℕ))) → has_read self start rows → ReturnsBy (finds start) result (said_of start rows) }
+        requires { (start : Start) × (rows : List (List (List ℕ))) × (length rows ≤ MOST_RECORDS) × Self.has_read self start rows }
+        ensures said { (start : Start) (rows : List (List (List ℕ))) → Self.has_read self start rows → ReturnsBy (finds start) result (said_of start rows) }
         ensures not_read { IfErr result (λ fault. fault ≢ Read) };
 }
 
+/// A collector of the records of a part of a text, whose names are numbered apart from those of
+/// other parts.
+pub trait PartCollector: RecordCollector + Drop + Send + Sized {
+    /// Nothing is read yet.
+    fn of_part(alloc: Global, seed: Seed, weighted: bool) -> Self
+        ensures read { (start : Start) → start.weighted ≡ weighted → start.known ≡ [] → Self.has_read result start [] }
+        // Whether a record has a fault does not depend on its number.
+        ensures any_number { (n m : ℕ) (row : List (List ℕ)) → Self.fault_of weighted n row ≡ None → Self.fault_of weighted m row ≡ None };
+}
+
 /// What the bytes of an input say: their records, except the header, unless they are too many.
-pub fn say<C: RecordCollector + Drop>(
+pub fn say<C: TextCollector + Drop>(
     alloc: Global,
     bytes: &[u8],
     dialect: Dialect,
@@ -64,7 +78,7 @@ pub fn say<C: RecordCollector + Drop>(
 ) -> Result<(C::Found, Names), ReadFault>
     requires { (start : Start) × (start.first ≡ first_number dialect.header) × C.has_read collector start [] }
     ensures said { (start : Start) → start.first ≡ first_number dialect.header → C.has_read collector start [] →
-        ReturnsBy (C.finds start) result (bytes_say dialect.separator dialect.header (C.fault_of start) (C.said_of start) bytes.now) }
+        ReturnsBy (C.finds start) result (bytes_say dialect.separator dialect.header (C.fault_of start.weighted) (C.said_of start) bytes.now) }
     ensures not_read { IfErr result (λ fault. fault ≢ Read) }
     ensures within { OnOk result (length bytes.now ≤ MOST_BYTES) }
 {
@@ -75,32 +89,49 @@ pub fn say<C: RecordCollector + Drop>(
     collector.finish()
 }
 
-/// Adds all records of the bytes except the header, up to the first with a fault. So many records came before. Returns
-/// whether none of them goes on after the bytes.
+/// How the records of some bytes were added.
+#[derive(Clone, Copy)]
+pub struct Added {
+    /// How many were added.
+    pub records: u32,
+    /// Whether none of them goes on after the bytes.
+    pub whole: bool,
+}
+
+/// Adds all records of the bytes except the header, up to the first with a fault. So many records
+/// came before.
 pub fn add_all<C: RecordCollector>(
     alloc: Global,
     bytes: &[u8],
     dialect: Dialect,
     before: u32,
     collector: &mut C,
-) -> Result<bool, ReadFault>
+) -> Result<Added, ReadFault>
     requires few { before + length (records_of dialect.separator bytes.now) ≤ MOST_RECORDS }
     requires read { (start : Start) × (rows : List (List (List ℕ))) × (start.first + length rows ≡ before + first_number dialect.header) × C.has_read collector.old start rows }
     ensures fault { (start : Start) (rows : List (List (List ℕ))) → start.first + length rows ≡ before + first_number dialect.header → C.has_read collector.old start rows →
-        let found = fault_from (C.fault_of start) (before + first_number dialect.header) (after_header dialect.header (records_of dialect.separator bytes.now)) in
+        let found = fault_from (C.fault_of start.weighted) (before + first_number dialect.header) (after_header dialect.header (records_of dialect.separator bytes.now)) in
         MatchResult result (λ _. found ≡ None) (λ fault. ReturnsFault fault found) }
     ensures read { (start : Start) (rows : List (List (List ℕ))) → start.first + length rows ≡ before + first_number dialect.header → C.has_read collector.old start rows →
         OnOk result (C.has_read collector.new start (rows ++ after_header dialect.header (records_of dialect.separator bytes.now))) }
-    ensures whole { IfOk result (λ whole. whole ≡ true → IsWhole dialect.separator dialect.header bytes.now) }
+    ensures records { IfOk result (λ added. added.records ≡ length (after_header dialect.header (records_of dialect.separator bytes.now))) }
+    ensures whole { IfOk result (λ added. added.whole ≡ true → IsWhole dialect.separator dialect.header bytes.now) }
     ensures not_read { IfErr result (λ fault. fault ≢ Read) }
 {
     let mut records = Records::new(alloc, bytes, dialect.separator, before);
     if !records.pass_header(dialect.header)? {
         // More bytes would begin with the header.
-        return Ok(false);
+        return Ok(Added {
+            records: 0,
+            whole: false,
+        });
     }
+    let passed = records.taken();
     add_left(collector, &mut records)?;
-    Ok(dialect.separator != b'\n' && !records.may_go_on())
+    Ok(Added {
+        records: records.taken() - passed,
+        whole: dialect.separator != b'\n' && !records.may_go_on(),
+    })
 }
 
 /// Adds the records that are left, up to the first with a fault.
@@ -111,10 +142,11 @@ fn add_left<C: RecordCollector>(
     requires reading { IsReading records.old }
     requires read { (start : Start) × (rows : List (List (List ℕ))) × (start.first + length rows ≡ records_taken records.old + 1) × C.has_read collector.old start rows }
     ensures fault { (start : Start) (rows : List (List (List ℕ))) → start.first + length rows ≡ records_taken records.old + 1 → C.has_read collector.old start rows →
-        let found = fault_from (C.fault_of start) (records_taken records.old + 1) (records_left records.old) in
+        let found = fault_from (C.fault_of start.weighted) (records_taken records.old + 1) (records_left records.old) in
         MatchResult result (λ _. found ≡ None) (λ fault. ReturnsFault fault found) }
     ensures read { (start : Start) (rows : List (List (List ℕ))) → start.first + length rows ≡ records_taken records.old + 1 → C.has_read collector.old start rows →
         OnOk result (C.has_read collector.new start (rows ++ records_left records.old)) }
+    ensures taken { OnOk result (records_taken records.new ≡ records_taken records.old + length (records_left records.old)) }
     ensures goes_on { OnOk result (goes_on records.new ≡ last_may_go_on (goes_on records.old) (records_left records.old)) }
     ensures not_read { IfErr result (λ fault. fault ≢ Read) }
 {

@@ -3,7 +3,7 @@ ghost use Rattle.std.specs.Prelude.{◌≡◌, [], Ok, IfOk, IfErr};
 ghost use Rattle.basket_csv.specs.RecordCollector.{Start};
 ghost use Rattle.basket_csv.specs.Counts.{HasCounts, NamedCounts, set_fault, counts_said};
 
-use crate::collector::RecordCollector;
+use crate::collector::{RecordCollector, TextCollector};
 use crate::field::trim;
 use crate::names::{Names, Numbering};
 use crate::row::{number_names, text_at};
@@ -42,15 +42,7 @@ impl Counts {
 }
 
 impl RecordCollector for Counts {
-    type Found = Vec<CountedLine>;
-
-    ghost Said = { NamedCounts };
-
-    ghost fault_of = { λ start. set_fault };
-
-    ghost said_of = { λ start. counts_said start.first start.known };
-
-    ghost finds = { λ start found said. said ≡ Ok (found.0.items, found.1) };
+    ghost fault_of = { λ weighted. set_fault };
 
     ghost has_read = { λ counts start rows. HasCounts counts start rows };
 
@@ -72,6 +64,16 @@ impl RecordCollector for Counts {
         })?;
         Ok(())
     }
+}
+
+impl TextCollector for Counts {
+    type Found = Vec<CountedLine>;
+
+    ghost Said = { NamedCounts };
+
+    ghost said_of = { λ start. counts_said start.first start.known };
+
+    ghost finds = { λ start found said. said ≡ Ok (found.0.items, found.1) };
 
     fn finish(self) -> Result<(Vec<CountedLine>, Names), ReadFault> {
         let Counts { names, lines, .. } = self;

@@ -1,5 +1,5 @@
 //! The ids of baskets, and their numbers by first appearance.
-ghost use Rattle.std.specs.Prelude.{◌≡◌, [], IfOk, IfErr, IfSome, OnOk};
+ghost use Rattle.std.specs.Prelude.{◌≡◌, [], fold, map, IfOk, IfErr, IfSome, OnOk};
 ghost use Rattle.basket_csv.specs.Key.{IsKeyOf};
 ghost use Rattle.basket_csv.specs.Names.{number_in, with_name, IsKnown};
 
@@ -75,5 +75,16 @@ impl Ids {
         let number = self.numbering.number(id)?;
         self.last = RecentName::new(&key, number);
         Ok(number)
+    }
+
+    /// The numbers of ids, which are new or known.
+    pub fn append(&mut self, ids: Ids) -> Result<Vec<u32>, ReadFault>
+        ensures ids { OnOk result (self.new ≡ fold with_name self.old ids) }
+        ensures numbers { IfOk result (λ numbers. numbers.items ≡ map (number_in self.new) ids) }
+        ensures err { IfErr result (λ fault. fault ≡ ReadFault.Memory) }
+    {
+        self.last = FREE;
+        let ids = ids.numbering.into_names()?;
+        self.numbering.numbers_of(&ids)
     }
 }

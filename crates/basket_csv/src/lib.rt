@@ -21,6 +21,7 @@ mod renumbered;
 mod row;
 mod seed;
 mod shared;
+mod texts;
 pub mod worked;
 
 pub use dialect::Dialect;

@@ -89,6 +89,12 @@ impl Numbering {
         }
     }
 
+    pub fn is_empty(&self) -> bool
+        ensures { IsTrue result ↔ (self.now ≡ []) }
+    {
+        self.names.is_empty()
+    }
+
     /// The number of a name, which is new or known. A known name costs a look-up and no allocation.
     #[inline]
     pub fn number(&mut self, name: &str) -> Result<u32, ReadFault>

@@ -1,18 +1,20 @@
 //! Records that have a basket's id and a name each.
-ghost use Rattle.std.specs.Prelude.{◌≡◌, ◌≤◌, List, ℕ, [], ◌∷◌, ◌++◌, length, map, false, None, Ok, OnOk, IfOk, IfErr, IfSome};
+ghost use Rattle.std.specs.Prelude.{◌≡◌, List, ℕ, [], ◌∷◌, ◌++◌, map, false, None, Ok, OnOk, IfOk, IfErr, IfSome};
 ghost use Rattle.std.specs.List.{flat_map};
 ghost use Rattle.csv.specs.Records.{fields_of};
 ghost use Rattle.basket_read.specs.Fimi.{basket_of_numbers};
-ghost use Rattle.basket_sets.specs.Database.{MOST_BASKETS};
 ghost use Rattle.basket_csv.specs.Csv.{Named, pair_fault, pairs_of, pairs_said};
 ghost use Rattle.basket_read.specs.GatheredBaskets.{HasGathered};
 ghost use Rattle.basket_csv.specs.Row.{IsKnownPair};
-ghost use Rattle.basket_csv.specs.Pairs.{HasPairs, added_at};
+ghost use Rattle.basket_csv.specs.Part.{InParts, Rows};
+ghost use Rattle.basket_csv.specs.RecordCollector.{Start};
+ghost use Rattle.basket_csv.specs.Pairs.{HasPairs, HasPartPairs, added_at};
 
-use crate::collector::RecordCollector;
+use crate::collector::{PartCollector, RecordCollector, TextCollector};
 use crate::field::{is_name, trim};
 use crate::ids::Ids;
 use crate::names::{Names, Numbering};
+use crate::renumbered::rename;
 use crate::row::{is_text_from, known_number, text_at};
 use crate::seed::Seed;
 use basket_read::{GatheredBaskets, ReadFault};
@@ -31,7 +33,7 @@ fn add_number(
     place: usize,
     number: u32,
 ) -> Result<(), AllocError>
-    ensures { OnOk result (map (λ group. group.items) groups.new.items ≡ added_at (map (λ group. group.items) groups.old.items) place number) }
+    ensures { OnOk result (map (λ group. group.items) groups.new.items ≡ added_at (map (λ group. group.items) groups.old.items) place (number ∷ [])) }
 {
     if let Some(group) = groups.get_mut(place) {
         group.push(number)?;
@@ -43,9 +45,25 @@ fn add_number(
     Ok(())
 }
 
+/// Adds numbers to the group at a place, or to a new one at the end.
+fn add_numbers(
+    alloc: Global,
+    groups: &mut Vec<Group>,
+    place: usize,
+    numbers: &[u32],
+) -> Result<(), AllocError>
+    ensures { OnOk result (map (λ group. group.items) groups.new.items ≡ added_at (map (λ group. group.items) groups.old.items) place numbers.now) }
+{
+    if let Some(group) = groups.get_mut(place) {
+        group.extend_from_slice(numbers)?;
+        return Ok(());
+    }
+    groups.push(Group::from_slice(alloc, numbers)?)?;
+    Ok(())
+}
+
 /// The baskets of groups of numbers, each of weight 1.
 fn gathered_from(alloc: Global, groups: &[Group]) -> Result<GatheredBaskets, ReadFault>
-    requires few { length groups.now ≤ MOST_BASKETS }
     ensures baskets { IfOk result (λ gathered. HasGathered gathered false (flat_map (λ group. basket_of_numbers group.items 1) groups.now)) }
     ensures err { IfErr result (λ fault. fault ≡ ReadFault.Memory) }
 {
@@ -90,6 +108,46 @@ impl Pairs {
         Ok(())
     }
 
+    /// Adds what was read of the records that come next, whose ids and names are numbered apart.
+    fn append(&mut self, later: Pairs) -> Result<(), ReadFault>
+        requires { (more : List (List ℕ × List ℕ)) × HasPairs later [] more }
+        ensures read { (known : List (List ℕ)) (pairs more : List (List ℕ × List ℕ)) → HasPairs self.old known pairs → HasPairs later [] more → OnOk result (HasPairs self.new known (pairs ++ more)) }
+        ensures err { IfErr result (λ fault. fault ≡ ReadFault.Memory) }
+    {
+        if self.names.is_empty() {
+            // No names are known, and no pairs were read.
+            *self = later;
+            return Ok(());
+        }
+        let Pairs {
+            names,
+            ids,
+            groups,
+            ..
+        } = later;
+        let own = names.into_names()?;
+        let names = self.names.numbers_of(&own)?;
+        let places = self.ids.append(ids)?;
+        let mut numbers = Vec::new(self.alloc);
+        for (nth, group) in groups.iter().enumerate() {
+            rename(group, &names, &mut numbers)?;
+            add_numbers(self.alloc, &mut self.groups, places[nth] as usize, &numbers)?;
+        }
+        Ok(())
+    }
+
+    /// Adds what was read of parts that come one after another.
+    pub fn append_all(&mut self, parts: Vec<Pairs>) -> Result<(), ReadFault>
+        requires { (rows : Rows) × InParts HasPartPairs parts.items rows }
+        ensures read { (known : List (List ℕ)) (rows : Rows) → HasPairs self.old known [] → InParts HasPartPairs parts.items rows → OnOk result (HasPairs self.new known (pairs_of rows)) }
+        ensures err { IfErr result (λ fault. fault ≡ ReadFault.Memory) }
+    {
+        for part in parts {
+            self.append(part)?;
+        }
+        Ok(())
+    }
+
     /// The numbers of the id and the name of a record, if these are its two fields as they are, and
     /// both were found recently.
     #[inline]
@@ -108,15 +166,7 @@ impl Pairs {
 }
 
 impl RecordCollector for Pairs {
-    type Found = Database;
-
-    ghost Said = { Named };
-
-    ghost fault_of = { λ start. pair_fault };
-
-    ghost said_of = { λ start rows. pairs_said start.known (pairs_of rows) };
-
-    ghost finds = { λ start found said. said ≡ Ok found };
+    ghost fault_of = { λ weighted. pair_fault };
 
     ghost has_read = { λ pairs start rows. HasPairs pairs start.known (pairs_of rows) };
 
@@ -143,6 +193,30 @@ impl RecordCollector for Pairs {
         }
         self.add_pair(trim(id), name)
     }
+}
+
+impl PartCollector for Pairs {
+    fn of_part(alloc: Global, seed: Seed, weighted: bool) -> Self
+        ensures read { (start : Start) → start.weighted ≡ weighted → start.known ≡ [] → HasPairs result start.known (pairs_of []) }
+        ensures any_number { (n m : ℕ) (row : List (List ℕ)) → pair_fault n row ≡ None → pair_fault m row ≡ None }
+    {
+        Pairs {
+            alloc,
+            names: Numbering::new(alloc, seed),
+            ids: Ids::new(alloc, seed),
+            groups: Vec::new(alloc),
+        }
+    }
+}
+
+impl TextCollector for Pairs {
+    type Found = Database;
+
+    ghost Said = { Named };
+
+    ghost said_of = { λ start rows. pairs_said start.known (pairs_of rows) };
+
+    ghost finds = { λ start found said. said ≡ Ok found };
 
     /// A basket for each id, with the names of all its records.
     fn finish(self) -> Result<(Database, Names), ReadFault> {

@@ -1,12 +1,12 @@
-//! The records of a part of a text, whose names are numbered apart from those of other parts.
-ghost use Rattle.std.specs.Prelude.{◌≡◌, [], ◌∷◌, ◌++◌, Ok, OnOk, IfErr, length, map};
+//! The records of a part of a text that have a basket each.
+ghost use Rattle.std.specs.Prelude.{◌≡◌, [], ◌∷◌, ◌++◌, ℕ, List, None, OnOk, length};
 ghost use Rattle.basket_csv.specs.RecordCollector.{Start};
 ghost use Rattle.basket_csv.specs.Csv.{basket_fault};
-ghost use Rattle.basket_csv.specs.Part.{FindsPart, HasPart, Rows, size};
+ghost use Rattle.basket_csv.specs.Part.{HasPart, size};
 
 use crate::baskets::number_basket;
-use crate::collector::RecordCollector;
-use crate::names::{Names, Numbering};
+use crate::collector::{PartCollector, RecordCollector};
+use crate::names::Numbering;
 use crate::seed::Seed;
 use basket_read::ReadFault;
 use csv::ByteRecord;
@@ -46,16 +46,28 @@ impl NumberedRecords {
 #[derive(Drop)]
 pub struct Part {
     weighted: bool,
-    names: Numbering,
-    records: NumberedRecords,
+    pub names: Numbering,
+    pub records: NumberedRecords,
     /// The numbers of the names of one record.
     numbers: Vec<u32>,
 }
 
-impl Part {
-    /// Nothing is read yet.
-    pub fn new(alloc: Global, seed: Seed, weighted: bool) -> Self
-        ensures { (start : Start) → start.weighted ≡ weighted → start.known ≡ [] → HasPart result start [] }
+impl RecordCollector for Part {
+    ghost fault_of = { basket_fault };
+
+    ghost has_read = { λ part start rows. HasPart start.weighted part rows };
+
+    fn add(&mut self, nth: u32, row: &ByteRecord) -> Result<(), ReadFault> {
+        let weight = number_basket(self.weighted, nth, row, &mut self.names, &mut self.numbers)?;
+        self.records.push(&self.numbers, weight)?;
+        Ok(())
+    }
+}
+
+impl PartCollector for Part {
+    fn of_part(alloc: Global, seed: Seed, weighted: bool) -> Self
+        ensures read { (start : Start) → start.weighted ≡ weighted → start.known ≡ [] → HasPart start.weighted result [] }
+        ensures any_number { (n m : ℕ) (row : List (List ℕ)) → basket_fault weighted n row ≡ None → basket_fault weighted m row ≡ None }
     {
         Part {
             weighted,
@@ -66,30 +78,5 @@ impl Part {
             },
             numbers: Vec::new(alloc),
         }
-    }
-}
-
-impl RecordCollector for Part {
-    type Found = NumberedRecords;
-
-    ghost Said = { Rows };
-
-    ghost fault_of = { λ start. basket_fault start.weighted };
-
-    ghost said_of = { λ start rows. Ok rows };
-
-    ghost finds = { FindsPart };
-
-    ghost has_read = { λ part start rows. HasPart part start rows };
-
-    fn add(&mut self, nth: u32, row: &ByteRecord) -> Result<(), ReadFault> {
-        let weight = number_basket(self.weighted, nth, row, &mut self.names, &mut self.numbers)?;
-        self.records.push(&self.numbers, weight)?;
-        Ok(())
-    }
-
-    fn finish(self) -> Result<(NumberedRecords, Names), ReadFault> {
-        let Part { names, records, .. } = self;
-        Ok((records, names.into_names()?))
     }
 }

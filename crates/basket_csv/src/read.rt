@@ -10,9 +10,9 @@ use crate::collector::say;
 use crate::counts::Counts;
 use crate::dialect::Dialect;
 use crate::names::Names;
-use crate::pairs::Pairs;
 use crate::seed::Seed;
-use crate::shared::{Reading, say_shared};
+use crate::shared::Reading;
+use crate::texts::{say_baskets, say_pairs};
 use basket_read::{CountedLine, ItemCounts, ReadFault, take_in};
 use basket_sets::Database;
 use basket_stream::Source;
@@ -45,7 +45,7 @@ pub fn read_baskets<R: RandomSource + Threads + Sync, S: Source>(
         weighted: weight,
         counting: false,
     };
-    let (counts, names) = say_shared(rt, reading, &bytes, known, workers)?;
+    let (counts, names) = say_baskets(rt, reading, &bytes, known, workers)?;
     Ok((counts.rest, names))
 }
 
@@ -72,26 +72,33 @@ pub fn count_baskets<R: RandomSource + Threads + Sync, S: Source>(
         weighted: weight,
         counting: true,
     };
-    say_shared(rt, reading, &bytes, known, workers)
+    say_baskets(rt, reading, &bytes, known, workers)
 }
 
-/// Reads a CSV input to its end. Each record is a pair: the id of a basket and a name in it,
-/// both without the spaces and tabs at their ends. A record without a name is ignored. The known
-/// names keep their numbers, and new ones are numbered after them.
-pub fn read_single<R: RandomSource, S: Source>(
+/// Reads a CSV input to its end, by this many workers. Each record is a pair: the id of a basket and
+/// a name in it, both without the spaces and tabs at their ends. A record without a name is ignored.
+/// The known names keep their numbers, and new ones are numbered after them.
+pub fn read_single<R: RandomSource + Threads + Sync, S: Source>(
     rt: &R,
     alloc: Global,
     reader: &mut S,
     dialect: Dialect,
     known: Names,
+    workers: u32,
 ) -> Result<(Database, Names), ReadFault>
     requires { S.has_failed reader.old ≡ false }
     ensures read { Reads IsDefined (pairs_of_csv dialect.separator dialect.header known) IsRead (S.left reader.old) (S.has_failed reader.new) result }
     ensures ended { OnOk result (S.at_end reader.new ≡ true) }
 {
     let bytes = take_in(alloc, reader)?;
-    let pairs = Pairs::new(alloc, Seed::new(rt), known)?;
-    say(alloc, &bytes, dialect, pairs)
+    let reading = Reading {
+        alloc,
+        seed: Seed::new(rt),
+        dialect,
+        weighted: false,
+        counting: false,
+    };
+    say_pairs(rt, reading, &bytes, known, workers)
 }
 
 /// Reads a CSV input to its end. Each record is a count and a set of names: its first field

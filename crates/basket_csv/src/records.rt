@@ -9,7 +9,7 @@ use csv::{ByteRecord, Reader, ReaderBuilder};
 use std::alloc::Global;
 
 /// Whether a record may go on after a text that ends with a line feed: its last field does too, as it can only inside quotes.
-#[tactic(auto, using(crate::proofs::RecordLemmas::some_field, crate::proofs::RecordLemmas::no_field))]
+#[tactic(auto, using(crate::proofs::LastLemmas::some_field, crate::proofs::LastLemmas::no_field))]
 fn may_go_on(row: &ByteRecord) -> bool
     ensures { result ≡ may_go_on (fields_of row.now) }
 {

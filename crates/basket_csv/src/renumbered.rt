@@ -9,11 +9,11 @@ ghost use Rattle.basket_read.specs.Fimi.{if_light};
 ghost use Rattle.basket_read.specs.GatheredBaskets.{AreGathered, Gathers, HasGathered};
 ghost use Rattle.basket_csv.specs.Csv.{all_names, basket_of};
 ghost use Rattle.basket_csv.specs.Names.{with_name};
-ghost use Rattle.basket_csv.specs.Part.{InParts, IsPart, Rows};
+ghost use Rattle.basket_csv.specs.Part.{HasPart, InParts, Rows};
 ghost use Rattle.basket_csv.specs.Renumbered.{AreRenumbered, GathersParts, HaveRows};
 
-use crate::names::{Names, Numbering};
-use crate::part::NumberedRecords;
+use crate::names::Numbering;
+use crate::part::{NumberedRecords, Part};
 use basket_read::{GatheredBaskets, ItemCounts, ReadFault};
 use basket_sets::Database;
 use std::alloc::{AllocError, Global};
@@ -30,16 +30,17 @@ pub struct RenumberedRecords {
 /// known.
 pub fn renumbered(
     alloc: Global,
-    parts: Vec<(NumberedRecords, Names)>,
+    parts: Vec<Part>,
     known: &mut Numbering,
 ) -> Result<Vec<RenumberedRecords>, ReadFault>
-    ensures names { (weighted : Bool) (rows : Rows) → InParts (IsPart weighted) parts.items rows → OnOk result (known.new ≡ fold with_name known.old (all_names weighted rows)) }
-    ensures parts { (weighted : Bool) (rows : Rows) → InParts (IsPart weighted) parts.items rows → IfOk result (λ parts. InParts (AreRenumbered weighted known.new) parts.items rows) }
+    ensures names { (weighted : Bool) (rows : Rows) → InParts (HasPart weighted) parts.items rows → OnOk result (known.new ≡ fold with_name known.old (all_names weighted rows)) }
+    ensures parts { (weighted : Bool) (rows : Rows) → InParts (HasPart weighted) parts.items rows → IfOk result (λ parts. InParts (AreRenumbered weighted known.new) parts.items rows) }
     ensures err { IfErr result (λ fault. fault ≡ ReadFault.Memory) }
 {
     let mut all = Vec::with_capacity(alloc, parts.len())?;
     for part in parts {
-        let (records, names) = part;
+        let Part { names, records, .. } = part;
+        let names = names.into_names()?;
         all.push(RenumberedRecords {
             records,
             names: known.numbers_of(&names)?,
@@ -70,7 +71,7 @@ impl RenumberedRecords {
 }
 
 /// Writes the name of each number.
-fn rename(numbers: &[u32], names: &[u32], renamed: &mut Vec<u32>) -> Result<(), AllocError>
+pub fn rename(numbers: &[u32], names: &[u32], renamed: &mut Vec<u32>) -> Result<(), AllocError>
     requires { IsTrue (list_all (λ number. nat_lt number (length names.now)) numbers.now) }
     ensures { OnOk result (renamed.new.items ≡ map (λ number. slice_index_or names.now number 0) numbers.now) }
 {

@@ -124,7 +124,7 @@ impl PartWork<(Extensions, CountedSets)> for Counted<'_> {
     }
 }
 
-/// So many of the counts, from one place on.
+/// This many of the counts, from a place on.
 fn counts_from(counts: &[u64], first: usize, count: usize) -> &[u64]
     requires { first + count ≤ length counts.now }
     ensures { result.now ≡ slice_range counts.now first (first + count) }
@@ -179,7 +179,7 @@ fn part_count(prefixes: usize, workers: u32) -> u32
     (prefixes / LEAST).clamp(1, most as usize) as u32
 }
 
-/// This many workers, at most 64.
+/// The workers that share a level, at most 64.
 #[derive(Drop)]
 pub struct Workers<'a, R> {
     pub rt: &'a R,

@@ -73,8 +73,9 @@ impl Work {
 
 /// The list of the frequent sets, if it is no longer than the plan's limit, and how much the plan's
 /// miner did for it. The plan's workers pass the gate with each piece of the phase that counts the
-/// items, which is 1, and of Apriori's phases or of the one that mines class by class. The runs and
-/// pairs before the classes pass no gate.
+/// items, which is 1, and of the one that mines class by class, or of those of Apriori that
+/// count. No gate is passed for runs and pairs, nor where a level is found and joined, nor by one
+/// worker that counts alone.
 ///
 /// The fault is `TooMany` if there are more sets than the plan's limit, else `Memory`.
 pub fn mine<R: Threads + Sync, G: Gate + Sync>(

@@ -28,8 +28,8 @@ pub enum Contents {
 }
 
 impl Contents {
-    /// Reads an input to its end, by this many workers except pairs and counted sets in CSV. In CSV the
-    /// known names have the first numbers.
+    /// Reads an input to its end, by this many workers except counted sets in CSV. In CSV the known names
+    /// have the first numbers.
     #[tactic(auto, using(crate::proofs::ContentsLemmas::still))]
     pub fn read<R: RandomSource + Threads + Sync, S: Source>(
         rt: &R,
@@ -58,7 +58,7 @@ impl Contents {
                 known,
                 workers,
             )),
-            Form::Single => named(read_single(rt, alloc, reader, dialect, known)),
+            Form::Single => named(read_single(rt, alloc, reader, dialect, known, workers)),
             Form::Counts => counted(read_combined(rt, alloc, reader, workers)),
             Form::CsvCounts => named_counts(read_named_combined(rt, alloc, reader, dialect, known)),
         }

@@ -1,5 +1,5 @@
 //! Sets with their counts for a plan.
-ghost use Rattle.std.specs.Prelude.{◌≡◌, ◌≢◌, ◌==◌, Ok, Err, IfOk, filter, length};
+ghost use Rattle.std.specs.Prelude.{◌≡◌, ◌≢◌, Ok, Err, IfOk};
 ghost use Rattle.mine_limit.specs.declared.fault.MineFault.{MineFault as MiningFault};
 ghost use Rattle.basket_read.specs.Fault.{Returns};
 ghost use Rattle.basket_outcome.specs.Counted.{IsWhole, gap_in, listing_in, needs_subsets, needs_total};
@@ -8,12 +8,11 @@ ghost use Rattle.basket_outcome.specs.Outcome.{report_of_listing};
 
 use crate::contents::style_of;
 use crate::prepared::PreparedReport;
-use basket_core::{CountedSets, Frequent};
+use basket_core::Frequent;
 use basket_csv::Names;
 use basket_parts::CombinedCounts;
 use basket_plan::{Ask, Plan};
 use basket_read::ReadFault;
-use basket_report::rules_report;
 use basket_sets::Minimum;
 use mine_limit::MineFault;
 use std::alloc::{AllocError, Global};
@@ -75,41 +74,12 @@ pub fn report_listing<R: Threads + Sync>(
     ensures ok { IfOk result (λ made. report_of_listing frequent names.now plan.now.question ≡ Ok (prepared_text made)) }
     ensures err { (fault : MiningFault) → result ≡ Err fault → fault ≢ MineFault.Memory → report_of_listing frequent names.now plan.now.question ≡ Err fault }
 {
-    let style = style_of(names, plan.layout().separator);
+    let ask = plan.ask();
     let limit = plan.limit();
-    let workers = plan.workers();
-    if let Ask::Items = plan.ask() {
-        let items = single_items(alloc, frequent.sets())?;
-        return Ok(PreparedReport::of_sets(alloc, items, style, workers)?);
-    }
-    if frequent.sets().len() > limit as usize {
+    if !matches!(ask, Ask::Items) && frequent.sets().len() > limit as usize {
         return Err(MineFault::TooMany { limit });
     }
-    match plan.ask() {
-        Ask::Items | Ask::Sets => Ok(PreparedReport::of_sets(
-            alloc,
-            frequent.into_sets(),
-            style,
-            workers,
-        )?),
-        Ask::Closed => Ok(PreparedReport::of_closed(alloc, frequent, style, workers)?),
-        Ask::Maximal => Ok(PreparedReport::of_maximal(alloc, frequent, style, workers)?),
-        Ask::Rules(confidence) => {
-            let texts = rules_report(rt, alloc, &frequent, confidence, style, workers)?;
-            Ok(PreparedReport::Texts(texts))
-        }
-    }
-}
-
-/// The sets of one item.
-fn single_items(alloc: Global, sets: &CountedSets) -> Result<CountedSets, AllocError>
-    ensures { IfOk result (λ items. items ≡ filter (λ c. length c.set == 1) sets.now) }
-{
-    let mut items = CountedSets::empty(alloc)?;
-    for place in 0..sets.len() {
-        if sets.size(place) == 1 {
-            items.push(sets.set(alloc, place)?, sets.count(place))?;
-        }
-    }
-    Ok(items)
+    let style = style_of(names, plan.layout().separator);
+    let workers = plan.workers();
+    Ok(PreparedReport::of_frequent(rt, alloc, frequent, ask, style, workers)?)
 }

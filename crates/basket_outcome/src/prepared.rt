@@ -1,18 +1,19 @@
 //! A report that is made but not written yet.
-ghost use Rattle.std.specs.Prelude.{◌≡◌, ◌↔◌, List, true, false, IfOk, IsOk, OnErr, OnOk};
+ghost use Rattle.std.specs.Prelude.{◌≡◌, ◌≢◌, ◌↔◌, ◌==◌, List, true, false, IfOk, IsOk, OnErr, OnOk, filter, length};
 ghost use Rattle.std.specs.Io.KnownBytes.{Appends};
 ghost use Rattle.basket_report.specs.Bytes.{TakesPrefix, joined};
 ghost use Rattle.basket_report.specs.Report.{report_of};
 ghost use Rattle.basket_report.specs.Style.{wording_of};
-ghost use Rattle.basket_rules.specs.Condensed.{closed_in, closed_of, maximal_in, maximal_of};
-ghost use Rattle.basket_rules.specs.Consistency.{IsConsistent};
 ghost use Rattle.basket_rules.specs.Listed.{IsListingOf};
 ghost use Rattle.basket_sets.specs.declared.minimum.Minimum.{Minimum as Bound};
 ghost use Rattle.basket_sets.specs.declared.weighted.Weighted.{Weighted as Basket};
+ghost use Rattle.basket_outcome.specs.Counted.{IsWhole};
+ghost use Rattle.basket_outcome.specs.Outcome.{text_in, text_of};
 ghost use Rattle.basket_outcome.specs.Prepared.{prepared_text};
 
 use basket_core::{CountedSets, Failed, Frequent, MemSink, Sink};
-use basket_report::{SetLines, Style, sets_report, write_texts};
+use basket_plan::Ask;
+use basket_report::{SetLines, Style, rules_report, sets_report, write_texts};
 use basket_rules::{closed, maximal};
 use std::alloc::{AllocError, Global};
 use std::thread::Threads;
@@ -45,32 +46,39 @@ impl PreparedReport {
         }
     }
 
-    /// The report of the closed sets among the frequent ones.
-    pub fn of_closed(
+    /// The report on frequent sets: the items among them, all of them, those that are closed or
+    /// maximal, or the rules, whose texts this many workers make.
+    pub fn of_frequent<R: Threads + Sync>(
+        rt: &R,
         alloc: Global,
         frequent: Frequent,
+        ask: Ask,
         style: Style<'_>,
         workers: u32,
     ) -> Result<Self, AllocError>
-        ensures lists { IfOk result (λ made. IsConsistent frequent.sets → prepared_text made ≡ report_of (wording_of style.entry) (closed_in frequent.sets)) }
-        ensures baskets { IfOk result (λ made. (baskets : List Basket) (minimum : Bound) → IsListingOf baskets minimum frequent
-            → prepared_text made ≡ report_of (wording_of style.entry) (closed_of baskets minimum)) }
+        ensures lists { IfOk result (λ made. IsWhole ask frequent → prepared_text made ≡ text_in (wording_of style.entry) ask frequent) }
+        ensures baskets { IfOk result (λ made. ask ≢ Ask.Items → (baskets : List Basket) (minimum : Bound) → IsListingOf baskets minimum frequent
+            → prepared_text made ≡ text_of (wording_of style.entry) ask baskets minimum) }
     {
-        PreparedReport::of_sets(alloc, closed(alloc, &frequent)?, style, workers)
-    }
-
-    /// The report of the maximal sets among the frequent ones.
-    pub fn of_maximal(
-        alloc: Global,
-        frequent: Frequent,
-        style: Style<'_>,
-        workers: u32,
-    ) -> Result<Self, AllocError>
-        ensures lists { IfOk result (λ made. IsConsistent frequent.sets → prepared_text made ≡ report_of (wording_of style.entry) (maximal_in frequent.sets)) }
-        ensures baskets { IfOk result (λ made. (baskets : List Basket) (minimum : Bound) → IsListingOf baskets minimum frequent
-            → prepared_text made ≡ report_of (wording_of style.entry) (maximal_of baskets minimum)) }
-    {
-        PreparedReport::of_sets(alloc, maximal(alloc, &frequent)?, style, workers)
+        match ask {
+            Ask::Items => {
+                let items = single_items(alloc, frequent.sets())?;
+                PreparedReport::of_sets(alloc, items, style, workers)
+            }
+            Ask::Sets => PreparedReport::of_sets(alloc, frequent.into_sets(), style, workers),
+            Ask::Closed => {
+                let sets = closed(alloc, &frequent)?;
+                PreparedReport::of_sets(alloc, sets, style, workers)
+            }
+            Ask::Maximal => {
+                let sets = maximal(alloc, &frequent)?;
+                PreparedReport::of_sets(alloc, sets, style, workers)
+            }
+            Ask::Rules(confidence) => {
+                let texts = rules_report(rt, alloc, &frequent, confidence, style, workers)?;
+                Ok(PreparedReport::Texts(texts))
+            }
+        }
     }
 
     /// Writes the report to its end and flushes. If the sink fails, it has taken a prefix of it,
@@ -121,4 +129,17 @@ fn text_of(alloc: Global, texts: Vec<Vec<u8>>) -> Result<Vec<u8>, AllocError>
         }
     }
     Ok(all)
+}
+
+/// The sets of one item.
+fn single_items(alloc: Global, sets: &CountedSets) -> Result<CountedSets, AllocError>
+    ensures { IfOk result (λ items. items ≡ filter (λ c. length c.set == 1) sets.now) }
+{
+    let mut items = CountedSets::empty(alloc)?;
+    for place in 0..sets.len() {
+        if sets.size(place) == 1 {
+            items.push(sets.set(alloc, place)?, sets.count(place))?;
+        }
+    }
+    Ok(items)
 }

@@ -1,10 +1,8 @@
 -- What stands at the beginning of an input, and the faults of an input that goes on.
 use Rattle.std.proofs.Common.{◌≡◌, ◌≢◌, ℕ, ◌+◌, ◌-◌, ◌<◌, ◌≤◌, Bool, true, false, ◌&&◌, ◌||◌, not, eqb, ltb, List, [], ◌∷◌, ◌++◌, length, take, drop, cond, Option, Some, None, refl, sym, ap, ◌∙◌, subst, inl, inr, arith, suc, nat_eq, ◌⊎◌, get_or}
 use Rattle.std.specs.Cmp.Lexicographic.{pointwise, bytes_decides}
-use Rattle.std.specs.List.{starts_with}
 use Rattle.std.proofs.lemmas.Bool.{or_cases, cases_lt, ne_eqb, eqb-false, lt-ltb, le-ltb}
-use Rattle.std.proofs.lemmas.List.{append-nil, length-append, length-drop, take_all, take-append-le}
-use Rattle.std.proofs.Math.Logic.{∥∥₁_map}
+use Rattle.std.proofs.lemmas.List.{append-nil, length-append, take_all, take-append-le}
 use Rattle.basket_read.specs.declared.fault.ReadFault.{ReadFault}
 use Rattle.basket_read.specs.declared.fault.ReadFault.TheVariants.{Byte, TooLong}
 use Rattle.basket_read.specs.declared.input.Beginning.{Beginning}
@@ -14,8 +12,8 @@ use Rattle.basket_read.specs.declared.text.Text.{Text}
 use Rattle.basket_read.specs.Fimi.{fault_at, is_line, MARK, text_of, MOST_BYTES, first_fault, or_else, fault_in, may_be_mark, settled_fault}
 use Rattle.basket_read.specs.Laws.{SettledFaultsStay, UnsettledMayBeGood}
 use Rattle.basket_read.specs.Fault.{ReturnsFault}
-use Rattle.basket_read.specs.Text.{IsTextSoFar, HasRoom}
-use Rattle.basket_read.specs.Input.{is_decided, IsBeginning, text_after, IsInputSoFar, IsSomeInput}
+use Rattle.basket_read.specs.Text.{IsTextSoFar}
+use Rattle.basket_read.specs.Input.{is_decided, IsBeginning, text_after, IsInputSoFar}
 use Rattle.basket_read.proofs.TextLemmas.{take_rest}
 use Rattle.basket_read.proofs.theory.Grammar as grammar
 
@@ -150,24 +148,6 @@ settled_stays bytes more fault e =
 
 -- ---- the input so far
 
-text_of_le : (bytes : List ℕ) → length (text_of bytes) ≤ length bytes
-text_of_le bytes = at (starts_with nat_eq bytes MARK)
-  where
-    at : (b : Bool) → length (cond b (drop 3 bytes) bytes) ≤ length bytes
-    at true = let cut = length-drop 3 bytes in omega arith
-    at false = omega arith
-
-text_after_le : (beginning : Beginning) (bytes : List ℕ) → length (text_after beginning bytes) ≤ length bytes
-text_after_le Empty bytes = omega arith
-text_after_le OneByte bytes = omega arith
-text_after_le TwoBytes bytes = omega arith
-text_after_le Decided bytes = text_of_le bytes
-
--- the text has room for what the input has room for
-pub has_room : (input : Input) (more : ℕ) → ((counting : Bool) (bytes : List ℕ) → IsInputSoFar input counting bytes → length bytes + more ≤ MOST_BYTES) → IsSomeInput input → HasRoom input.text more
-has_room input more few some =
-    ∥∥₁_map some (λ w. (text_after input.beginning w.1, (w.0, w.2.text), let shorter = text_after_le input.beginning w.1 in let enough = few w.0 w.1 w.2 in omega arith))
-
 module _ (input : Input) (counting : Bool) (bytes : List ℕ) (r : IsInputSoFar input counting bytes) where
   pub at_beginning : (beginning : Beginning) → input.beginning ≡ beginning → IsBeginning beginning bytes × IsTextSoFar input.text counting (text_after beginning bytes)
   at_beginning beginning e = (subst (λ f. IsBeginning f bytes) e r.beginning, subst (λ f. IsTextSoFar input.text counting (text_after f bytes)) e r.text)
@@ -232,11 +212,6 @@ half_of_two byte other =
 -- a first byte that begins no mark
 pub no_mark : (byte : ℕ) → byte ≢ 239 → (text_of (byte ∷ []) ≡ byte ∷ []) × (is_decided (byte ∷ []) ≡ true)
 no_mark byte other = other_first byte [] (ne_eqb byte 239 other)
-
--- after a part of a piece the input is of some bytes
-pub some_after : (input new : Input) (before : List ℕ) → IsSomeInput input
-    → ((counting : Bool) (bytes : List ℕ) → IsInputSoFar input counting bytes → IsInputSoFar new counting (bytes ++ before)) → IsSomeInput new
-some_after input new before some step = ∥∥₁_map some (λ w. (w.0, w.1 ++ before, step w.0 w.1 w.2))
 
 -- a settled fault at a byte of a piece is that of the piece
 pub settled_in_piece : (bytes piece : List ℕ) (i : ℕ) (fault : ReadFault) → i < length piece

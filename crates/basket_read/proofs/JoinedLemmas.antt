@@ -1,24 +1,21 @@
 -- A text after whole lines.
-use Rattle.std.proofs.Common.{◌≡◌, ℕ, ◌+◌, Bool, true, List, [], ◌∷◌, ◌++◌, length, cond, refl, sym, ap, ◌∙◌, subst, append_assoc, arith, ◌≤◌, false}
+use Rattle.std.proofs.Common.{◌≡◌, ℕ, ◌+◌, Bool, true, List, [], ◌∷◌, ◌++◌, length, cond, refl, sym, ap, ◌∙◌, subst, append_assoc, arith, false}
 use Rattle.std.specs.List.{flat_map}
 use Rattle.std.specs.Option.{option_map}
 use Rattle.std.proofs.lemmas.Grind.{flat_map-append}
 use Rattle.std.proofs.lemmas.List.{append-nil, length-append}
-use Rattle.basket_sets.specs.Database.{MOST_BASKETS}
 use Rattle.basket_sets.specs.Number.{is_digit}
 use Rattle.basket_read.specs.declared.fault.ReadFault.{ReadFault}
 use Rattle.basket_read.specs.declared.fault.ReadFault.TheVariants.{Byte, Number}
 use Rattle.basket_read.specs.declared.text.Text.{Text}
 use Rattle.basket_read.specs.Cut.{Cut, cut_at}
-use Rattle.basket_read.specs.Fimi.{is_line_feed, is_line, is_good, basket_of, baskets_of, line_after, fault_at, fault_after, first_fault, or_else, MOST_BYTES}
+use Rattle.basket_read.specs.Fimi.{is_line_feed, is_line, is_good, basket_of, baskets_of, line_after, fault_at, fault_after, first_fault, or_else}
 use Rattle.basket_read.specs.Line.{line_state, line_at}
-use Rattle.basket_read.specs.GatheredBaskets.{HasGathered, MayKeep}
-use Rattle.basket_read.specs.Text.{IsTextSoFar, HasRoomFor}
+use Rattle.basket_read.specs.GatheredBaskets.{HasGathered}
+use Rattle.basket_read.specs.Text.{IsTextSoFar}
 use Rattle.basket_read.specs.Grammar.{first_fault_by}
 use Rattle.basket_read.specs.Laws.{counted_on, LinesSayTheirs}
-use Rattle.basket_read.proofs.theory.Cuts.{cut, size_after, cut_after}
-use Rattle.basket_read.proofs.RoomLemmas.{merely_at_most, baskets_after}
-use Rattle.basket_read.proofs.theory.Gathered.{kept_few}
+use Rattle.basket_read.proofs.theory.Cuts.{cut_after}
 use Rattle.basket_read.proofs.theory.Grammar as grammar
 
 module _ (prefix : List ℕ) (whole : (cut_at is_line_feed prefix).last ≡ []) where
@@ -91,15 +88,3 @@ texts_joined text other new counting apart bytes more t whole o lines line gathe
       gathered = subst (HasGathered new.gathered counting) (sym (flat_map-append basket_of a k.ended) ∙ ap (λ (j : Cut). flat_map basket_of j.ended) (sym joined)) gathered;
       line = line ∙ o.line ∙ ap (λ (j : Cut). line_at j.last) (sym joined);
     }
-
--- of so few bytes they have few lines and few baskets together
-pub few_joined : (text other : Text) → HasRoomFor text other → text.lines + other.lines ≤ MOST_BYTES
-few_joined text other room =
-    merely_at_most (text.lines + other.lines) MOST_BYTES room
-    (λ w. let t = w.2.1.lines in let o = w.3.1.lines in let a = size_after is_line_feed (cut [] []) w.0 in let b = size_after is_line_feed (cut [] []) w.1 in let small = w.4 in omega arith)
-
-pub kept_together : (text other : Text) → HasRoomFor text other → other.gathered.heavy ≡ false → MayKeep text.gathered (length other.gathered.baskets)
-kept_together text other room light_other light =
-    merely_at_most (length text.gathered.baskets + length other.gathered.baskets) MOST_BASKETS room
-    (λ w. let kept = kept_few text.gathered w.2.0 _ w.2.1.gathered light in let kept_other = kept_few other.gathered w.3.0 _ w.3.1.gathered light_other in
-    let few = baskets_after (cut [] []) w.0 in let few_other = baskets_after (cut [] []) w.1 in let small = w.4 in omega arith)

@@ -3,7 +3,6 @@ mod NumbersLemmas
 mod GatheredLemmas
 mod LineLemmas
 mod TextLemmas
-mod RoomLemmas
 mod InputLemmas
 mod PartsLemmas
 mod ReadLemmas

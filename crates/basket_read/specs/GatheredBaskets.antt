@@ -1,8 +1,8 @@
 -- Baskets that are gathered one after another.
-use Rattle.std.specs.Prelude.{◌≡◌, ◌≤◌, ◌<◌, ◌+◌, ℕ, Bool, true, false, List, [], ◌++◌, length, Result, Ok}
+use Rattle.std.specs.Prelude.{◌≡◌, ◌≤◌, ◌<◌, Bool, true, false, List, [], ◌++◌, Result, Ok}
 use Rattle.basket_sets.specs.declared.weighted.Weighted.{Weighted}
 use Rattle.basket_sets.specs.ItemTable.{HasCounted}
-use Rattle.basket_sets.specs.Database.{MOST_BASKETS, MOST_WEIGHT}
+use Rattle.basket_sets.specs.Database.{MOST_WEIGHT}
 use Rattle.basket_sets.specs.Support.{total_of}
 use Rattle.basket_read.specs.declared.fault.ReadFault.{ReadFault}
 use Rattle.basket_read.specs.declared.item_counts.ItemCounts.{ItemCounts}
@@ -21,10 +21,6 @@ pub record HasGathered (gathered : GatheredBaskets) (counting : Bool) (baskets :
   pub uncounted : counting ≡ false → past ≡ []
   pub counted : HasCounted gathered.table past
   pub kept : HasBaskets gathered.heavy (past ++ gathered.baskets) baskets
-
--- so many more baskets may be kept
-abbrev pub MayKeep : GatheredBaskets → ℕ → Type 0
-MayKeep gathered more = gathered.heavy ≡ false → length gathered.baskets + more ≤ MOST_BASKETS
 
 -- these are the counts of some baskets, which a database may have, and all are kept unless baskets are counted
 abbrev pub AreGathered : Bool → ItemCounts → List Weighted → Type 0

@@ -34,10 +34,6 @@ pub record IsInputSoFar (input : Input) (counting : Bool) (bytes : List ℕ) : T
   pub few : length bytes ≤ MOST_BYTES
   pub text : IsTextSoFar input.text counting (text_after input.beginning bytes)
 
--- the input that was read is of some bytes
-abbrev pub IsSomeInput : Input → Type 0
-IsSomeInput input = ∥ ((counting : Bool) × (bytes : List ℕ) × IsInputSoFar input counting bytes) ∥₁
-
 -- an input that reads more has these bytes after those that it had, or the fault is the one that they all have whatever follows
 abbrev pub TakesOn : Input → List ℕ → Result (Unit {0}) ReadFault → Input → Type 0
 TakesOn input piece result new = (counting : Bool) (bytes : List ℕ) → IsInputSoFar input counting bytes →

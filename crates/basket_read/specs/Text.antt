@@ -1,12 +1,12 @@
 -- What a text that is being read stands for.
-use Rattle.std.specs.Prelude.{◌≡◌, ◌≤◌, ◌+◌, ℕ, Bool, List, [], ◌++◌, length, None, Result, MatchResult, unwrap_or}
+use Rattle.std.specs.Prelude.{◌≡◌, ℕ, Bool, List, [], ◌++◌, length, None, Result, MatchResult, unwrap_or}
 use Rattle.std.specs.List.{flat_map}
 use Rattle.basket_sets.specs.declared.weighted.Weighted.{Weighted}
 use Rattle.basket_read.specs.declared.fault.ReadFault.{ReadFault}
 use Rattle.basket_read.specs.declared.text.Text.{Text}
 use Rattle.basket_read.specs.Cut.{cut_at}
 use Rattle.basket_read.specs.Fault.{ReturnsFault}
-use Rattle.basket_read.specs.Fimi.{is_line_feed, basket_of, basket_of_numbers, first_fault, MOST_BYTES}
+use Rattle.basket_read.specs.Fimi.{is_line_feed, basket_of, basket_of_numbers, first_fault}
 use Rattle.basket_read.specs.GatheredBaskets.{HasGathered}
 use Rattle.basket_read.specs.Line.{LineState, line_state, line_at}
 
@@ -20,14 +20,6 @@ pub record IsTextSoFar (text : Text) (counting : Bool) (bytes : List ℕ) : Type
 -- the text that was read is of these bytes
 abbrev pub IsSomeText : List ℕ → Text → Type 0
 IsSomeText bytes text = (counting : Bool) × IsTextSoFar text counting bytes
-
--- the text that was read is of so few bytes that an input may have so many more
-abbrev pub HasRoom : Text → ℕ → Type 0
-HasRoom text more = ∥ ((bytes : List ℕ) × IsSomeText bytes text × (length bytes + more ≤ MOST_BYTES)) ∥₁
-
--- the two texts that were read are of so few bytes together that an input may have so many
-abbrev pub HasRoomFor : Text → Text → Type 0
-HasRoomFor text other = ∥ ((bytes : List ℕ) × (more : List ℕ) × IsSomeText bytes text × IsSomeText more other × (length bytes + length more ≤ MOST_BYTES)) ∥₁
 
 -- what a line says that has ended
 abbrev pub basket_said : LineState → List Weighted

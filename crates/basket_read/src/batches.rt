@@ -1,5 +1,5 @@
 //! Reading a FIMI input batch by batch.
-ghost use Rattle.std.specs.Prelude.{◌≡◌, ◌<◌, ◌^◌, IfOk, OnOk, List, false, true};
+ghost use Rattle.std.specs.Prelude.{◌≡◌, ◌<◌, IfOk, OnOk, List, false, true};
 ghost use Rattle.basket_sets.specs.declared.weighted.Weighted.{Weighted};
 ghost use Rattle.basket_read.specs.GatheredBaskets.{AreGathered, Gathers};
 ghost use Rattle.basket_read.specs.Read.{ReadsFimi};
@@ -23,7 +23,6 @@ pub(crate) fn read_batches<F: Feeder, S: Source>(
     requires ready { F.is_ready feeder.now }
     requires fresh { S.has_failed reader.old ≡ false }
     requires some { 0 < most }
-    requires few { most < 2 ^ 32 }
     ensures read { ReadsFimi (Gathers counting) (S.left reader.old) (S.left reader.new) (S.has_failed reader.new) result }
     ensures ended { OnOk result (S.at_end reader.new ≡ true) }
     ensures some { IfOk result (λ counts. (baskets : List Weighted) × AreGathered counting counts baskets) }

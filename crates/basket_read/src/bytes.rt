@@ -1,5 +1,5 @@
 //! The bytes of an input.
-ghost use Rattle.std.specs.Prelude.{◌≡◌, ◌<◌, ◌≤◌, ◌^◌, false, true, length, take, IfOk, OnErr};
+ghost use Rattle.std.specs.Prelude.{◌≡◌, ◌<◌, ◌≤◌, false, true, length, take, IfOk, OnErr};
 ghost use Rattle.std.specs.Io.KnownBytes.{Consumes, IsAtEnd};
 ghost use Rattle.basket_read.specs.Bytes.{TakesIn};
 ghost use Rattle.basket_read.specs.Fimi.{MOST_BYTES, text_of};
@@ -47,8 +47,7 @@ pub(crate) fn fill<S: Source>(
     buffer: &mut Vec<u8>,
     most: usize,
 ) -> Result<usize, AllocError>
-    requires fresh { S.has_failed reader.old ≡ false }
-    requires few { most ≤ 2 ^ 32 }
+    requires { S.has_failed reader.old ≡ false }
     ensures within { IfOk result (λ count. count ≤ length buffer.new.items) }
     ensures given { IfOk result (λ count. Consumes (S.left reader.old) (S.left reader.new) (take count buffer.new.items)) }
     ensures ended { IfOk result (λ count. S.has_failed reader.new ≡ false → count < most → IsAtEnd (S.left reader.new)) }

@@ -1,10 +1,10 @@
 //! What takes more of a text.
-ghost use Rattle.std.specs.Prelude.{ℕ, List, ◌++◌, length, ⊤, MatchResult};
+ghost use Rattle.std.specs.Prelude.{ℕ, List, ◌++◌, ⊤, MatchResult};
 ghost use Rattle.std.specs.Thread.{IsSync};
 ghost use Rattle.basket_sets.specs.declared.weighted.Weighted.{Weighted};
 ghost use Rattle.basket_read.specs.Fault.{ReturnsFault};
 ghost use Rattle.basket_read.specs.Fimi.{first_fault};
-ghost use Rattle.basket_read.specs.Text.{HasRoom, ReadsOn};
+ghost use Rattle.basket_read.specs.Text.{ReadsOn};
 
 use crate::fault::ReadFault;
 use crate::lines::feed_shared;
@@ -18,8 +18,7 @@ pub(crate) trait Feeder {
 
     /// Takes more of a text, up to its first fault.
     fn feed(&self, text: &mut Text, piece: &[u8]) -> Result<(), ReadFault>
-        requires ready { is_ready self.now }
-        requires room { HasRoom text.old (length piece.now) }
+        requires { is_ready self.now }
         ensures { ReadsOn text.old piece.now result (λ _. text.new) };
 }
 

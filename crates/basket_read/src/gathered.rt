@@ -7,14 +7,15 @@ ghost use Rattle.basket_sets.specs.Itemset.{rising};
 ghost use Rattle.basket_sets.specs.Support.{total_of};
 ghost use Rattle.basket_read.specs.Fault.{ReturnsBy};
 ghost use Rattle.basket_read.specs.Fimi.{basket_of_numbers, if_light};
-ghost use Rattle.basket_read.specs.GatheredBaskets.{Gathers, HasGathered, MayKeep};
+ghost use Rattle.basket_read.specs.GatheredBaskets.{Gathers, HasGathered};
 
 use crate::fault::ReadFault;
 use crate::item_counts::ItemCounts;
 use basket_sets::{Database, ItemTable, Itemset};
 use std::alloc::{AllocError, Global};
 
-/// The baskets so far. If one can't be added, all are lost.
+/// The baskets so far. If one can't be added, all are lost. More than a database may have count as
+/// out of memory.
 #[derive(Debug, Drop)]
 pub struct GatheredBaskets {
     alloc: Global,
@@ -69,7 +70,6 @@ impl GatheredBaskets {
     #[tactic(auto, using(crate::proofs::theory::Numbers::rising_nonempty, crate::proofs::theory::Numbers::rising_again))]
     pub fn add(&mut self, numbers: &[u32], weight: u32) -> Result<(), ReadFault>
         requires weighs { 1 ≤ weight }
-        requires room { MayKeep self.old 1 }
         ensures baskets { (counting : Bool) (baskets : List Weighted) → HasGathered self.old counting baskets
             → OnOk result (HasGathered self.new counting (baskets ++ basket_of_numbers numbers.now weight)) }
         ensures err { IfErr result (λ fault. fault ≡ ReadFault.Memory) }
@@ -91,7 +91,9 @@ impl GatheredBaskets {
         if self.count_basket(basket.items(), weight) {
             return Ok(());
         }
-        if self.baskets.push(basket, weight).is_err() {
+        if self.baskets.len() >= Database::MAX_BASKETS
+            || self.baskets.push(basket, weight).is_err()
+        {
             return Err(ReadFault::Memory);
         }
         self.count()?;
@@ -114,7 +116,6 @@ impl GatheredBaskets {
     /// Adds baskets that were gathered after these, and returns whether it did: some that are past
     /// can't come after one that is kept.
     pub(crate) fn append(&mut self, other: GatheredBaskets) -> Result<bool, AllocError>
-        requires { other.heavy ≡ false → MayKeep self.old (length other.baskets) }
         ensures baskets { (counting apart : Bool) (baskets more : List Weighted) → HasGathered self.old counting baskets → HasGathered other apart more
             → IfOk result (λ added. IsTrue added → HasGathered self.new counting (baskets ++ more)) }
         ensures left { IfOk result (λ added. added ≡ false → self.new ≡ self.old) }
@@ -126,6 +127,9 @@ impl GatheredBaskets {
         if self.heavy || other.heavy || weight > Database::MAX_WEIGHT {
             self.heavy = true;
             return Ok(true);
+        }
+        if self.baskets.len().saturating_add(other.baskets.len()) > Database::MAX_BASKETS {
+            return Err(AllocError);
         }
         self.table.append(&other.table)?;
         self.baskets.append(other.baskets)?;

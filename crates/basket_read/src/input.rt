@@ -3,7 +3,7 @@ ghost use Rattle.std.specs.Prelude.{◌≡◌, ◌≢◌, ◌+◌, ◌≤◌, �
 ghost use Rattle.basket_read.specs.Fimi.{fault_in, fimi_of};
 ghost use Rattle.basket_read.specs.Fault.{ReturnsBy};
 ghost use Rattle.basket_read.specs.GatheredBaskets.{Gathers};
-ghost use Rattle.basket_read.specs.Input.{IsInputSoFar, IsSomeInput, TakesOn};
+ghost use Rattle.basket_read.specs.Input.{IsInputSoFar, TakesOn};
 
 use crate::bytes::{MARK, MAX_BYTES};
 use crate::fault::ReadFault;
@@ -54,8 +54,7 @@ impl Input {
 
     /// Takes more of the input, up to its first fault.
     pub fn take<F: Feeder>(&mut self, feeder: &F, piece: &[u8]) -> Result<(), ReadFault>
-        requires ready { F.is_ready feeder.now }
-        requires some { IsSomeInput self.old }
+        requires { F.is_ready feeder.now }
         ensures { TakesOn self.old piece.now result self.new }
     {
         for (place, byte) in piece.iter().enumerate() {
@@ -69,7 +68,6 @@ impl Input {
 
     /// Takes a byte, after the mark or where it may be.
     fn take_byte(&mut self, byte: u8) -> Result<(), ReadFault>
-        requires { IsSomeInput self.old }
         ensures { TakesOn self.old (byte ∷ []) result self.new }
     {
         match self.beginning {
@@ -104,7 +102,6 @@ impl Input {
     /// Takes bytes after the beginning, as many as an input may have.
     fn take_text<F: Feeder>(&mut self, feeder: &F, piece: &[u8]) -> Result<(), ReadFault>
         requires ready { F.is_ready feeder.now }
-        requires some { IsSomeInput self.old }
         requires decided { self.old.beginning ≡ Beginning.Decided }
         ensures { TakesOn self.old piece.now result self.new }
     {
@@ -130,7 +127,6 @@ impl Input {
 
     /// The counts of the whole input.
     pub fn finish(self) -> Result<ItemCounts, ReadFault>
-        requires { IsSomeInput self }
         ensures { (counting : Bool) (bytes : List ℕ) → IsInputSoFar self counting bytes → ReturnsBy (Gathers counting) result (fimi_of bytes) }
     {
         if let Some(fault) = self.fault_so_far() {

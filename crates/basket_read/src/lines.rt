@@ -2,9 +2,9 @@
 ghost use Rattle.std.specs.Prelude.{◌≡◌, ◌<◌, ◌≤◌, ℕ, List, [], ◌++◌, length, take, IfOk, IfSome, MatchResult};
 ghost use Rattle.std.specs.Thread.{IsSync};
 ghost use Rattle.basket_sets.specs.declared.weighted.Weighted.{Weighted};
-ghost use Rattle.basket_read.specs.Fimi.{first_fault, MOST_BYTES};
+ghost use Rattle.basket_read.specs.Fimi.{first_fault};
 ghost use Rattle.basket_read.specs.Fault.{ReturnsFault};
-ghost use Rattle.basket_read.specs.Text.{EndsLine, HasRoom, IsSomeText, ReadsOn};
+ghost use Rattle.basket_read.specs.Text.{EndsLine, IsSomeText, ReadsOn};
 
 use crate::fault::ReadFault;
 use crate::text::Text;
@@ -22,7 +22,6 @@ pub fn feed_shared<R: Threads + Sync>(
     piece: &[u8],
     workers: u32,
 ) -> Result<Text, ReadFault>
-    requires { HasRoom text (length piece.now) }
     ensures { ReadsOn text piece.now result (λ read. read) }
 {
     let Some(end) = middle_of(piece, workers) else {
@@ -49,9 +48,7 @@ fn feed_halves<R: Threads + Sync>(
     rest: &[u8],
     workers: u32,
 ) -> (Result<Text, ReadFault>, Result<Text, ReadFault>)
-    requires prefix { HasRoom text (length prefix.now) }
-    requires rest { length rest.now ≤ MOST_BYTES }
-    requires several { 2 ≤ workers }
+    requires { 2 ≤ workers }
     ensures prefix { ReadsOn text prefix.now result.0 (λ read. read) }
     ensures rest { IfOk result.1 (IsSomeText rest.now) }
 {
@@ -62,11 +59,11 @@ fn feed_halves<R: Threads + Sync>(
     let (read, text) = join(
         rt,
         || -> Result<Text, ReadFault>
-            requires { IsSync R.row × (length rest.now ≤ MOST_BYTES) }
+            requires { IsSync R.row }
             ensures { IfOk result (IsSomeText rest.entry.now) }
         { feed_shared(rt, Text::new(alloc, counting, rest.len()), rest, others) },
         || -> Result<Text, ReadFault>
-            requires { IsSync R.row × HasRoom text (length prefix.now) }
+            requires { IsSync R.row }
             ensures { ReadsOn text prefix.entry.now result (λ read. read) }
         { feed_shared(rt, text, prefix, few) },
     );

@@ -1,10 +1,8 @@
 //! A FIMI input that comes in pieces.
 ghost use Rattle.std.specs.Prelude.{◌≡◌, ◌≢◌, ℕ, List, [], ◌++◌, None, Some, IfSome, Ok, Err, MatchResult, OnOk, IfErr};
-ghost use Rattle.std.specs.Option.{ForNone};
 ghost use Rattle.basket_read.specs.declared.fault.ReadFault.TheVariants.{Memory};
 ghost use Rattle.basket_read.specs.Fimi.{settled_fault, fimi_of};
 ghost use Rattle.basket_read.specs.Fault.{Returns, ReturnsFault};
-ghost use Rattle.basket_read.specs.Input.{IsSomeInput};
 
 use crate::fault::ReadFault;
 use crate::feeder::Alone;
@@ -18,7 +16,6 @@ use std::alloc::Global;
 pub struct FimiParts {
     input: Input,
     refusal: Option<ReadFault>,
-    ghost some: { ForNone refusal (IsSomeInput input) },
 }
 
 impl FimiParts {

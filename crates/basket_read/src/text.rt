@@ -1,13 +1,13 @@
 //! A text of which not all has been read.
-ghost use Rattle.std.specs.Prelude.{◌≡◌, ◌<◌, ◌≤◌, ◌+◌, ℕ, Bool, List, [], ◌∷◌, ◌++◌, length, take, false, if◌then◌else◌, OnOk, IfOk, IfErr, IsTrue, MatchResult};
+ghost use Rattle.std.specs.Prelude.{◌≡◌, ◌≤◌, ◌+◌, ℕ, Bool, List, [], ◌∷◌, ◌++◌, length, take, false, Some, if◌then◌else◌, OnOk, IfOk, IfErr, IsTrue, MatchResult};
 ghost use Rattle.basket_sets.specs.declared.weighted.Weighted.{Weighted};
 ghost use Rattle.basket_read.specs.Cut.{cut_at};
-ghost use Rattle.basket_read.specs.Fimi.{is_line_feed, first_fault, baskets_of, if_light, MOST_BYTES};
+ghost use Rattle.basket_read.specs.Fimi.{is_line_feed, first_fault, baskets_of, if_light};
 ghost use Rattle.basket_sets.specs.Number.{is_digit};
 ghost use Rattle.basket_read.specs.Line.{line_state, line_at, line_ended};
 ghost use Rattle.basket_read.specs.Fault.{ReturnsBy, ReturnsFault};
-ghost use Rattle.basket_read.specs.GatheredBaskets.{Gathers, HasGathered, MayKeep};
-ghost use Rattle.basket_read.specs.Text.{basket_said, HasRoom, HasRoomFor, IsSomeText, IsTextSoFar, ReadsOn};
+ghost use Rattle.basket_read.specs.GatheredBaskets.{Gathers, HasGathered};
+ghost use Rattle.basket_read.specs.Text.{basket_said, IsSomeText, IsTextSoFar, ReadsOn};
 
 use crate::fault::ReadFault;
 use crate::gathered::GatheredBaskets;
@@ -21,6 +21,7 @@ const BYTES_OF_A_NUMBER: usize = 8;
 /// What has been read of a text: how many lines have ended, their baskets, and the line after them.
 #[derive(Debug, Drop)]
 pub struct Text {
+    /// One too many for a `u32` counts as out of memory.
     lines: u32,
     gathered: GatheredBaskets,
     line: Line,
@@ -41,7 +42,6 @@ impl Text {
 
     /// Takes more of the text, up to its first fault.
     pub fn feed(&mut self, piece: &[u8]) -> Result<(), ReadFault>
-        requires { HasRoom self.old (length piece.now) }
         ensures { ReadsOn self.old piece.now result (λ _. self.new) }
     {
         let mut taken = 0;
@@ -73,12 +73,11 @@ impl Text {
     /// Takes a byte.
     #[inline(always)]
     fn take(&mut self, byte: u8) -> Result<(), ReadFault>
-        requires { HasRoom self.old 1 }
         ensures { ReadsOn self.old (byte ∷ []) result (λ _. self.new) }
     {
         if byte == b'\n' {
             self.end_line()?;
-            self.lines += 1;
+            self.lines = self.lines.checked_add(1).ok_or(ReadFault::Memory)?;
             return Ok(());
         }
         if !self.line.take(byte)? {
@@ -89,10 +88,11 @@ impl Text {
 
     /// The fault of a byte that can't stand here.
     fn fault_at(&self, byte: u8) -> ReadFault
-        requires { self.now.lines < MOST_BYTES }
-        ensures { result ≡ (if is_digit byte then ReadFault.Number (self.now.lines + 1) else ReadFault.Byte (self.now.lines + 1) byte) }
+        ensures { ReturnsFault result (Some (if is_digit byte then ReadFault.Number (self.now.lines + 1) else ReadFault.Byte (self.now.lines + 1) byte)) }
     {
-        let line = self.lines + 1;
+        let Some(line) = self.lines.checked_add(1) else {
+            return ReadFault::Memory;
+        };
         if byte.is_ascii_digit() {
             ReadFault::Number { line }
         } else {
@@ -103,7 +103,6 @@ impl Text {
     /// Adds the line's basket, if it has a number, and begins a new line.
     #[inline]
     fn end_line(&mut self) -> Result<(), ReadFault>
-        requires { MayKeep self.old.gathered 1 }
         ensures line { OnOk result (line_state self.new.line ≡ line_at []) }
         ensures lines { self.new.lines ≡ self.old.lines }
         ensures baskets { (counting : Bool) (baskets : List Weighted) → HasGathered self.old.gathered counting baskets →
@@ -130,7 +129,6 @@ impl Text {
     /// whether it did: not if that text has a fault, or if its baskets were counted and some of this
     /// one are kept.
     pub fn append(&mut self, other: Result<Text, ReadFault>) -> Result<bool, AllocError>
-        requires { IfOk other (HasRoomFor self.old) }
         ensures text { (counting : Bool) (lines more : List ℕ) → IsTextSoFar self.old counting lines → (cut_at is_line_feed lines).last ≡ [] → IfOk other (IsSomeText more)
             → IfOk result (λ appended. IsTrue appended → IsTextSoFar self.new counting (lines ++ more)) }
         ensures left { IfOk result (λ appended. appended ≡ false → self.new ≡ self.old) }
@@ -148,14 +146,13 @@ impl Text {
         if !self.gathered.append(gathered)? {
             return Ok(false);
         }
-        self.lines += lines;
+        self.lines = self.lines.checked_add(lines).ok_or(AllocError)?;
         self.line.copy_from(&line)?;
         Ok(true)
     }
 
     /// The counts of the whole text, if its baskets don't weigh too much.
     pub fn finish(mut self) -> Result<ItemCounts, ReadFault>
-        requires { HasRoom self 0 }
         ensures { (counting : Bool) (bytes : List ℕ) → IsTextSoFar self counting bytes → ReturnsBy (Gathers counting) result (if_light (baskets_of bytes)) }
     {
         self.end_line()?;

@@ -1,27 +1,29 @@
 -- The candidates of a level, prefix by prefix.
-use Rattle.std.proofs.Common.{◌≡◌, ◌≢◌, ℕ, zero, suc, ◌<◌, ◌&&◌, Bool, true, false, List, [], ◌∷◌, ◌++◌, length, take, filter, flat_map, map, cond, append_assoc, refl, sym, ap, ◌∙◌, subst, inl, inr, arith}
-use Rattle.std.specs.Cmp.Lexicographic.{slice_cmp, nat_list_cmp_total, bytes_decides}
+use Rattle.std.proofs.Common.{◌≡◌, ℕ, zero, suc, ◌<◌, ◌&&◌, Bool, true, false, List, [], ◌∷◌, ◌++◌, length, filter, flat_map, map, cond, refl, sym, ap, ◌∙◌, subst, inl, inr, arith}
+use Rattle.std.specs.Cmp.Lexicographic.{slice_cmp}
+use Rattle.std.specs.List.{All}
 use Rattle.std.specs.List.Sorted.{IsStrictlySortedBy}
 use Rattle.std.specs.Ordering.{nat_cmp}
-use Rattle.std.proofs.lemmas.Bool.{and_parts, cases_Bool, cases_lt}
-use Rattle.std.proofs.lemmas.Grind.{flat_map-append}
+use Rattle.std.proofs.lemmas.Bool.{and_parts, cases_lt}
 use Rattle.std.proofs.lemmas.List.{map-append}
-use Rattle.std.proofs.lemmas.List.Elements.{All-from_recursion}
+use Rattle.std.proofs.lemmas.Simd.{map-map}
 use Rattle.basket_sets.specs.Itemset.{IsRising, without}
-use Rattle.basket_sets.specs.Order.{report_order, IsInReportOrder}
+use Rattle.basket_sets.specs.Order.{report_order, report_order_total, IsInReportOrder}
 use Rattle.basket_sets.specs.Subsets.{subsets_of_size}
-use Rattle.basket_sets.proofs.theory.Members.{Member, Member-append, Member-from_map, All-from_Member, rest_is_sorted, sorted_along}
-use Rattle.basket_sets.proofs.theory.Rising.{same_test}
+use Rattle.basket_sets.proofs.theory.Members.{Member, Member-filter, Member-from_filter, Member-map, same_members, sorted_along}
+use Rattle.basket_sets.proofs.theory.Ranges.{filter_rises}
+use Rattle.basket_sets.proofs.theory.Rising.{first_below, rest_rises, same_test}
 use Rattle.basket_sets.proofs.theory.Without.{each_passes}
 use Rattle.mine_apriori.specs.Candidates.{is_one_of, has_subsets, candidates_of}
+use Rattle.mine_apriori.specs.Join.{has_parts, joined_group, joined_groups}
 use Rattle.mine_supports.specs.Extensions.{AreGrouped, Group, extend, kept, sets_of, prefixes_of, has_items}
-use Rattle.mine_apriori.specs.Join.{has_parts, joined_group, joined_groups, join, joined_with, joined_from, share_front}
-use Rattle.mine_apriori.proofs.CandidateLemmas.{joins_are_candidates, length_after}
+use Rattle.mine_supports.specs.Sizes.{AreOfSize}
 use Rattle.mine_supports.proofs.theory.Extensions.{passing, sets_filled}
-use Rattle.mine_apriori.proofs.GroupLemmas.{filter_prefix, filter_sorted, other_prefix}
-use Rattle.mine_apriori.proofs.JoinLemmas.{joins, same_order, shares, take_front, without_first, without_second}
-use Rattle.mine_apriori.proofs.LawLemmas.{size_at}
-use Rattle.mine_apriori.proofs.PruneLemmas.{Member-without, has_all}
+use Rattle.mine_supports.proofs.theory.Grouped.{at_each, of_each, regrouped, same_order, size_at}
+use Rattle.mine_apriori.proofs.GroupLemmas.{filter_grouped, from_sets, into_sets, items_rise, last_same, same_group, sets_in_order}
+use Rattle.mine_apriori.proofs.JoinLemmas.{ends_of, length_after, rises_after, rising_ends, without_first, without_second}
+use Rattle.mine_apriori.proofs.LawLemmas.{candidates_are_in_report_order, into_candidates, subset_of_size, without_is_there}
+use Rattle.mine_apriori.proofs.PruneLemmas.{Member-flat_map, Member-into_flat_map, Member-without, has_all}
 
 -- ---- the subsets without one of the first items
 
@@ -48,11 +50,8 @@ pub parts_decide : (sets : List (List ℕ)) (prefix : List ℕ) (first item : �
     → has_parts (length prefix) sets (prefix ++ first ∷ []) item ≡ has_subsets (suc (length prefix)) sets ((prefix ++ first ∷ []) ++ item ∷ [])
 parts_decide sets prefix first item one other =
     same_test (has_parts last sets set item) (has_subsets (suc last) sets joined)
-    (λ h. has_all last sets joined (record {
-      long = long;
-      first = ap (is_one_of sets) (without_second prefix first item) ∙ one;
-      second = ap (is_one_of sets) (without_first prefix first item) ∙ other;
-    }) (λ place below. ap (is_one_of sets) (without_before place set item (omega (arith, set_long, below))) ∙ parts_each last sets set item h place below))
+    (λ h. has_all last sets joined long (ap (is_one_of sets) (without_second prefix first item) ∙ one) (ap (is_one_of sets) (without_first prefix first item) ∙ other)
+    (λ place below. ap (is_one_of sets) (without_before place set item (omega (arith, set_long, below))) ∙ parts_each last sets set item h place below))
     (λ h. parts_from last sets set item (λ place below. ap (is_one_of sets) (sym (without_before place set item (omega (arith, set_long, below))))
     ∙ each_passes (is_one_of sets) (subsets_of_size (suc last) joined) h (without place joined) (Member-without (suc last) place joined long (omega (arith, below)))))
   where
@@ -82,128 +81,151 @@ filter_both p q (x ∷ items) = and_step x (filter p items) q (p x) ∙ ap (λ l
 
 -- ---- joins of the sets of a prefix
 
-map_cond : (f : ℕ → List ℕ) (x : ℕ) (kept : List ℕ) (b : Bool) → cond b (f x ∷ map f kept) (map f kept) ≡ map f (cond b (x ∷ kept) kept)
-map_cond f x kept true = refl
-map_cond f x kept false = refl
+-- a group that is made of one of the items, with later ones
+record IsJoinOf (size : ℕ) (sets : List (List ℕ)) (prefix items : List ℕ) (group : Group) : Type 0 where
+  pub item : ℕ
+  pub is : group.prefix ≡ prefix ++ item ∷ []
+  pub here : Member item items
+  pub rises : IsRising group.items
+  pub later : (other : ℕ) → Member other group.items → (item < other) × (has_subsets size sets ((prefix ++ item ∷ []) ++ other ∷ []) ≡ true)
 
-not_shared : (last : ℕ) (prefix other : List ℕ) (first x : ℕ) → length prefix ≡ last → length other ≡ last → other ≢ prefix → share_front last (prefix ++ first ∷ []) (other ++ x ∷ []) ≡ false
-not_shared last prefix other first x e f differ = elim (cases_Bool (share_front last (prefix ++ first ∷ []) (other ++ x ∷ []))) [
-  | inl s ↦ absurd (differ (sym (front other x f) ∙ (bytes_decides (take last (other ++ x ∷ [])) (take last (prefix ++ first ∷ []))).0 s ∙ front prefix first e))
-  | inr s ↦ s
-]
-  where
-    front : (l : List ℕ) (y : ℕ) → length l ≡ last → take last (l ++ y ∷ []) ≡ l
-    front l y n = ap (λ k. take k (l ++ y ∷ [])) (sym n) ∙ take_front l (y ∷ [])
+from_joined : (size : ℕ) (sets : List (List ℕ)) (prefix items : List ℕ) (group : Group) → IsRising items → Member group (joined_group size sets prefix items) → IsJoinOf size sets prefix items group
+from_joined size sets prefix [] group up m = absurd m
+from_joined size sets prefix (item ∷ items) group up (inl e) =
+    let has : ℕ → Bool = λ other. has_subsets size sets ((prefix ++ item ∷ []) ++ other ∷ []) in
+    subst (IsJoinOf size sets prefix (item ∷ items)) e (record {
+      item = item;
+      is = refl;
+      here = inl refl;
+      rises = filter_rises has items (rest_rises item items up);
+      later = λ other n. let k = Member-filter has other items n in (first_below item items up other k.0, k.1);
+    })
+from_joined size sets prefix (item ∷ items) group up (inr m) =
+    let j = from_joined size sets prefix items group (rest_rises item items up) m in
+    record { item = j.item; is = j.is; here = inr j.here; rises = j.rises; later = j.later }
 
-none_joined : (last : ℕ) (sets : List (List ℕ)) (prefix : List ℕ) (first : ℕ) (groups : List Group) → length prefix ≡ last → ((other : List ℕ) → Member other (prefixes_of groups) → length other ≡ last)
-    → ((other : List ℕ) → Member other (prefixes_of groups) → other ≢ prefix) → joined_with last sets (prefix ++ first ∷ []) (sets_of groups) ≡ []
-none_joined last sets prefix first [] e sized differ = refl
-none_joined last sets prefix first (group ∷ groups) e sized differ =
-    at group.prefix group.items (sized group.prefix (inl refl)) (differ group.prefix (inl refl)) (none_joined last sets prefix first groups e (λ o m. sized o (inr m)) (λ o m. differ o (inr m)))
-  where
-    at : (other items : List ℕ) → length other ≡ last → other ≢ prefix → joined_with last sets (prefix ++ first ∷ []) (sets_of groups) ≡ []
-        → joined_with last sets (prefix ++ first ∷ []) (extend other items ++ sets_of groups) ≡ []
-    at other [] f d rest = rest
-    at other (x ∷ items) f d rest =
-        (λ i. cond (not_shared last prefix other first x e f d i)
-        (cond (has_subsets (suc last) sets (join last (prefix ++ first ∷ []) (other ++ x ∷ [])))
-        (join last (prefix ++ first ∷ []) (other ++ x ∷ []) ∷ joined_with last sets (prefix ++ first ∷ []) (extend other items ++ sets_of groups))
-        (joined_with last sets (prefix ++ first ∷ []) (extend other items ++ sets_of groups))) [])
-
--- `last` is the length of the prefix
-with_later : (sets : List (List ℕ)) (prefix : List ℕ) (first : ℕ) (later : List ℕ) (rest : List (List ℕ)) → joined_with (length prefix) sets (prefix ++ first ∷ []) rest ≡ []
-    → joined_with (length prefix) sets (prefix ++ first ∷ []) (extend prefix later ++ rest)
-    ≡ extend (prefix ++ first ∷ []) (filter (λ x. has_subsets (suc (length prefix)) sets ((prefix ++ first ∷ []) ++ x ∷ [])) later)
-with_later sets prefix first [] rest none = none
-with_later sets prefix first (x ∷ later) rest none =
-    let set = prefix ++ first ∷ [] in
-    let has : ℕ → Bool = λ y. has_subsets (suc (length prefix)) sets (set ++ y ∷ []) in
-    (λ i. cond (shares prefix first x i)
-    (cond (has_subsets (suc (length prefix)) sets (joins prefix first x i)) (joins prefix first x i ∷ with_later sets prefix first later rest none i) (with_later sets prefix first later rest none i)) [])
-    ∙ map_cond (λ y. set ++ y ∷ []) x (filter has later) (has x)
-
-group_joined : (sets : List (List ℕ)) (prefix items : List ℕ) (groups : List Group) → ((other : List ℕ) → Member other (prefixes_of groups) → length other ≡ length prefix)
-    → ((other : List ℕ) → Member other (prefixes_of groups) → other ≢ prefix)
-    → joined_from (length prefix) sets (extend prefix items ++ sets_of groups) ≡ sets_of (joined_group (suc (length prefix)) sets prefix items) ++ joined_from (length prefix) sets (sets_of groups)
-group_joined sets prefix [] groups sized differ = refl
-group_joined sets prefix (x ∷ later) groups sized differ =
-    (λ i. with_later sets prefix x later (sets_of groups) (none_joined (length prefix) sets prefix x groups refl sized differ) i ++ group_joined sets prefix later groups sized differ i)
-    ∙ sym (append_assoc (extend (prefix ++ x ∷ []) (filter (λ y. has_subsets (suc (length prefix)) sets ((prefix ++ x ∷ []) ++ y ∷ [])) later))
-    (sets_of (joined_group (suc (length prefix)) sets prefix later)) (joined_from (length prefix) sets (sets_of groups)))
-
--- the sets of all groups, joined
-abbrev pub all_joined : List (List ℕ) → List Group → List Group
-all_joined sets groups = flat_map (λ group. joined_group (suc (length group.prefix)) sets group.prefix group.items) groups
-
-groups_joined : (last : ℕ) (sets : List (List ℕ)) (groups : List Group) → ((other : List ℕ) → Member other (prefixes_of groups) → length other ≡ last) → IsStrictlySortedBy (slice_cmp nat_cmp) (prefixes_of groups)
-    → joined_from last sets (sets_of groups) ≡ sets_of (all_joined sets groups)
-groups_joined last sets [] sized up = refl
-groups_joined last sets (group ∷ groups) sized up =
-    let rest = groups_joined last sets groups (λ o m. sized o (inr m)) (rest_is_sorted nat_list_cmp_total group.prefix (prefixes_of groups) up) in
-    let first = joined_group (suc (length group.prefix)) sets group.prefix group.items in
-    subst (λ n. joined_from n sets (extend group.prefix group.items ++ sets_of groups) ≡ sets_of first ++ joined_from n sets (sets_of groups)) (sized group.prefix (inl refl))
-    (group_joined sets group.prefix group.items groups (λ o m. sized o (inr m) ∙ sym (sized group.prefix (inl refl))) (λ o m. other_prefix group.prefix (prefixes_of groups) o up m))
-    ∙ ap (λ l. sets_of first ++ l) rest
-    ∙ sym (flat_map-append (λ (g : Group). extend g.prefix g.items) first (all_joined sets groups))
+into_joined : (size : ℕ) (sets : List (List ℕ)) (prefix items : List ℕ) (first second : ℕ) → IsRising items → first < second → Member first items → Member second items
+    → has_subsets size sets ((prefix ++ first ∷ []) ++ second ∷ []) ≡ true → (group : Group) × Member group (joined_group size sets prefix items) × (group.prefix ≡ prefix ++ first ∷ []) × Member second group.items
+into_joined size sets prefix [] first second up less m n h = absurd m
+into_joined size sets prefix (item ∷ items) first second up less (inl e) (inl f) h = absurd (omega (arith, e, f, less))
+into_joined size sets prefix (item ∷ items) first second up less (inl e) (inr n) h =
+    let has : ℕ → Bool = λ other. has_subsets size sets ((prefix ++ item ∷ []) ++ other ∷ []) in (
+      record { prefix = prefix ++ item ∷ []; items = filter has items },
+      inl refl,
+      ap (λ x. prefix ++ x ∷ []) e,
+      Member-from_filter has second items n (ap (λ x. has_subsets size sets ((prefix ++ x ∷ []) ++ second ∷ [])) e ∙ h),
+    )
+into_joined size sets prefix (item ∷ items) first second up less (inr m) (inl f) h = absurd (let below = first_below item items up first m in omega (arith, below, f, less))
+into_joined size sets prefix (item ∷ items) first second up less (inr m) (inr n) h =
+    let j = into_joined size sets prefix items first second (rest_rises item items up) less m n h in (j.0, inr j.1, j.2, j.3)
 
 -- ---- a level
 
-sets_long : (last : ℕ) (groups : List Group) → ((other : List ℕ) → Member other (prefixes_of groups) → length other ≡ last) → (set : List ℕ) → Member set (sets_of groups) → length set ≡ suc last
-sets_long last [] sized set m = absurd m
-sets_long last (group ∷ groups) sized set m = elim (Member-append set (extend group.prefix group.items) (sets_of groups) m) [
-  | inl n ↦ (let p = Member-from_map (λ x. group.prefix ++ x ∷ []) set group.items n in ap length (sym p.2) ∙ length_after group.prefix p.0 last (sized group.prefix (inl refl)))
-  | inr n ↦ sets_long last groups (λ o k. sized o (inr k)) set n
-]
+-- the joins of a group
+abbrev pub join_of : List (List ℕ) → Group → List Group
+join_of sets group = joined_group (suc (length group.prefix)) sets group.prefix group.items
 
-pub lexicographic : (last : ℕ) (groups : List Group) → ((other : List ℕ) → Member other (prefixes_of groups) → length other ≡ last) → IsInReportOrder (sets_of groups) → IsStrictlySortedBy (slice_cmp nat_cmp) (sets_of groups)
-lexicographic last groups sized order =
-    sorted_along report_order (slice_cmp nat_cmp) (sets_of groups)
-    (λ a b m n less. sym (same_order a b (sets_long last groups sized a m ∙ sym (sets_long last groups sized b n))) ∙ less) order
+-- the sets of all groups, joined
+abbrev pub all_joined : List (List ℕ) → List Group → List Group
+all_joined sets groups = flat_map (join_of sets) groups
 
-pub level_joined : (last : ℕ) (groups : List Group) → ((other : List ℕ) → Member other (prefixes_of groups) → length other ≡ last) → IsStrictlySortedBy (slice_cmp nat_cmp) (prefixes_of groups)
-    → IsInReportOrder (sets_of groups) → ((set : List ℕ) → Member set (sets_of groups) → IsRising set)
-    → sets_of (joined_groups (sets_of groups) groups) ≡ candidates_of (sets_of groups)
-level_joined last groups sized up order rises =
-    sets_filled (all_joined (sets_of groups) groups)
-    ∙ sym (groups_joined last (sets_of groups) groups sized up)
-    ∙ joins_are_candidates last (sets_of groups) (sets_long last groups sized) (lexicographic last groups sized order) rises
-
--- the prefixes of the candidates are the sets
+-- the prefixes of the joins are the sets
 group_prefixes : (size : ℕ) (sets : List (List ℕ)) (prefix items : List ℕ) → prefixes_of (joined_group size sets prefix items) ≡ extend prefix items
 group_prefixes size sets prefix [] = refl
 group_prefixes size sets prefix (x ∷ later) = ap (λ l. (prefix ++ x ∷ []) ∷ l) (group_prefixes size sets prefix later)
 
-pub joined_prefixes : (sets : List (List ℕ)) (groups : List Group) → prefixes_of (all_joined sets groups) ≡ sets_of groups
+joined_prefixes : (sets : List (List ℕ)) (groups : List Group) → prefixes_of (all_joined sets groups) ≡ sets_of groups
 joined_prefixes sets [] = refl
 joined_prefixes sets (group ∷ groups) =
-    let first = joined_group (suc (length group.prefix)) sets group.prefix group.items in
-    map-append (λ (g : Group). g.prefix) first (all_joined sets groups)
+    map-append (λ (g : Group). g.prefix) (join_of sets group) (all_joined sets groups)
     ∙ (λ i. group_prefixes (suc (length group.prefix)) sets group.prefix group.items i ++ joined_prefixes sets groups i)
 
--- the candidates are in order too
-pub candidates_grouped : (groups : List Group) → AreGrouped groups → IsInReportOrder (sets_of groups) → AreGrouped (joined_groups (sets_of groups) groups)
-candidates_grouped groups grouped order =
-    let sized = size_at grouped.size (prefixes_of groups) grouped.sized in
-    let same = joined_prefixes (sets_of groups) groups in
-    record {
-      size = suc grouped.size;
-      sized = All-from_recursion (λ set. length set ≡ suc grouped.size) _ (All-from_Member (λ set. length set ≡ suc grouped.size) _ (λ set m.
-          sets_long grouped.size groups sized set (subst (Member set) same (filter_prefix has_items (all_joined (sets_of groups) groups) set m))));
-      sorted = filter_sorted has_items (all_joined (sets_of groups) groups)
-          (subst (IsStrictlySortedBy (slice_cmp nat_cmp)) (sym same) (lexicographic grouped.size groups sized order));
-    }
+module _ (groups : List Group) (grouped : AreGrouped groups) (order : IsInReportOrder (sets_of groups)) where
+  abbrev size : ℕ
+  size = grouped.size
 
--- what is kept is in order
+  abbrev sets : List (List ℕ)
+  sets = sets_of groups
+
+  abbrev joins : List Group
+  joins = all_joined (sets_of groups) groups
+
+  prefix_long : (group : Group) → Member group groups → length group.prefix ≡ size
+  prefix_long group m = size_at size (prefixes_of groups) grouped.sized group.prefix (Member-map (λ (g : Group). g.prefix) group groups m)
+
+  sets_sized : AreOfSize (suc size) sets
+  sets_sized = of_each (λ set. length set ≡ suc size) sets (λ set m.
+      let s = from_sets groups set m in ap length (sym s.4) ∙ length_after s.0.prefix s.1 size (prefix_long s.0 s.2))
+
+  lexicographic : IsStrictlySortedBy (slice_cmp nat_cmp) sets
+  lexicographic =
+      sorted_along report_order (slice_cmp nat_cmp) sets
+      (λ a b m n less. sym (same_order a b (size_at (suc size) sets sets_sized a m ∙ sym (size_at (suc size) sets sets_sized b n))) ∙ less) order
+
+  joined_grouped : AreGrouped joins
+  joined_grouped =
+      let same = joined_prefixes sets groups in
+      record {
+        size = suc size;
+        sized = subst (AreOfSize (suc size)) (sym same) sets_sized;
+        sorted = subst (IsStrictlySortedBy (slice_cmp nat_cmp)) (sym same) lexicographic;
+      }
+
+  -- the candidates are grouped too
+  pub candidates_grouped : AreGrouped (joined_groups sets groups)
+  candidates_grouped = filter_grouped has_items joins joined_grouped
+
+  join_from : (join : Group) → Member join joins → (from : Group) × Member from groups × IsJoinOf (suc size) sets from.prefix from.items join
+  join_from join m =
+      let f = Member-flat_map (join_of sets) join groups m in (
+        f.0,
+        f.1,
+        from_joined (suc size) sets f.0.prefix f.0.items join (items_rise groups lexicographic f.0 f.1)
+            (subst (λ n. Member join (joined_group (suc n) sets f.0.prefix f.0.items)) (prefix_long f.0 f.1) f.2),
+      )
+
+  into_candidates_of : All IsRising sets → (set : List ℕ) → Member set (sets_of joins) → Member set (candidates_of sets)
+  into_candidates_of rising set m =
+      let s = from_sets joins set m in
+      let f = join_from s.0 s.2 in
+      let prefix = f.0.prefix in
+      let item = f.2.item in
+      let later = f.2.later s.1 s.3 in
+      subst (λ l. Member l (candidates_of sets)) (ap (λ p. p ++ s.1 ∷ []) (sym f.2.is) ∙ s.4)
+      (into_candidates size sets ((prefix ++ item ∷ []) ++ s.1 ∷ []) sets_sized
+      (rises_after prefix item s.1 (at_each IsRising sets rising (prefix ++ item ∷ []) (into_sets groups f.0 item f.1 f.2.here)) later.0)
+      (length_after (prefix ++ item ∷ []) s.1 (suc size) (length_after prefix item size (prefix_long f.0 f.1))) later.1)
+
+  join_there : (group : Group) (first second : ℕ) → Member group groups → first < second → Member first group.items → Member second group.items
+      → has_subsets (suc size) sets ((group.prefix ++ first ∷ []) ++ second ∷ []) ≡ true → Member ((group.prefix ++ first ∷ []) ++ second ∷ []) (sets_of joins)
+  join_there group first second m less here later has =
+      let j = into_joined (suc size) sets group.prefix group.items first second (items_rise groups lexicographic group m) less here later has in
+      subst (λ p. Member (p ++ second ∷ []) (sets_of joins)) j.2
+      (into_sets joins j.0 second (Member-into_flat_map (join_of sets) j.0 group groups m
+      (subst (λ n. Member j.0 (joined_group (suc n) sets group.prefix group.items)) (sym (prefix_long group m)) j.1)) j.3)
+
+  from_candidates_of : (set : List ℕ) → Member set (candidates_of sets) → Member set (sets_of joins)
+  from_candidates_of set m =
+      let s = subset_of_size (suc size) sets set sets_sized m in
+      let e = ends_of size set s.0.sized in
+      let there = without_is_there size sets set s.0.sized s.1 in
+      let f = from_sets groups (e.front ++ e.first ∷ []) (subst (λ l. Member l sets) e.without_second (there (suc size) (omega arith))) in
+      let g = from_sets groups (e.front ++ e.second ∷ []) (subst (λ l. Member l sets) e.without_first (there size (omega arith))) in
+      let first = last_same f.0.prefix e.front f.1 e.first f.4 in
+      let second = last_same g.0.prefix e.front g.1 e.second g.4 in
+      let same : g.0 ≡ f.0 = same_group groups g.0 f.0 grouped.sorted g.2 f.2 (second.0 ∙ sym first.0) in
+      let is : (f.0.prefix ++ f.1 ∷ []) ++ g.1 ∷ [] ≡ set = (λ i. f.4 i ++ second.1 i ∷ []) ∙ sym e.is in
+      subst (λ l. Member l (sets_of joins)) is
+      (join_there f.0 f.1 g.1 f.2 (rising_ends f.0.prefix f.1 g.1 (subst IsRising (sym is) s.0.rises)) f.3 (subst (λ (h : Group). Member g.1 h.items) same g.3)
+      (ap (has_subsets (suc size) sets) is ∙ s.1))
+
+  pub level_joined : All IsRising sets → sets_of (joined_groups sets groups) ≡ candidates_of sets
+  level_joined rising =
+      sets_filled joins
+      ∙ same_members report_order_total (sets_of joins) (candidates_of sets) (sets_in_order joins joined_grouped (λ join m. (join_from join m).2.rises)) (candidates_are_in_report_order sets)
+      (into_candidates_of rising) from_candidates_of
+
+-- what is kept is grouped
 pub kept_grouped : (passes : List ℕ → Bool) (groups : List Group) → AreGrouped groups → AreGrouped (kept passes groups)
 kept_grouped passes groups grouped =
-    let same = passing_prefixes passes groups in
-    record {
-      size = grouped.size;
-      sized = All-from_recursion (λ set. length set ≡ grouped.size) _ (All-from_Member (λ set. length set ≡ grouped.size) _ (λ set m.
-          size_at grouped.size (prefixes_of groups) grouped.sized set (subst (Member set) same (filter_prefix has_items (map (passing passes) groups) set m))));
-      sorted = filter_sorted has_items (map (passing passes) groups) (subst (IsStrictlySortedBy (slice_cmp nat_cmp)) (sym same) grouped.sorted);
-    }
-  where
-    passing_prefixes : (passes : List ℕ → Bool) (groups : List Group) → prefixes_of (map (passing passes) groups) ≡ prefixes_of groups
-    passing_prefixes passes [] = refl
-    passing_prefixes passes (group ∷ groups) = ap (λ l. group.prefix ∷ l) (passing_prefixes passes groups)
+    filter_grouped has_items (map (passing passes) groups) (regrouped groups (map (passing passes) groups) (sym (map-map (λ (g : Group). g.prefix) (passing passes) groups)) grouped)

@@ -1,9 +1,7 @@
 -- The frequent sets by levels: each level is what is frequent among the candidates of the one before.
-use Rattle.std.proofs.Common.{◌≡◌, ◌≢◌, ℕ, ◌+◌, ◌<◌, ◌≤◌, Bool, true, false, List, [], ◌∷◌, ◌++◌, cond, length, get_or, map, refl, sym, ap, ◌∙◌, subst, inl, inr, arith, zero, suc}
-use Rattle.std.specs.Cmp.Lexicographic.{slice_cmp}
-use Rattle.std.specs.Ordering.{nat_cmp}
+use Rattle.std.proofs.Common.{◌≡◌, ◌≢◌, ℕ, ◌+◌, ◌<◌, ◌≤◌, Bool, true, false, List, [], ◌∷◌, ◌++◌, cond, length, map, refl, sym, ap, ◌∙◌, subst, inl, arith, zero, suc}
 use Rattle.std.specs.List.{All, filter, flat_map, range_with_len}
-use Rattle.std.proofs.lemmas.List.{append-nil, length-append, length-map, map-append, map-id, get_or_default}
+use Rattle.std.proofs.lemmas.List.{append-nil, length-append, length-map, map-append, map-id}
 use Rattle.std.proofs.lemmas.List.Elements.{filter-append}
 use Rattle.std.proofs.lemmas.List.FromFn.{length-range_with_len}
 use Rattle.std.proofs.lemmas.List.Kept.{IsStrictlySortedBy-filter}
@@ -20,14 +18,16 @@ use Rattle.basket_sets.proofs.theory.Frequent.{frequent_once}
 use Rattle.std.proofs.lemmas.Simd.{map-map}
 use Rattle.basket_sets.proofs.theory.Items.{one_item}
 use Rattle.basket_sets.proofs.theory.Ranges.{Member-into_range, range_rises}
-use Rattle.basket_sets.proofs.theory.Members.{Member, Member-append, Member-filter, Member-from_filter, Member-from_Contains, Contains-from_Member, sorted_along, same_members}
+use Rattle.basket_sets.proofs.theory.Members.{Member, Member-filter, Member-from_filter, Member-from_Contains, Contains-from_Member, same_members}
 use Rattle.basket_sets.proofs.theory.Rising.{has-from_Member, rising-rises, Member-rising, length-le-contains}
-use Rattle.basket_sets.proofs.theory.Subsets.{IsSubset, IsSubset-from_Member, Member-from_IsSubset, of_size_sorted, same_length}
+use Rattle.basket_sets.proofs.theory.Subsets.{IsSubset, IsSubset-from_Member, Member-from_IsSubset}
 use Rattle.basket_sets.proofs.theory.Support.{frequent_items, subsets_are_frequent}
 use Rattle.mine_apriori.specs.Candidates.{candidates_of}
 use Rattle.mine_apriori.specs.Levels.{level_of, levels_up_to, asked_of, decoded_sets, AreFound, AreTooMany}
 use Rattle.mine_supports.specs.Sizes.{AreOfSize}
-use Rattle.mine_apriori.proofs.LawLemmas.{subset_of_size, candidates_are_exact, candidates_are_in_report_order}
+use Rattle.mine_supports.proofs.theory.Grouped.{of_each}
+use Rattle.mine_apriori.proofs.LawLemmas.{subset_of_size, candidates_are_exact, candidates_are_in_report_order, of_size_in_order}
+use Rattle.mine_apriori.proofs.PruneLemmas.{Member-flat_map}
 
 -- what is larger than a list has no subset of it
 pub none_larger : (size : ℕ) (items : List ℕ) → length items < size → subsets_of_size size items ≡ []
@@ -59,18 +59,10 @@ module _ (coding : Coding) where
       (Member-from_IsSubset size items set items_rise (record { rises = up; sized = sized; within = frequent_items coding.baskets coding.minimum set h })) h
 
   pub level_sized : (size : ℕ) → AreOfSize size (level_of coding size)
-  level_sized size k d below =
-      let list = level_of coding size in
-      let m = Member-from_Contains (get_or list k d) list (k, below, get_or_default list k (get_or list k d) d below) in
-      (from_level size (get_or list k d) m).0.sized
+  level_sized size = of_each (λ set. length set ≡ size) (level_of coding size) (λ set m. (from_level size set m).0.sized)
 
   pub level_in_order : (size : ℕ) → IsInReportOrder (level_of coding size)
-  level_in_order size =
-      IsStrictlySortedBy-filter report_order passes (subsets_of_size size items)
-      (sorted_along (slice_cmp nat_cmp) report_order (subsets_of_size size items)
-      (λ a b m n h. let s = IsSubset-from_Member size items a items_rise m in let t = IsSubset-from_Member size items b items_rise n in
-      same_length a b (s.sized ∙ sym t.sized) h)
-      (of_size_sorted size items items_rise))
+  level_in_order size = IsStrictlySortedBy-filter report_order passes (subsets_of_size size items) (of_size_in_order size items items_rise)
 
   -- ---- the next level
 
@@ -166,18 +158,12 @@ module _ (coding : Coding) where
     pub found_as_many : length (frequent_of_coding coding) ≡ length found
     found_as_many = found_is_all is size some none ∙ sym (ap length are ∙ length-map (levels_up_to coding size) (λ set. decoded_set coding.items (counted coding.baskets set)))
 
-  from_sets : (into : List ℕ) (sets : List (List ℕ)) (item : ℕ) → ((set : List ℕ) → Member set sets → Member item set → Member item into) → Member item (flat_map (λ set. set) sets) → Member item into
-  from_sets into [] item h m = absurd m
-  from_sets into (set ∷ sets) item h m = elim (Member-append item set (flat_map (λ s. s) sets) m) [
-    | inl here ↦ h set (inl refl) here
-    | inr there ↦ from_sets into sets item (λ s n k. h s (inr n) k) there
-  ]
-
   -- a candidate has items of the baskets
   pub candidate_items : (size : ℕ) (set : List ℕ) → Member set (asked_of coding size) → (item : ℕ) → Member item set → Member item items
   candidate_items size set m item n =
       let s = subset_of_size size (level_of coding size) set (level_sized size) m in
-      from_sets items (level_of coding size) item (λ other k j. (from_level size other k).0.within item j) (Member-rising (flat_map (λ set. set) (level_of coding size)) item (s.0.within item n))
+      let f = Member-flat_map (λ set. set) item (level_of coding size) (Member-rising (flat_map (λ set. set) (level_of coding size)) item (s.0.within item n)) in
+      (from_level size f.0 f.1).0.within item f.2
 
   candidate_within : (size : ℕ) (set : List ℕ) → Member set (asked_of coding size) → size + 1 ≤ length items
   candidate_within size set m =
@@ -191,9 +177,9 @@ module _ (coding : Coding) where
       let s = subset_of_size size (level_of coding size) set (level_sized size) m in
       let count = length coding.items in
       let le = length-le-contains set (range_with_len 0 count) s.0.rises (range_rises 0 count) (λ item n.
-      from_sets (range_with_len 0 count) (level_of coding size) item
-      (λ other k j. Member-into_range 0 count item (omega arith) (let below = ranks_below coding is other (from_level size other k).1 item (has-from_Member other item j) in omega arith))
-      (Member-rising (flat_map (λ set. set) (level_of coding size)) item (s.0.within item n))) in
+      let f = Member-flat_map (λ set. set) item (level_of coding size) (Member-rising (flat_map (λ set. set) (level_of coding size)) item (s.0.within item n)) in
+      let below = ranks_below coding is f.0 (from_level size f.0 f.1).1 item (has-from_Member f.0 item f.2) in
+      Member-into_range 0 count item (omega arith) (omega (arith, below))) in
       omega (arith, le, s.0.sized, length-range_with_len 0 count)
 
   pub asked_few : IsCoding coding → (size : ℕ) → asked_of coding size ≢ [] → size + 1 ≤ length coding.items
@@ -205,14 +191,10 @@ module _ (coding : Coding) where
 
   -- the sets of a level rise, and so do those that are asked for
   pub level_rises : (size : ℕ) → All IsRising (level_of coding size)
-  level_rises size k d below =
-      let list = level_of coding size in
-      (from_level size (get_or list k d) (Member-from_Contains (get_or list k d) list (k, below, get_or_default list k (get_or list k d) d below))).0.rises
+  level_rises size = of_each IsRising (level_of coding size) (λ set m. (from_level size set m).0.rises)
 
   pub asked_rise : (size : ℕ) → 1 ≤ size → All IsRising (asked_of coding size)
-  asked_rise size some k d below =
-      let list = asked_of coding size in
-      ((candidates_are_exact size (level_of coding size) (get_or list k d) some (level_sized size)).0 (k, below, get_or_default list k (get_or list k d) d below)).rises
+  asked_rise size some = of_each IsRising (asked_of coding size) (λ set m. (subset_of_size size (level_of coding size) set (level_sized size) m).0.rises)
 
   -- a level that asks is not yet that of all items
   pub asks_more : (size : ℕ) → 1 ≤ size → asked_of coding size ≢ [] → size + 1 ≤ length items

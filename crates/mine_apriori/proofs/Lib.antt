@@ -4,13 +4,11 @@ mod IntersectionLemmas
 mod JoinedLemmas
 mod JoinStepLemmas
 mod PruneLemmas
-mod CandidateLemmas
 mod LawLemmas
 mod LookUpLemmas
 mod SearchLemmas
 mod LevelsLemmas
 mod PairLemmas
-mod LesserLemmas
 mod WorkLemmas
 mod AllCandidateLemmas
 mod ItemLemmas

@@ -35,8 +35,8 @@ use Rattle.mine_classes.proofs.theory.Lists.{distinct-append}
 use Rattle.mine_pairs.specs.Pairs.{ArePairs, lists_of, pairs_of}
 use Rattle.mine_apriori.specs.declared.pairs.Pair.{Pair}
 use Rattle.mine_apriori.specs.Levels.{level_of}
+use Rattle.mine_supports.proofs.theory.Grouped.{one_rises}
 use Rattle.mine_apriori.proofs.JoinLemmas.{rises_after}
-use Rattle.mine_apriori.proofs.LesserLemmas.{single_rises}
 use Rattle.mine_apriori.proofs.LevelsLemmas.{from_level, into_level, items_rise}
 
 -- ---- a least support
@@ -55,6 +55,12 @@ pair_of baskets set = record { ranks = set; count = support_of baskets set }
 -- a pair as it is given with its greater rank
 abbrev pub pair_with : ℕ → ℕ × ℕ → Pair
 pair_with greater pair = record { ranks = pair.0 ∷ greater ∷ []; count = pair.1 }
+
+pub parts : (set : List ℕ) → length set ≡ 2 → set ≡ get_or set 0 0 ∷ get_or set 1 0 ∷ []
+parts [] e = absurd (omega (arith, e))
+parts (x ∷ []) e = absurd (omega (arith, e))
+parts (x ∷ y ∷ []) e = refl
+parts (x ∷ y ∷ z ∷ set) e = absurd (omega (arith, e))
 
 ranks_again : (baskets : List Weighted) (sets : List (List ℕ)) → map (λ (pair : Pair). pair.ranks) (map (pair_of baskets) sets) ≡ sets
 ranks_again baskets [] = refl
@@ -147,7 +153,7 @@ module _ (coding : Coding) where
       each [] h = refl
       each (pair ∷ list) h = let rest = each list h.1 in λ i. h.0 i ∷ rest i
 
-  pub pairs_sorted : IsStrictlySortedBy (slice_cmp nat_cmp) (level_of coding 2)
+  pairs_sorted : IsStrictlySortedBy (slice_cmp nat_cmp) (level_of coding 2)
   pairs_sorted = IsStrictlySortedBy-filter (slice_cmp nat_cmp) passes (subsets_of_size 2 (items_of coding.baskets)) (of_size_sorted 2 (items_of coding.baskets) (items_rise coding))
 
   -- sorted, all of them are the second level
@@ -159,7 +165,7 @@ module _ (coding : Coding) where
       (IsPermutation-map (λ (pair : Pair). pair.ranks) pairs sorted moved))
       up pairs_sorted
       (λ set m. let p = from_below count set m in
-      into_level coding 2 set (subst IsRising p.2 (rises_after [] p.0 p.1 (single_rises p.0) p.3)) (ap length (sym p.2)) p.5)
+      into_level coding 2 set (subst IsRising p.2 (rises_after [] p.0 p.1 (one_rises p.0) p.3)) (ap length (sym p.2)) p.5)
       (λ set m. let s = from_level coding 2 set m in pair set s.0.rises s.0.sized s.1)
     where
       count : ℕ

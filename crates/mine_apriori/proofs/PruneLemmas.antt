@@ -7,7 +7,6 @@ use Rattle.basket_sets.specs.Subsets.{subsets_of_size}
 use Rattle.basket_sets.proofs.theory.Members.{Member, Member-append, Member-append_left, Member-append_right, Member-map, Member-from_map}
 use Rattle.basket_sets.proofs.theory.Rising.{Member-into_rising}
 use Rattle.mine_apriori.specs.Candidates.{candidates_of, has_subsets, is_one_of, items_in}
-use Rattle.mine_apriori.specs.Join.{IsJoin}
 use Rattle.basket_sets.specs.Itemset.{without}
 use Rattle.basket_sets.proofs.theory.Without.{all_pass}
 
@@ -79,30 +78,39 @@ place_of_Member (suc size) (x ∷ items) set e m = elim (Member-append set (map 
 
 -- ---- the prune
 
--- each place before the last two was looked up, and the last two are given
-pub has_all : (last : ℕ) (sets : List (List ℕ)) (set : List ℕ) → IsJoin last sets set
+-- each place was looked up, the last two before the others
+pub has_all : (last : ℕ) (sets : List (List ℕ)) (set : List ℕ) → length set ≡ suc (suc last) → is_one_of sets (without (suc last) set) ≡ true → is_one_of sets (without last set) ≡ true
     → ((place : ℕ) → place < last → is_one_of sets (without place set) ≡ true) → has_subsets (suc last) sets set ≡ true
-has_all last sets set is each = all_pass (is_one_of sets) (subsets_of_size (suc last) set)
-    (λ subset m. let p = place_of_Member (suc last) set subset is.long m in subst (λ s. is_one_of sets s ≡ true) p.2 (at p.0 p.1))
+has_all last sets set long first second each = all_pass (is_one_of sets) (subsets_of_size (suc last) set)
+    (λ subset m. let p = place_of_Member (suc last) set subset long m in subst (λ s. is_one_of sets s ≡ true) p.2 (at p.0 p.1))
   where
     at : (place : ℕ) → place < suc (suc last) → is_one_of sets (without place set) ≡ true
     at place below = elim (cases_lt place last) [
       | inl less ↦ each place less
       | inr more ↦ elim (cases_lt place (suc last)) [
-        | inl less ↦ (let e : last ≡ place = omega arith in subst (λ p. is_one_of sets (without p set) ≡ true) e is.second)
-        | inr most ↦ (let e : suc last ≡ place = omega arith in subst (λ p. is_one_of sets (without p set) ≡ true) e is.first)
+        | inl less ↦ (let e : last ≡ place = omega arith in subst (λ p. is_one_of sets (without p set) ≡ true) e second)
+        | inr most ↦ (let e : suc last ≡ place = omega arith in subst (λ p. is_one_of sets (without p set) ≡ true) e first)
       ]
     ]
 
 -- ---- the items of sets
 
-Member-items : (sets : List (List ℕ)) (set : List ℕ) (item : ℕ) → Member set sets → Member item set → Member item (flat_map (λ s. s) sets)
-Member-items [] set item m n = absurd m
-Member-items (first ∷ sets) set item (inl e) n = Member-append_left item first (flat_map (λ s. s) sets) (subst (Member item) (sym e) n)
-Member-items (first ∷ sets) set item (inr m) n = Member-append_right item first (flat_map (λ s. s) sets) (Member-items sets set item m n)
+module _ {X Y : Type 0} (f : X → List Y) where
+  -- the members of lists one after another
+  pub Member-flat_map : (y : Y) (xs : List X) → Member y (flat_map f xs) → (x : X) × Member x xs × Member y (f x)
+  Member-flat_map y [] m = absurd m
+  Member-flat_map y (x ∷ xs) m = elim (Member-append y (f x) (flat_map f xs) m) [
+    | inl here ↦ (x, inl refl, here)
+    | inr there ↦ (let r = Member-flat_map y xs there in (r.0, inr r.1, r.2))
+  ]
+
+  pub Member-into_flat_map : (y : Y) (x : X) (xs : List X) → Member x xs → Member y (f x) → Member y (flat_map f xs)
+  Member-into_flat_map y x [] m n = absurd m
+  Member-into_flat_map y x (z ∷ xs) (inl e) n = Member-append_left y (f z) (flat_map f xs) (subst (λ w. Member y (f w)) (sym e) n)
+  Member-into_flat_map y x (z ∷ xs) (inr m) n = Member-append_right y (f z) (flat_map f xs) (Member-into_flat_map y x xs m n)
 
 pub in_items : (sets : List (List ℕ)) (set : List ℕ) (item : ℕ) → Member set sets → Member item set → Member item (items_in sets)
-in_items sets set item m n = Member-into_rising (flat_map (λ s. s) sets) item (Member-items sets set item m n)
+in_items sets set item m n = Member-into_rising (flat_map (λ s. s) sets) item (Member-into_flat_map (λ s. s) item set sets m n)
 
 -- the candidates where the size is known
 abbrev pub of_size : ℕ → List (List ℕ) → List (List ℕ)

@@ -1,9 +1,8 @@
 -- How many candidates there are.
 use Rattle.std.proofs.Common.{◌≡◌, ℕ, ◌+◌, ◌-◌, ◌*◌, ◌/◌, ◌≤◌, Bool, true, false, List, [], ◌∷◌, ◌++◌, length, map, cond, leb, refl, sym, ap, ◌∙◌, subst, inl, inr, arith, zero, suc, append-nil}
-use Rattle.std.specs.Cmp.Lexicographic.{slice_cmp}
 use Rattle.std.specs.List.{filter, list_all}
 use Rattle.std.specs.Ordering.{nat_cmp}
-use Rattle.std.proofs.Math.Nat.{add-mul, mul-add, mul-suc, mul-div_cancel, suc-mul}
+use Rattle.std.proofs.Math.Nat.{add-mul, mul-suc, mul-div_cancel, suc-mul}
 use Rattle.std.proofs.lemmas.Bool.{and_from, and_left, and_parts, le-leb, lt-leb}
 use Rattle.std.proofs.lemmas.List.{length-append, length-map}
 use Rattle.std.proofs.lemmas.List.Elements.{filter-append}
@@ -15,16 +14,14 @@ use Rattle.basket_sets.specs.Order.{report_order, report_order_total}
 use Rattle.basket_sets.specs.Subsets.{subsets_of, subsets_of_size, subsets_up_to}
 use Rattle.basket_sets.specs.Support.{items_of}
 use Rattle.basket_sets.proofs.theory.Items.{filter-map, one_item}
-use Rattle.basket_sets.proofs.theory.Members.{Member, Member-filter, Member-from_filter, Member-from_Contains, Contains-from_Member, same_members, sorted_along}
+use Rattle.basket_sets.proofs.theory.Members.{Member, Member-filter, Member-from_filter, Member-from_Contains, Contains-from_Member, same_members}
 use Rattle.basket_sets.proofs.theory.Rising.{cons_rises, contains_each, has_each, nil_rises}
-use Rattle.basket_sets.proofs.theory.Subsets.{IsSubset-from_Member, Member-from_IsSubset, of_size_sorted, same_length}
-use Rattle.mine_apriori.specs.Candidates.{candidates_of, has_subsets}
-use Rattle.mine_apriori.specs.Join.{join, joined_from, joined_with, share_front}
-use Rattle.mine_apriori.specs.Levels.{asked_of, level_of, levels_up_to}
+use Rattle.basket_sets.proofs.theory.Subsets.{IsSubset-from_Member, Member-from_IsSubset}
+use Rattle.mine_apriori.specs.Candidates.{candidates_of}
+use Rattle.mine_apriori.specs.Levels.{asked_of, level_of}
 use Rattle.mine_apriori.specs.Work.{all_candidates, candidates_of_size, candidates_up_to, is_candidate}
-use Rattle.mine_apriori.proofs.CandidateLemmas.{joins_are_candidates}
-use Rattle.mine_apriori.proofs.LawLemmas.{candidates_are_exact, candidates_are_in_report_order, size_at}
-use Rattle.mine_apriori.proofs.LevelsLemmas.{candidate_items, empty_later, from_level, into_level, items_rise, level_sized, next_level, none_larger, up_to_next}
+use Rattle.mine_apriori.proofs.LawLemmas.{candidates_are_exact, candidates_are_in_report_order, of_size_in_order}
+use Rattle.mine_apriori.proofs.LevelsLemmas.{candidate_items, empty_later, from_level, into_level, items_rise, level_sized, next_level, none_larger}
 use Rattle.basket_sets.proofs.theory.Without.{all_pass, each_passes}
 
 -- ---- beyond the last size
@@ -72,10 +69,7 @@ module _ (coding : Coding) where
       let exact = λ (set : List ℕ). candidates_are_exact size level set some (level_sized coding size) in
       same_members report_order_total (asked_of coding size) (candidates_of_size coding.baskets coding.minimum (size + 1))
       (candidates_are_in_report_order level)
-      (IsStrictlySortedBy-filter report_order tests (subsets_of_size (size + 1) items)
-      (sorted_along (slice_cmp nat_cmp) report_order (subsets_of_size (size + 1) items)
-      (λ a b m n h. let s = IsSubset-from_Member (size + 1) items a up m in let t = IsSubset-from_Member (size + 1) items b up n in same_length a b (s.sized ∙ sym t.sized) h)
-      (of_size_sorted (size + 1) items up)))
+      (IsStrictlySortedBy-filter report_order tests (subsets_of_size (size + 1) items) (of_size_in_order (size + 1) items up))
       (λ set m. let c = (exact set).0 (Contains-from_Member set (asked_of coding size) m) in
       let one : size ≡ length set - 1 = omega (arith, c.sized) in
       Member-from_filter tests set (subsets_of_size (size + 1) items)
@@ -156,9 +150,7 @@ module _ (coding : Coding) where
   asked_pairs : asked_of coding 1 ≡ subsets_of_size 2 ranks
   asked_pairs = same_members report_order_total (asked_of coding 1) (subsets_of_size 2 ranks)
       (candidates_are_in_report_order (level_of coding 1))
-      (sorted_along (slice_cmp nat_cmp) report_order (subsets_of_size 2 ranks)
-      (λ a b m n h. let s = IsSubset-from_Member 2 ranks a ranks_rise m in let t = IsSubset-from_Member 2 ranks b ranks_rise n in same_length a b (s.sized ∙ sym t.sized) h)
-      (of_size_sorted 2 ranks ranks_rise))
+      (of_size_in_order 2 ranks ranks_rise)
       (λ set m. let c = (candidates_are_exact 1 (level_of coding 1) set (omega arith) (level_sized coding 1)).0 (Contains-from_Member set (asked_of coding 1) m) in
       Member-from_IsSubset 2 ranks set ranks_rise (record {
         rises = c.rises;
@@ -190,56 +182,3 @@ module _ (coding : Coding) where
   pair_count =
       ap length (candidates_next coding 1 (omega arith) ∙ ap (λ l. l ++ asked_of coding 1) (none_of_one coding) ∙ asked_pairs)
       ∙ sym (mul-div_cancel (length (subsets_of_size 2 ranks)) (omega arith)) ∙ ap (λ n. n / 2) (length-pairs ranks) ∙ ap (λ n. n * (n - 1) / 2) (sym level_long)
-
--- ---- candidates are no more than the square of the sets
-
-joined_with_few : (last : ℕ) (sets : List (List ℕ)) (set : List ℕ) (others : List (List ℕ)) → length (joined_with last sets set others) ≤ length others
-joined_with_few last sets set [] = omega arith
-joined_with_few last sets set (other ∷ others) =
-    at (share_front last set other) (has_subsets (suc last) sets (join last set other)) (joined_with_few last sets set others)
-  where
-    at : (s k : Bool) → length (joined_with last sets set others) ≤ length others
-        → length (cond s (cond k (join last set other ∷ joined_with last sets set others) (joined_with last sets set others)) []) ≤ suc (length others)
-    at true true le = omega arith
-    at true false le = omega arith
-    at false k le = omega arith
-
-joined_from_few : (last : ℕ) (sets list : List (List ℕ)) → length (joined_from last sets list) ≤ length list * length list
-joined_from_few last sets [] = omega arith
-joined_from_few last sets (set ∷ others) =
-    let here = joined_with_few last sets set others in
-    let rest = joined_from_few last sets others in
-    let long = length-append (joined_with last sets set others) (joined_from last sets others) in
-    let square : suc (length others) * suc (length others) ≡ length others * length others + length others + suc (length others) =
-    mul-suc (suc (length others)) (length others) ∙ ap (λ n. n + suc (length others)) (suc-mul (length others) (length others)) in
-    omega (arith, here, rest, long, square)
-
-asked_few : (coding : Coding) (size : ℕ) → 1 ≤ size → length (asked_of coding size) ≤ length (level_of coding size) * length (level_of coding size)
-asked_few coding zero some = absurd (omega arith)
-asked_few coding (suc last) some =
-    let level = level_of coding (suc last) in
-    let is = joins_are_candidates last level (size_at (suc last) level (level_sized coding (suc last)))
-    (IsStrictlySortedBy-filter (slice_cmp nat_cmp) (is_frequent coding.baskets coding.minimum) (subsets_of_size (suc last) (items_of coding.baskets)) (of_size_sorted (suc last) (items_of coding.baskets) (items_rise coding)))
-    (λ set m. (from_level coding (suc last) set m).0.rises) in
-    let few = joined_from_few last level level in
-    omega (arith, ap length is, few)
-
-pub candidates_few : (coding : Coding) (size : ℕ) → 1 ≤ size → length (candidates_up_to coding.baskets coding.minimum (size + 1)) ≤ length (levels_up_to coding size) * length (levels_up_to coding size)
-candidates_few coding zero some = absurd (omega arith)
-candidates_few coding (suc zero) some =
-    let all = ap length (candidates_next coding 1 some ∙ ap (λ l. l ++ asked_of coding 1) (none_of_one coding)) in
-    let few = asked_few coding 1 some in
-    omega (arith, all, few)
-candidates_few coding (suc (suc n)) some =
-    let size = suc n in
-    let one : suc size ≡ size + 1 = omega arith in
-    let f = length (levels_up_to coding size) in
-    let l = length (level_of coding (suc size)) in
-    let before = candidates_few coding (suc n) (omega arith) in
-    let next = ap length (candidates_next coding (suc size) some) ∙ length-append (candidates_up_to coding.baskets coding.minimum (suc size)) (asked_of coding (suc size)) in
-    let same = ap (λ m. length (candidates_up_to coding.baskets coding.minimum m)) one in
-    let level : length (levels_up_to coding (suc size)) ≡ f + l = ap (λ m. length (levels_up_to coding m)) one ∙ ap length (up_to_next coding size)
-    ∙ length-append (levels_up_to coding size) (level_of coding (size + 1)) ∙ ap (λ m. f + length (level_of coding m)) (sym one) in
-    let few = asked_few coding (suc size) some in
-    let product : (f + l) * (f + l) ≡ f * f + f * l + (l * f + l * l) = add-mul f l (f + l) ∙ ap (λ m. m + l * (f + l)) (mul-add f f l) ∙ ap (λ m. f * f + f * l + m) (mul-add l f l) in
-    subst (λ m. length (candidates_up_to coding.baskets coding.minimum (suc size + 1)) ≤ m * m) (sym level) (omega (arith, before, next, same, few, product))

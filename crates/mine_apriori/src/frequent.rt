@@ -7,8 +7,9 @@ ghost use Rattle.basket_sets.specs.Support.{support_of};
 ghost use Rattle.mine_supports.specs.Extensions.{extend, kept, sets_of};
 ghost use Rattle.mine_apriori.specs.Levels.{decoded_sets};
 
+use crate::join::put_extended;
 use basket_core::{Coded, CountedSets, Itemset};
-use mine_supports::{Extensions, PrefixRange, put_extended};
+use mine_supports::{Extensions, PrefixRange};
 use std::alloc::{AllocError, Global};
 
 /// Adds those sets of some prefixes that are frequent to those found, as items and with their supports. Returns them as
@@ -36,9 +37,7 @@ pub fn add_frequent(
         let items = sets.lists()[number].items();
         let (counts, others) = rest.split_at(items.len());
         let frequent = add_extensions(alloc, coded, prefix, items, counts, found)?;
-        if !frequent.is_empty() {
-            level = level.with_items(alloc, prefix, &frequent)?;
-        }
+        level = level.with_items(alloc, prefix, &frequent)?;
         rest = others;
     }
     Ok(level)

@@ -12,7 +12,7 @@ ghost use Rattle.mine_supports.specs.Sizes.{AreOfSize};
 
 use crate::intersection::push_shared;
 use crate::search::find_near;
-use mine_supports::{Extensions, PrefixRange, put_extended};
+use mine_supports::{Extensions, PrefixRange};
 use std::alloc::{AllocError, Global};
 use std::mem::swap;
 
@@ -75,9 +75,7 @@ fn join(
         later.clear();
         later.extend_from_slice(&items[place + 1..])?;
         keep_extensions(level, &joined, hints, &mut later, &mut room)?;
-        if !later.is_empty() {
-            found = found.with_items(alloc, &joined, &later)?;
-        }
+        found = found.with_items(alloc, &joined, &later)?;
     }
     Ok(found)
 }
@@ -132,5 +130,15 @@ fn keep_with(
         Err(at) => *hint = at,
     }
     swap(items, room);
+    Ok(())
+}
+
+/// Makes a set of a prefix and one item more. The room of its items is used again.
+pub(crate) fn put_extended(set: &mut Vec<u32>, prefix: &[u32], item: u32) -> Result<(), AllocError>
+    ensures { OnOk result (set.new.items ≡ prefix.now ++ item ∷ []) }
+{
+    set.clear();
+    set.extend_from_slice(prefix)?;
+    set.push(item)?;
     Ok(())
 }

@@ -5,8 +5,8 @@ ghost use Rattle.basket_ranks.specs.Codes.{IsCoding, baskets_of};
 ghost use Rattle.basket_core.specs.Listing.{listing_of};
 ghost use Rattle.basket_sets.specs.Support.{items_of};
 ghost use Rattle.mine_supports.specs.Extensions.{AreGrouped, sets_of};
+ghost use Rattle.mine_supports.specs.Sizes.{IsRegular};
 ghost use Rattle.mine_apriori.specs.Levels.{AreFound, AreTooMany, asked_of, level_of, wanted};
-ghost use Rattle.mine_apriori.specs.Shard.{IsRegular};
 ghost use Rattle.mine_apriori.specs.Work.{candidate_count, candidates_of_size, candidates_up_to};
 
 use crate::first_level::{FirstLevel, frequent_ranks};
@@ -200,13 +200,16 @@ impl<'a> KnownLevels<'a> {
             return Err(MineFault::TooMany { limit });
         }
         let asked = joiner.candidates(alloc, level)?;
+        let Some(counted) = counted.checked_add(asked.len() as u64) else {
+            return Err(MineFault::Memory);
+        };
         Ok(Levels {
             coded,
             limit,
             size,
             found,
-            counted: counted + asked.len() as u64,
             asked,
+            counted,
         })
     }
 }

@@ -1,9 +1,7 @@
 //! The frequent pairs of ranks, by the lesser one.
 ghost use Rattle.std.specs.Prelude.{◌≡◌, IfOk, map};
-ghost use Rattle.std.specs.Cmp.Lexicographic.{slice_cmp};
-ghost use Rattle.std.specs.List.Sorted.{IsStrictlySortedBy};
-ghost use Rattle.std.specs.Ordering.{nat_cmp};
 ghost use Rattle.basket_ranks.specs.Codes.{IsCoding};
+ghost use Rattle.basket_sets.specs.Order.{IsInReportOrder};
 ghost use Rattle.basket_sets.specs.Support.{support_of};
 ghost use Rattle.mine_supports.specs.Extensions.{AreGrouped, sets_of};
 ghost use Rattle.mine_apriori.specs.Levels.{level_of};
@@ -49,7 +47,7 @@ pub fn sorted_pairs(
 /// The pairs as sets, those of each lesser rank together, and their counts.
 pub fn pair_sets(alloc: Global, pairs: &[Pair]) -> Result<(Extensions, Vec<u64>), AllocError>
     requires two { AreOfSize 2 (map (λ pair. pair.ranks) pairs.now) }
-    requires sorted { IsStrictlySortedBy (slice_cmp nat_cmp) (map (λ pair. pair.ranks) pairs.now) }
+    requires in_order { IsInReportOrder (map (λ pair. pair.ranks) pairs.now) }
     ensures sets { IfOk result (λ found. sets_of found.0 ≡ map (λ pair. pair.ranks) pairs.now) }
     ensures grouped { IfOk result (λ found. AreGrouped found.0) }
     ensures counts { IfOk result (λ found. found.1.items ≡ map (λ pair. pair.count) pairs.now) }

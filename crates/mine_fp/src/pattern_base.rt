@@ -51,7 +51,6 @@ impl<'a> PatternBase<'a> {
         requires inside { number < self.now.paths.ranks }
         requires long { vec_len self.now.ranks ≡ self.now.paths.ranks }
         requires slots { HaveSlots tables.old self.now }
-        requires few { trees.old.number < 18446744073709551615 }
         ensures none { IfOk result (λ below. IfNone below (pairs_of self.now.paths.baskets self.now.least number ≡ [])) }
         ensures below { IfOk result (λ below. IfSome below (IsBelow self.now number)) }
         ensures kept { KeepSlots tables.old tables.new }
@@ -60,7 +59,7 @@ impl<'a> PatternBase<'a> {
         let mut ranks = self
             .paths
             .pairs(alloc, &mut tables.sums, number, self.least)?;
-        trees.number += 1;
+        trees.number = trees.number.checked_add(1).ok_or(AllocError)?;
         if ranks.is_empty() {
             return Ok(None);
         }

@@ -1,4 +1,2 @@
+mod AskedLemmas
 mod SupportLemmas
-mod LevelLemmas
-mod RunLemmas
-mod PlaceLemmas

@@ -1,3 +1,2 @@
 pub mod Supports
 pub mod Asked
-pub mod Placed

@@ -1,20 +1,12 @@
 //! The sets that are asked for.
 ghost use Rattle.std.specs.Prelude.{◌≡◌, IfOk};
 ghost use Rattle.mine_sets.specs.Asked.{asked_of};
-ghost use Rattle.mine_sets.specs.Placed.{placed};
 
 use basket_sets::Itemset;
 use indexmap::IndexSet;
 use std::alloc::{AllocError, Global};
 use std::hash::{BuildHasher, BuildHasherDefault, FoldHasher, RandomState};
 use std::random::RandomSource;
-
-/// A set that is asked for, and its place among them. They are ordered by set.
-#[derive(PartialEq, Eq, PartialOrd, Ord, Drop)]
-pub struct Asked {
-    pub set: Itemset,
-    pub place: usize,
-}
 
 /// The sets that are asked for: the empty set, and then each of the others once, at its first
 /// place. Equal sets are found by random keys, or by a fixed seed.
@@ -46,14 +38,4 @@ fn distinct_sets<S: BuildHasher + Drop>(
         distinct.insert(set)?;
     }
     distinct.into_iter().collect(alloc)
-}
-
-/// The sets with their places.
-pub fn placed(alloc: Global, sets: Vec<Itemset>) -> Result<Vec<Asked>, AllocError>
-    ensures { IfOk result (λ asked. asked.items ≡ placed sets.items) }
-{
-    sets.into_iter()
-        .enumerate()
-        .map(|(place, set)| Asked { set, place })
-        .collect(alloc)
 }

@@ -1,26 +1,19 @@
-//! The supports of sets at their places.
+//! The supports of given sets.
 ghost use Rattle.std.specs.Prelude.{◌≡◌, IfOk, map, zip};
 ghost use Rattle.basket_sets.specs.Frequent.{counted};
-ghost use Rattle.mine_sets.specs.Asked.{asked_of};
-ghost use Rattle.mine_sets.specs.Placed.{found_of, found_with, placed};
+ghost use Rattle.mine_sets.specs.Asked.{asked_of, counted_with};
 
-use crate::asked::{Asked, asked_for, placed};
-use crate::runs::count_in_order;
+use crate::asked::asked_for;
+use crate::supports::count_candidates;
 use basket_sets::{Counted, Database, Itemset};
 use mine_pieces::{Cutting, Gate};
+use mine_supports::Extensions;
 use std::alloc::{AllocError, Global};
 use std::random::RandomSource;
 use std::thread::Threads;
 
-/// A set with its support, and its place among those that are asked for. They are ordered by place.
-#[derive(PartialEq, Eq, PartialOrd, Ord, Drop)]
-pub struct PlacedSet {
-    place: usize,
-    counted: Counted,
-}
-
 /// The sets that are asked for with their supports: the empty set first, then each of the others once,
-/// at its first place.
+/// at its first place. Sets that share a prefix are counted faster where they stand in a row.
 pub fn count_sets<R: RandomSource + Threads + Sync, G: Gate + Sync>(
     rt: &R,
     alloc: Global,
@@ -31,52 +24,26 @@ pub fn count_sets<R: RandomSource + Threads + Sync, G: Gate + Sync>(
 ) -> Result<Vec<Counted>, AllocError>
     ensures { IfOk result (λ list. list.items ≡ map (counted database.now) (asked_of sets.items)) }
 {
-    let mut asked = placed(alloc, asked_for(rt, alloc, sets)?)?;
-    asked.sort_unstable();
-    let mut found = count_placed(rt, alloc, database, asked, cutting, gate)?;
-    found.sort_unstable();
-    listed(alloc, found)
+    let asked = asked_for(rt, alloc, sets)?;
+    let others = Extensions::of_sets(alloc, &asked)?;
+    let mut found = count_candidates(rt, alloc, database.baskets(), &others, cutting, gate)?;
+    // The empty set is in each basket.
+    let mut supports = Vec::with_capacity(alloc, asked.len())?;
+    supports.push(database.total())?;
+    supports.append(&mut found)?;
+    with_supports(alloc, asked, supports)
 }
 
-/// The sets with their supports, and with the places that they have.
-fn count_placed<R: Threads + Sync, G: Gate + Sync>(
-    rt: &R,
+/// Each set with the support beside it.
+fn with_supports(
     alloc: Global,
-    database: &Database,
-    asked: Vec<Asked>,
-    cutting: Cutting,
-    gate: &G,
-) -> Result<Vec<PlacedSet>, AllocError>
-    ensures { IfOk result (λ found. found.items ≡ map (found_of database.now) asked.items) }
-{
-    let places: Vec<usize> = asked.iter().map(|asked| asked.place).collect(alloc)?;
-    let sets: Vec<Itemset> = asked.into_iter().map(|asked| asked.set).collect(alloc)?;
-    let supports = count_in_order(rt, alloc, database, &sets, cutting, gate)?;
-    joined(alloc, places, sets, supports)
-}
-
-/// Each set with the value beside it.
-fn joined(
-    alloc: Global,
-    places: Vec<usize>,
     sets: Vec<Itemset>,
     supports: Vec<u64>,
-) -> Result<Vec<PlacedSet>, AllocError>
-    ensures { IfOk result (λ found. found.items ≡ map found_with (zip places.items (zip sets.items supports.items))) }
+) -> Result<Vec<Counted>, AllocError>
+    ensures { IfOk result (λ list. list.items ≡ map counted_with (zip sets.items supports.items)) }
 {
-    places
-        .into_iter()
-        .zip(sets.into_iter().zip(supports))
-        .map(|(place, (set, count))| PlacedSet {
-            place,
-            counted: Counted { set, count },
-        })
+    sets.into_iter()
+        .zip(supports)
+        .map(|(set, count)| Counted { set, count })
         .collect(alloc)
-}
-
-/// The sets with their supports, without their places.
-fn listed(alloc: Global, found: Vec<PlacedSet>) -> Result<Vec<Counted>, AllocError>
-    ensures { IfOk result (λ list. list.items ≡ map (λ f. f.counted) found.items) }
-{
-    found.into_iter().map(|found| found.counted).collect(alloc)
 }

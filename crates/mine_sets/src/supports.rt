@@ -4,21 +4,20 @@ ghost use Rattle.basket_sets.specs.Database.{MOST_WEIGHT};
 ghost use Rattle.basket_sets.specs.Support.{support_of, total_of};
 ghost use Rattle.mine_sets.specs.Supports.{AddsSupports, IsSupportShare};
 ghost use Rattle.mine_round.specs.Record.{unused};
+ghost use Rattle.mine_supports.specs.Extensions.{sets_of};
 
 use basket_ranks::shard;
 use basket_sets::Weighted;
 use mine_limit::MineFault;
-use mine_pieces::{Gate, Phase, WorkerResult, add_counts, by_workers, claim_piece};
+use mine_pieces::{Cutting, Gate, Phase, WorkerResult, add_counts, by_workers, claim_piece};
 use mine_round::{Round, RoundSeat};
-use mine_supports::RowCounter;
+use mine_supports::{Extensions, RowCounter, count_extensions};
 use std::alloc::{AllocError, Global};
 use std::thread::Threads;
 
-/// To claim this many baskets takes little time beside counting in them.
-const SMALL_PART: usize = 16;
-
-/// This many parts are never too many.
-const FEW_PARTS: usize = 128;
+/// A part has about this many baskets at least, or a worker would have no part: to find the rows of a set takes
+/// as long as some words of them.
+const LEAST_PART: usize = 4_096;
 
 /// The phase as its workers see it.
 #[derive(Drop)]
@@ -74,8 +73,39 @@ impl<G: Gate> SetCounting<'_, '_, '_, '_, '_, G> {
     }
 }
 
+/// The support of each set in the baskets, counted by a number of workers over parts of the baskets. The
+/// number of the phase is the size of the first set. One worker has no phase and one counter a set.
+pub fn count_candidates<R: Threads + Sync, G: Gate + Sync>(
+    rt: &R,
+    alloc: Global,
+    baskets: &[Weighted],
+    sets: &Extensions,
+    cutting: Cutting,
+    gate: &G,
+) -> Result<Vec<u64>, AllocError>
+    requires light { total_of baskets.now ≤ MOST_WEIGHT }
+    ensures { IfOk result (λ counts. counts.items ≡ map (support_of baskets.now) (sets_of sets.now)) }
+{
+    if cutting.workers == 1 {
+        return count_extensions(alloc, baskets, sets);
+    }
+    let size = match sets.prefixes().first() {
+        Some(prefix) => prefix.len().saturating_add(1),
+        None => 0,
+    };
+    let number = u32::try_from(size).unwrap_or(u32::MAX);
+    let counter = RowCounter::of(alloc, sets)?;
+    count_supports(
+        rt,
+        alloc,
+        baskets,
+        &counter,
+        &Phase::new(number, cutting, gate),
+    )
+}
+
 /// The support of each set in the baskets, counted by the workers of a phase over parts of the baskets.
-pub fn count_supports<'b, 'c, 's, 'p, R: Threads + Sync, G: Gate + Sync>(
+fn count_supports<'b, 'c, 's, 'p, R: Threads + Sync, G: Gate + Sync>(
     rt: &R,
     alloc: Global,
     baskets: &'b [Weighted],
@@ -85,7 +115,8 @@ pub fn count_supports<'b, 'c, 's, 'p, R: Threads + Sync, G: Gate + Sync>(
     requires light { total_of baskets.now ≤ MOST_WEIGHT }
     ensures { IfOk result (λ supports. supports.items ≡ map (support_of baskets.now) counter.now) }
 {
-    let phase = phase.for_parts((baskets.len() / SMALL_PART).max(FEW_PARTS));
+    let parts = (baskets.len() / LEAST_PART).max(phase.cutting.workers as usize);
+    let phase = phase.for_parts(parts);
     let cutting = phase.cutting;
     let (round, seats) = Round::new(alloc, cutting.pieces, counter.len(), cutting.workers)?;
     let counting = SetCounting {

@@ -1,9 +1,10 @@
 //! Sets as prefixes and the items that extend them.
-ghost use Rattle.std.specs.Prelude.{◌≡◌, ◌≤◌, ◌++◌, ◌∷◌, ◌↔◌, [], IfOk, IsTrue, OnOk, filter, length, slice_range};
+ghost use Rattle.std.specs.Prelude.{◌≡◌, ◌≤◌, ◌++◌, ◌∷◌, ◌↔◌, [], All, IfOk, IsTrue, filter, length, slice_range};
 ghost use Rattle.std.specs.List.{flat_map};
 ghost use Rattle.basket_sets.specs.Itemset.{IsRising};
-ghost use Rattle.mine_supports.specs.Extensions.{extend, is_some, lists_of, prefixes_of, sets_of};
+ghost use Rattle.mine_supports.specs.Extensions.{AreGrouped, extend, has_items, is_some, lists_of, prefixes_of, sets_of};
 ghost use Rattle.mine_supports.specs.Needed.{AreAtLeast};
+ghost use Rattle.mine_supports.specs.Sizes.{AreOfOneSize, IsRegular};
 
 use crate::prefix_range::PrefixRange;
 use basket_sets::Itemset;
@@ -48,7 +49,10 @@ impl Extensions {
     /// The sets, except those without items. Sets that share their prefix and have rising last items are best given in a
     /// row, as in report order.
     pub fn of_sets(alloc: Global, sets: &[Itemset]) -> Result<Self, AllocError>
-        ensures { IfOk result (λ extensions. sets_of extensions ≡ filter is_some sets.now) }
+        ensures sets { IfOk result (λ extensions. sets_of extensions ≡ filter is_some sets.now) }
+        ensures rising { IfOk result (λ extensions. All IsRising (sets_of extensions)) }
+        ensures all { AreOfOneSize sets.now → IfOk result (λ extensions. sets_of extensions ≡ sets.now) }
+        ensures grouped { IsRegular sets.now → IfOk result AreGrouped }
     {
         let mut found = Extensions::new(alloc);
         let mut prefix: &[u32] = &[];
@@ -66,7 +70,7 @@ impl Extensions {
         found.with_items(alloc, prefix, &items)
     }
 
-    /// The sets, and then those of one more prefix.
+    /// The sets, and then those of one more prefix, which is left out if nothing extends it.
     pub fn with_items(
         self,
         alloc: Global,
@@ -75,8 +79,11 @@ impl Extensions {
     ) -> Result<Self, AllocError>
         requires prefix { IsRising prefix.now }
         requires items { IsRising items.now }
-        ensures { IfOk result (λ more. more ≡ self ++ record { prefix = prefix.now; items = items.now } ∷ []) }
+        ensures { IfOk result (λ more. more ≡ self ++ filter has_items (record { prefix = prefix.now; items = items.now } ∷ [])) }
     {
+        if items.is_empty() {
+            return Ok(self);
+        }
         let Extensions {
             mut prefixes,
             mut lists,
@@ -213,7 +220,7 @@ fn count_prefixes(parts: &[Extensions]) -> usize {
 /// Whether an item can be added to rising ones.
 fn rises(items: &[u32], item: u32) -> bool
     requires { IsRising items.now }
-    ensures { IsTrue result → IsRising (items.now ++ item ∷ []) }
+    ensures { IsTrue result ↔ IsRising (items.now ++ item ∷ []) }
 {
     match items.last() {
         Some(last) => *last < item,
@@ -233,14 +240,4 @@ fn least_of(prefix: &[u32], items: &[u32]) -> usize
         }
     }
     prefix.len()
-}
-
-/// Makes a set of a prefix and one item more. The room of its items is used again.
-pub fn put_extended(set: &mut Vec<u32>, prefix: &[u32], item: u32) -> Result<(), AllocError>
-    ensures { OnOk result (set.new.items ≡ prefix.now ++ item ∷ []) }
-{
-    set.clear();
-    set.extend_from_slice(prefix)?;
-    set.push(item)?;
-    Ok(())
 }

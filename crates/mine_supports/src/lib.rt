@@ -18,6 +18,6 @@ mod tid_words;
 mod used_items;
 
 pub use counter::RowCounter;
-pub use extensions::{Extensions, put_extended};
+pub use extensions::Extensions;
 pub use prefix_range::PrefixRange;
 pub use shard::{count_extensions, count_shard};

@@ -1,6 +1,7 @@
 # mypy: allow-untyped-calls
 """Parts of the baskets where the workers of a cluster can read them."""
 
+import inspect
 import os
 from collections.abc import Hashable, Iterable, Sequence
 from dataclasses import dataclass
@@ -8,7 +9,6 @@ from functools import partial
 from pathlib import Path
 from typing import Any
 
-import dask.config
 from dask.bag.core import Bag
 from dask.base import is_dask_collection
 from dask.delayed import Delayed, delayed
@@ -19,21 +19,24 @@ from .._data import SEPARATOR_WORDS, read
 from .._errors import DataError
 from .._frames import place_of
 from .._keywords import Layout, PartLayout, changed, filled
-from ._labels import joined, packed, unpacked
+from ._labels import Numbering, joined, unpacked
 from ._tasks import awaited, tree
 from ._texts import (
     KEY,
+    coded,
     labels_of,
     labels_of_rows,
     no_rows,
     numbered_rows,
     read_part,
-    rows_of,
     same,
     text_of,
     text_of_rows,
 )
 from ._workers import demand_program
+
+# So many bytes of labels go with a task.
+_PIECE = 2**19
 
 
 @dataclass(frozen=True)
@@ -140,38 +143,8 @@ def _listed(
     """Delayed parts and futures: frames with a row for each item, which may cut baskets, or whole baskets."""
     if layout["basket"] is None and layout["item"] is None:
         return _baskets(parts, client, layout, waiting)
-    # Here, since it takes a second.
-    from dask.dataframe import from_delayed  # type: ignore[attr-defined]
-
-    names = _columns(layout)
-    frames = [
-        client.submit(rows_of, part, f"part {number} of {len(parts)}", names)
-        for number, part in enumerate(_futures(parts, client), 1)
-    ]
-    meta = waiting.result(client.submit(no_rows, frames[0]))
-    frame = from_delayed(frames, meta=meta, verify_meta=False)
-    return _frame(frame, client, layout, waiting)
-
-
-def _futures(parts: Iterable[Delayed | Future], client: Client) -> list[Future]:
-    return [
-        part if isinstance(part, Future) else client.compute(part) for part in parts
-    ]
-
-
-def _baskets(
-    parts: Iterable[Delayed | Future], client: Client, layout: Layout, waiting: _Waiting
-) -> Parts:
-    """Parts that have whole baskets each: iterables of them, frames with a column for each item, matrices."""
-    read_so = [
-        client.submit(read_part, part, layout, pure=False)
-        for part in _futures(parts, client)
-    ]
-    found = [client.submit(labels_of, part, pure=False) for part in read_so]
-    content = _all_labels(found, client, waiting)
-    numbering = client.submit(same, content, pure=False)
-    texts = [client.submit(text_of, part, numbering, pure=False) for part in read_so]
-    return Parts(texts, unpacked(content))
+    _columns(layout)
+    return _rows(parts, client, layout, waiting)
 
 
 def _frame(frame: Any, client: Client, layout: Layout, waiting: _Waiting) -> Parts:
@@ -180,20 +153,52 @@ def _frame(frame: Any, client: Client, layout: Layout, waiting: _Waiting) -> Par
     names = _columns(layout)
     for name in names:
         place_of(frame.columns, name)
-    kept = client.persist(frame[names])
-    found = [
-        client.submit(labels_of_rows, part, layout, pure=False)
-        for part in client.compute(kept.to_delayed())
-    ]
-    content = _all_labels(found, client, waiting)
-    numbering = client.submit(same, content, pure=False)
-    meta = numbered_rows(frame._meta, packed([]), layout)
-    # The shuffle for several machines, by tasks, which the engine can repeat.
-    with client.as_current(), dask.config.set(shuffle="tasks"):
-        rows = kept.map_partitions(numbered_rows, numbering, layout, meta=meta)
-        whole = rows.shuffle(KEY).to_delayed()
+    return _rows(frame[names].to_delayed(), client, layout, waiting)
+
+
+def _baskets(
+    parts: Sequence[Delayed | Future],
+    client: Client,
+    layout: Layout,
+    waiting: _Waiting,
+) -> Parts:
+    """Parts that have whole baskets each: iterables of them, frames with a column for each item, matrices."""
+    ask = partial(client.map, pure=False)
+    read_so = ask(read_part, _futures(parts, client), layout=layout)
+    content = _all_labels(ask(labels_of, read_so), client, waiting)
+    texts = ask(text_of, read_so, numbering=_numbering(content, client))
+    return Parts(texts, unpacked(content))
+
+
+def _rows(
+    parts: Sequence[Delayed | Future],
+    client: Client,
+    layout: Layout,
+    waiting: _Waiting,
+) -> Parts:
+    """Parts that have a row for each item, and may cut baskets: those of a basket are brought together."""
+    # Here, since it takes a second.
+    from dask.dataframe import from_delayed  # type: ignore[attr-defined]
+
+    ask = partial(client.map, pure=False)
+    names = [f"part {number} of {len(parts)}" for number in range(1, len(parts) + 1)]
+    own = ask(coded, _futures(parts, client), names, layout=layout)
+    content = _all_labels(ask(labels_of_rows, own), client, waiting)
+    frames = ask(numbered_rows, own, numbering=_numbering(content, client))
+    meta = no_rows(is_weighted=layout["weight"] is not None)
+    with client.as_current():
+        rows = from_delayed(frames, meta=meta, verify_meta=False)
+        # By tasks, which the engine can repeat. Later versions have another name for it.
+        known = inspect.signature(rows.shuffle).parameters
+        method = "shuffle" if "shuffle" in known else "shuffle_method"
+        whole = rows.shuffle(KEY, ignore_index=True, **{method: "tasks"}).to_delayed()
     texts = client.compute([delayed(text_of_rows)(part) for part in whole])
     return Parts(texts, unpacked(content))
+
+
+def _futures(parts: Sequence[Delayed | Future], client: Client) -> list[Future]:
+    found: list[Future] = client.compute([*parts])
+    return found
 
 
 def _columns(layout: Layout) -> list[Hashable]:
@@ -205,11 +210,21 @@ def _columns(layout: Layout) -> list[Hashable]:
 
 
 def _all_labels(parts: list[Future], client: Client, waiting: _Waiting) -> bytes:
-    """All of the labels of parts, packed, by first appearance over the parts in their order.
-
-    The client has them, and a task whose words they are gives them to the workers. So they stay
-    the same whatever is lost: the order of a set differs from process to process.
-    """
+    """All of the labels of parts, packed, by first appearance over the parts in their order."""
     submit = partial(client.submit, pure=False)
     content: bytes = waiting.result(tree(submit, joined, parts))
     return content
+
+
+def _numbering(content: bytes, client: Client) -> Future:
+    """The future of the numbers of all labels.
+
+    The client has the labels, and tasks whose words they are give them to the workers. So they stay
+    the same whatever is lost: the order of a set differs from process to process. A task has a piece
+    of them, since the engine warns of large words.
+    """
+    submit = partial(client.submit, pure=False)
+    starts = range(0, len(content), _PIECE)
+    pieces = [submit(same, content[start : start + _PIECE]) for start in starts]
+    numbering: Future = submit(Numbering, *pieces)
+    return numbering

@@ -1,44 +1,37 @@
 # mypy: allow-untyped-calls
 """What workers make of a part of the baskets: its labels, and its text by the numbers of all parts."""
 
-from collections.abc import Hashable, Sequence
-from typing import Any
+from typing import Any, NamedTuple
 
 import numpy as np
 import pandas as pd
 
-from .._baskets import Baskets, baskets_of, checked_weights, grouped
-from .._data import read
+from .._baskets import Baskets, baskets_of, grouped
+from .._data import read, rows_of
 from .._errors import DataError
-from .._frames import column_of, plain
+from .._frames import weights_by_place
 from .._keywords import Layout
 from .._numbering import numbered
 from .._tables import frame_of, is_table
 from ._keys import keys_of
-from ._labels import numbers_of, packed
+from ._labels import Numbering, packed
 
 KEY, BASKET, ITEM, WEIGHT = "key", "basket", "item", "weight"
 
 
-def same(numbering: bytes) -> bytes:
-    return numbering
+class Coded(NamedTuple):
+    """A part with a row for each item, and its labels, packed.
+
+    A row has a number that equal ids of baskets share, the basket's id and weight, and the place of its
+    item among the labels.
+    """
+
+    rows: pd.DataFrame
+    labels: bytes
 
 
-def rows_of(part: Any, name: str, columns: Sequence[Hashable]) -> pd.DataFrame:
-    """The columns of a part as a data frame of pandas."""
-    found = frame_of(part) if is_table(part) else part
-    if not isinstance(found, pd.DataFrame):
-        raise DataError(
-            f"a part with a row for each item is a data frame, not {type(part).__name__} ({name})"
-        )
-    try:
-        return pd.concat([column_of(found, column) for column in columns], axis=1)
-    except DataError as fault:
-        raise DataError(f"{fault} ({name})") from None
-
-
-def no_rows(part: pd.DataFrame) -> pd.DataFrame:
-    return part.iloc[:0]
+def same(piece: bytes) -> bytes:
+    return piece
 
 
 def read_part(part: Any, layout: Layout) -> Baskets:
@@ -53,14 +46,10 @@ def labels_of(part: Baskets) -> bytes:
     return packed(part.labels or ())
 
 
-def labels_of_rows(part: pd.DataFrame, layout: Layout) -> bytes:
-    return labels_of(read_part(part, layout))
-
-
-def text_of(part: Baskets, numbering: bytes) -> bytes:
+def text_of(part: Baskets, numbering: Numbering) -> bytes:
     """The lines of a part's baskets, with the numbers that all parts have."""
     assert isinstance(part.source, bytes)
-    numbers = numbers_of(part.labels or (), numbering)
+    numbers = numbering.of(labels_of(part)).tolist()
     own = {b"%d" % at: b"%d" % number for at, number in enumerate(numbers)}
     # A weight, as 3x, stays.
     lines = (
@@ -70,18 +59,45 @@ def text_of(part: Baskets, numbering: bytes) -> bytes:
     return b"".join(b"%s\n" % line for line in lines)
 
 
-def numbered_rows(part: pd.DataFrame, numbering: bytes, layout: Layout) -> pd.DataFrame:
-    """The rows of a part, without those of missing values: a number that equal ids of baskets share,
-    the id, and the number of the item."""
-    part = part.dropna()
-    codes, values = numbered(part[layout["item"]], layout["item"])
-    table = np.array(numbers_of(values.tolist(), numbering), dtype=np.int64)
-    places, ids = numbered(part[layout["basket"]], layout["basket"])
-    columns = {KEY: keys_of(ids)[places], BASKET: part[layout["basket"]]}
-    columns[ITEM] = table[codes]
-    if layout["weight"] is not None:
-        columns[WEIGHT] = part[layout["weight"]]
-    return pd.DataFrame(columns)
+def coded(part: Any, name: str, layout: Layout) -> Coded:
+    """The rows of a part, or `DataError` with its name."""
+    try:
+        return _coded(part, layout)
+    except DataError as fault:
+        raise DataError(f"{fault} ({name})") from None
+
+
+def _coded(part: Any, layout: Layout) -> Coded:
+    frame = frame_of(part) if is_table(part) else part
+    if not isinstance(frame, pd.DataFrame):
+        raise DataError(
+            f"a part with a row for each item is a data frame, not {type(part).__name__}"
+        )
+    found = rows_of(frame, layout)
+    columns = {
+        KEY: keys_of(found.ids)[found.places],
+        BASKET: found.ids.take(found.places),
+        ITEM: found.numbers,
+    }
+    if found.weights is not None:
+        columns[WEIGHT] = found.weights[found.places]
+    return Coded(pd.DataFrame(columns), packed(found.labels))
+
+
+def labels_of_rows(part: Coded) -> bytes:
+    return part.labels
+
+
+def numbered_rows(part: Coded, numbering: Numbering) -> pd.DataFrame:
+    """The rows of a part, with the numbers that items have in all parts."""
+    numbers = numbering.of(part.labels)[part.rows[ITEM].to_numpy()]
+    return part.rows.assign(**{ITEM: numbers})
+
+
+def no_rows(is_weighted: bool) -> pd.DataFrame:
+    """The columns of numbered rows."""
+    columns = [KEY, BASKET, ITEM, *[WEIGHT] * is_weighted]
+    return pd.DataFrame(columns=columns, dtype=np.int64).astype({BASKET: object})
 
 
 def text_of_rows(part: pd.DataFrame) -> bytes:
@@ -89,11 +105,8 @@ def text_of_rows(part: pd.DataFrame) -> bytes:
     places, _ = numbered(part[BASKET], BASKET)
     weights = None
     if WEIGHT in part:
-        values = checked_weights(plain(part[WEIGHT]))
-        weights = np.zeros(places.max(initial=-1) + 1, dtype=np.int64)
-        weights[places] = values
-        if (weights[places] != values).any():
-            raise DataError("a basket has several weights")
+        values = part[WEIGHT].to_numpy()
+        weights = weights_by_place(places, values, "the frame of all parts")
     places, numbers = grouped(places, part[ITEM].to_numpy())
     labels = range(numbers.max(initial=-1) + 1)
     made = baskets_of(places, numbers, labels, weights)

@@ -1,8 +1,8 @@
 -- How a cut list goes on.
-use Rattle.std.proofs.Common.{◌≡◌, ℕ, Bool, true, false, List, [], ◌∷◌, ◌++◌, cond, eqb, refl, sym, ap, ◌∙◌, inl, inr, append_assoc, ◌+◌, ◌≤◌, length, fold, suc, arith}
+use Rattle.std.proofs.Common.{◌≡◌, ℕ, Bool, true, false, List, [], ◌∷◌, ◌++◌, cond, eqb, refl, sym, ap, ◌∙◌, inl, inr, append_assoc, fold}
 use Rattle.std.specs.List.{list_all}
 use Rattle.std.proofs.lemmas.Bool.{cases_Bool, and_parts, and_from, ne_eqb}
-use Rattle.std.proofs.lemmas.List.{append-nil, length-append}
+use Rattle.std.proofs.lemmas.List.{append-nil}
 use Rattle.std.proofs.lemmas.List.Sums.{fold_push, fold-append}
 use Rattle.basket_sets.proofs.theory.Numerals.{all_push}
 use Rattle.basket_read.specs.Cut.{Cut, cut_more, cut_at, parts_of}
@@ -83,20 +83,6 @@ parts_good_before p good prefix =
     (λ ended last x h.
     let p = and_parts (list_all good ended) (good (last ++ x ∷ [])) (sym (all_push good ended (last ++ x ∷ [])) ∙ h) in
     all_push good ended last ∙ and_from (list_all good ended) (good last) p.0 (prefix last x p.1))
-
-abbrev pub size : Cut → ℕ
-size k = length k.ended + length k.last
-
--- the parts that have ended and the elements of the last are at most as many as all elements
-pub size_after : (p : ℕ → Bool) (c : Cut) (xs : List ℕ) → size (fold (cut_more p) c xs) ≤ size c + length xs
-size_after p c [] = omega arith
-size_after p c (x ∷ xs) = at (p x) (size_after p (cut (c.ended ++ c.last ∷ []) []) xs) (size_after p (cut c.ended (c.last ++ x ∷ [])) xs)
-  where
-    at : (b : Bool) → size (fold (cut_more p) (cut (c.ended ++ c.last ∷ []) []) xs) ≤ size (cut (c.ended ++ c.last ∷ []) []) + length xs
-        → size (fold (cut_more p) (cut c.ended (c.last ++ x ∷ [])) xs) ≤ size (cut c.ended (c.last ++ x ∷ [])) + length xs
-        → size (fold (cut_more p) (cond b (cut (c.ended ++ c.last ∷ []) []) (cut c.ended (c.last ++ x ∷ []))) xs) ≤ size c + suc (length xs)
-    at true ended joined = let one = length-append c.ended (c.last ∷ []) in omega arith
-    at false ended joined = let one = length-append c.last (x ∷ []) in omega arith
 
 -- ---- after a separator
 

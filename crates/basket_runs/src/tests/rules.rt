@@ -2,7 +2,7 @@
 use super::*;
 
 /// A basket of 12 items, and for each of them one that lacks it: 4,095 frequent sets at a minimum of
-/// 1, which several workers cut into three parts. All three have rules at a confidence of 3/4.
+/// 1, which several workers cut into 63 parts. Each of these has rules at a confidence of 3/4.
 fn lacking_one(alloc: Global) -> Result<Vec<u8>, AllocError> {
     let mut text = Vec::new(alloc);
     let mut buffer = Buffer::new();

@@ -1,5 +1,5 @@
 -- The joins and the frequent sets of the parts of a level are those of the level.
-use Rattle.std.proofs.Common.{◌≡◌, ℕ, ◌≤◌, Bool, List, [], ◌∷◌, ◌++◌, filter, length, map, suc, refl, subst, sym, ap, ◌∙◌}
+use Rattle.std.proofs.Common.{◌≡◌, ℕ, ◌≤◌, Bool, List, [], ◌∷◌, ◌++◌, filter, map, refl, subst, sym, ap, ◌∙◌}
 use Rattle.std.specs.List.{All, flat_map, range_with_len}
 use Rattle.std.proofs.lemmas.List.{map-append}
 use Rattle.std.proofs.lemmas.List.Concat.{flat_map-append, flat_map-cons}
@@ -13,12 +13,11 @@ use Rattle.basket_sets.specs.Frequent.{counted}
 use Rattle.basket_sets.specs.Itemset.{IsRising}
 use Rattle.basket_sets.specs.Order.{IsInReportOrder}
 use Rattle.mine_apriori.specs.Candidates.{candidates_of}
-use Rattle.mine_apriori.specs.Join.{joined_group, joined_groups}
+use Rattle.mine_apriori.specs.Join.{joined_groups}
 use Rattle.mine_apriori.specs.Levels.{decoded_sets}
 use Rattle.mine_supports.specs.Extensions.{AreGrouped, Group, has_items, kept, sets_of}
 use Rattle.mine_supports.proofs.theory.Extensions.{passing, sets_append}
-use Rattle.mine_apriori.proofs.JoinedLemmas.{candidates_grouped}
-use Rattle.mine_apriori.proofs.JoinStepLemmas.{level_candidates}
+use Rattle.mine_apriori.proofs.JoinedLemmas.{all_joined, candidates_grouped, join_of, level_joined}
 
 -- what is found group by group, of parts one after another
 module _ {X : Type 0} (of : List Group → List X) (none : of [] ≡ []) (more : (front back : List Group) → of (front ++ back) ≡ of front ++ of back) where
@@ -37,14 +36,13 @@ module _ {X : Type 0} (of : List Group → List X) (none : of [] ≡ []) (more :
 joined_by_parts : (sets : List (List ℕ)) (groups : List Group) (parts : ℕ) (values : List (List Group)) → 1 ≤ parts
     → values ≡ map (λ part. joined_groups sets (shard_of part parts groups)) (range_with_len 0 parts) → flat_map (λ value. value) values ≡ joined_groups sets groups
 joined_by_parts sets =
-    let join : Group → List Group = λ group. joined_group (suc (length group.prefix)) sets group.prefix group.items in
     by_parts (joined_groups sets) refl
-    (λ front back. ap (filter has_items) (flat_map-append join front back) ∙ filter-append has_items (flat_map join front) (flat_map join back))
+    (λ front back. ap (filter has_items) (flat_map-append (join_of sets) front back) ∙ filter-append has_items (all_joined sets front) (all_joined sets back))
 
 module _ (groups : List Group) (parts : ℕ) (values : List (List Group)) (some : 1 ≤ parts)
     (are : values ≡ map (λ part. joined_groups (sets_of groups) (shard_of part parts groups)) (range_with_len 0 parts)) (grouped : AreGrouped groups) (order : IsInReportOrder (sets_of groups)) where
   pub candidates_by_parts : All IsRising (sets_of groups) → sets_of (flat_map (λ value. value) values) ≡ candidates_of (sets_of groups)
-  candidates_by_parts rising = ap sets_of (joined_by_parts (sets_of groups) groups parts values some are) ∙ level_candidates groups grouped order rising
+  candidates_by_parts rising = ap sets_of (joined_by_parts (sets_of groups) groups parts values some are) ∙ level_joined groups grouped order rising
 
   pub grouped_by_parts : AreGrouped (flat_map (λ value. value) values)
   grouped_by_parts = subst AreGrouped (sym (joined_by_parts (sets_of groups) groups parts values some are)) (candidates_grouped groups grouped order)

@@ -59,6 +59,12 @@ pub sets_filled : (groups : List Group) → sets_of (filter has_items groups) �
 sets_filled [] = refl
 sets_filled (group ∷ groups) = filled_step group.prefix group.items (filter has_items groups) groups (sets_filled groups)
 
+-- the sets of one more prefix
+pub sets_with : (groups : List Group) (prefix items : List ℕ) → sets_of (groups ++ filter has_items (record { prefix = prefix; items = items } ∷ [])) ≡ sets_of groups ++ extend prefix items
+sets_with groups prefix items =
+    flat_map-append (λ (group : Group). extend group.prefix group.items) groups (filter has_items (record { prefix = prefix; items = items } ∷ []))
+    ∙ ap (λ l. sets_of groups ++ l) (sets_filled (record { prefix = prefix; items = items } ∷ []) ∙ append-nil (extend prefix items))
+
 abbrev pub passing : (List ℕ → Bool) → Group → Group
 passing passes group = record { prefix = group.prefix; items = filter (λ item. passes (group.prefix ++ item ∷ [])) group.items }
 
@@ -108,6 +114,14 @@ rises_above (x ∷ y ∷ items) item up above =
       | inl e ↦ (let h = first_below x (y ∷ items) up z (inl e) in h)
       | inr n ↦ (let h = first_below y (items ++ item ∷ []) rest z n in omega arith)
     ]) rest
+
+-- and the other way round
+pub last_below : (items : List ℕ) (item last : ℕ) → IsRising (items ++ item ∷ []) → slice_get items (length items - 1) ≡ Some last → last < item
+last_below [] item last up is = absurd (let no : None ≡ Some last = is in cc)
+last_below (x ∷ []) item last up is = let same : Some x ≡ Some last = is in let one : x ≡ last = cc in let less = first_below x (item ∷ []) up item (inl refl) in omega (arith, one, less)
+last_below (x ∷ y ∷ items) item last up is =
+    last_below (y ∷ items) item last (rest_rises x (y ∷ items ++ item ∷ []) up)
+    (ap (slice_get (x ∷ y ∷ items)) (let e : suc (length (y ∷ items) - 1) ≡ length (x ∷ y ∷ items) - 1 = omega arith in e) ∙ is)
 
 pub above_last : (items : List ℕ) (item last : ℕ) → slice_get items (length items - 1) ≡ Some last → last < item → (other : ℕ) → slice_get items (length items - 1) ≡ Some other → other < item
 above_last items item last is less other e = let same : Some last ≡ Some other = sym is ∙ e in let one : last ≡ other = cc in omega arith

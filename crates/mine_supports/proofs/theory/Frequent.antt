@@ -1,5 +1,5 @@
 -- The frequent sets among candidates, one after another.
-use Rattle.std.proofs.Common.{◌≡◌, ℕ, ◌+◌, ◌<◌, ◌≤◌, Bool, true, false, List, [], ◌∷◌, ◌++◌, length, filter, map, take, drop, get_or, cond, append-nil, append_assoc, refl, sym, ap, ◌∙◌, subst, arith}
+use Rattle.std.proofs.Common.{◌≡◌, ℕ, ◌+◌, ◌<◌, ◌≤◌, Bool, true, false, List, [], ◌∷◌, ◌++◌, length, filter, map, take, drop, get_or, cond, append_assoc, refl, sym, ap, ◌∙◌, subst, arith}
 use Rattle.std.specs.List.{All}
 use Rattle.std.proofs.lemmas.List.{drop_more, get_or-map, length-append, length-map, map-append, take_more}
 use Rattle.std.proofs.lemmas.List.Concat.{get_or-flat_map}
@@ -91,26 +91,12 @@ module _ (groups : List Group) (number : ℕ) (d : Group) (below : number < leng
       ∙ ap (λ l. old ++ l) (sym (ap (λ l. map f (filter passes l)) sets_next ∙ ap (map f) (filter-append passes first (extended group))
       ∙ map-append f (filter passes first) (filter passes (extended group))))
 
-  kept_next : (passes : List ℕ → Bool) → kept passes (take (number + 1) groups) ≡ kept passes (take number groups) ++ filter has_items (passing passes group ∷ [])
-  kept_next passes =
+  pub kept_next : (passes : List ℕ → Bool) → kept passes (take number groups) ++ filter has_items (passing passes group ∷ []) ≡ kept passes (take (number + 1) groups)
+  kept_next passes = sym (
       ap (kept passes) (take_more groups number d below)
       ∙ ap (filter has_items) (map-append (passing passes) (take number groups) (group ∷ []))
       ∙ filter-append has_items (map (passing passes) (take number groups)) (passing passes group ∷ [])
-
-  pub kept_some : (passes : List ℕ → Bool) (items : List ℕ) → items ≡ filter (λ item. passes (group.prefix ++ item ∷ [])) group.items → is_some items ≡ true
-      → kept passes (take number groups) ++ record { prefix = group.prefix; items = items } ∷ [] ≡ kept passes (take (number + 1) groups)
-  kept_some passes items is some =
-      (λ i. kept passes (take number groups) ++ cond (sym some i) (record { prefix = group.prefix; items = items } ∷ []) [])
-      ∙ ap (λ l. kept passes (take number groups) ++ filter has_items (record { prefix = group.prefix; items = l } ∷ [])) is
-      ∙ sym (kept_next passes)
-
-  pub kept_none : (passes : List ℕ → Bool) (items : List ℕ) → items ≡ filter (λ item. passes (group.prefix ++ item ∷ [])) group.items → is_some items ≡ false
-      → kept passes (take number groups) ≡ kept passes (take (number + 1) groups)
-  kept_none passes items is none =
-      sym (append-nil (kept passes (take number groups)))
-      ∙ (λ i. kept passes (take number groups) ++ cond (sym none i) (record { prefix = group.prefix; items = items } ∷ []) [])
-      ∙ ap (λ l. kept passes (take number groups) ++ filter has_items (record { prefix = group.prefix; items = l } ∷ [])) is
-      ∙ sym (kept_next passes)
+      )
 
 -- ---- sets without items among others
 

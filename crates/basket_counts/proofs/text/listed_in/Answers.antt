@@ -1,5 +1,5 @@
 use Rattle.std.proofs.Common.{◌≡◌, ◌+◌, ◌++◌, ◌∷◌, [], take, refl, sym, ap, ◌∙◌, subst, arith}
-use Rattle.std.proofs.lemmas.List.{length-take, take_all, take_rest}
+use Rattle.std.proofs.lemmas.List.{take_all, take_rest}
 use Rattle.std.proofs.lemmas.Result.{err_from_is_err_and}
 use Rattle.basket_read.specs.Cut.{parts_of}
 use Rattle.basket_read.specs.Fimi.{is_line_feed}
@@ -8,14 +8,8 @@ use Rattle.basket_counts.specs.Counts.{is_line, fault_at_from, fault_from, entri
 use Rattle.basket_counts.specs.ListedSets.{HasEntries}
 use Rattle.basket_counts.specs.Text.{IsTextSoFar}
 use Rattle.basket_read.proofs.theory.Grammar.{fault_in_piece, take_next}
-use Rattle.basket_counts.proofs.TextLemmas.{run_taken, few_lines, fewer_lines, says_all}
+use Rattle.basket_counts.proofs.TextLemmas.{run_taken, says_all}
 use Rattle.basket_counts.proofs.text.listed_in.Goals as goal
-
-pub take-requires : goal.take-requires
-take-requires c =
-    let i = c.loop-text.taken + c.in_ok-taken.field-0 in
-    let here = run_taken c.loop-text.text c.take_run.new.self (c.args.before + 1) c.args.bytes.now _ c.loop-text.taken c.in_ok-taken.field-0 c.loop-text.invariant.text (take_rest c.args.bytes.now c.loop-text.taken) c.in_ok-taken.ensures.line in
-    omega (arith, few_lines _ (c.args.before + 1) (take i c.args.bytes.now) here, length-take i c.args.bytes.now, c.in-Some.ensures.lookup.3.0, c.requires)
 
 pub returns-in_err-take-in-Some : goal.returns-in_err-take-in-Some
 returns-in_err-take-in-Some c =
@@ -37,12 +31,6 @@ loop-text-preserved c =
       text = subst (IsTextSoFar c.take.new.self (c.args.before + 1)) (ap (λ b. take i c.args.bytes.now ++ b ∷ []) (byte.1 0) ∙ take_next [] c.args.bytes.now i byte.0)
           (c.in_ok-take-in-Some.ensures (c.args.before + 1) (take i c.args.bytes.now) here);
     }
-
-pub end_line-requires : goal.end_line-requires
-end_line-requires c = λ some.
-    let i = c.loop-text.taken + c.in_ok-taken.field-0 in
-    let here = run_taken c.loop-text.text c.take_run.new.self (c.args.before + 1) c.args.bytes.now _ c.loop-text.taken c.in_ok-taken.field-0 c.loop-text.invariant.text (take_rest c.args.bytes.now c.loop-text.taken) c.in_ok-taken.ensures.line in
-    omega (arith, fewer_lines _ (c.args.before + 1) (take i c.args.bytes.now) here some, length-take i c.args.bytes.now, c.requires)
 
 pub returns-in-None : goal.returns-in-None
 returns-in-None c =

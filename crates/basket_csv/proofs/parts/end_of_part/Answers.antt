@@ -1,5 +1,5 @@
 use Rattle.std.proofs.Common.{length, sym, ◌/◌, ◌∙◌}
-use Rattle.basket_csv.proofs.PartLemmas.{cut_after}
+use Rattle.basket_csv.proofs.MarkLemmas.{cut_after}
 use Rattle.basket_csv.proofs.parts.end_of_part.Goals as goal
 
 pub returns-then-not-starts_with-clause-cut : goal.returns-then-not-starts_with-clause-cut

@@ -1,10 +1,10 @@
-use Rattle.std.proofs.Common.{◌≡◌, ◌++◌, length, sym, subst, ◌∙◌}
+use Rattle.std.proofs.Common.{◌++◌, sym, subst, ◌∙◌}
 use Rattle.std.proofs.lemmas.List.{take-append-drop}
 use Rattle.std.proofs.lemmas.Result.{err_from_is_err_and}
 use Rattle.basket_read.specs.Fault.{ReturnsBy}
 use Rattle.basket_read.specs.Fimi.{if_light}
 use Rattle.basket_read.specs.GatheredBaskets.{Gathers}
-use Rattle.basket_csv.proofs.GatherLemmas.{back_heavy, back_rows, few_found, front_heavy, front_rows, halves_found}
+use Rattle.basket_csv.proofs.HalfLemmas.{back_heavy, back_rows, few_found, front_heavy, front_rows, halves_found}
 use Rattle.basket_csv.proofs.renumbered.+halves.Goals as goal
 
 pub gathered_shared-gathered_halves-counts-requires-clause-front : goal.gathered_shared-gathered_halves-counts-requires-clause-front

@@ -1,4 +1,4 @@
-use Rattle.std.proofs.Common.{◌+◌, ◌-◌, ◌*◌}
+use Rattle.std.proofs.Common.{◌-◌, ◌*◌}
 use Rattle.basket_csv.proofs.shared.+parts.Given as goal
 
 abbrev pub decreases-read_parts : goal.decreases-read_parts

@@ -29,9 +29,6 @@ returns-then-failed-clause-read g c =
     stops_failed _ _ _ _ (read.0 ++ batch) c.unwrap_or.result (sym c.failed.ensures ∙ c.if-failed.true) (taken_in _ _ _ read.0 _ _ c.in_ok-count.count c.deref.ensures.value read.1 c.in_ok-count.ensures.given) (Keeps-refl _)
     (c.unwrap_or.ensures ∙ ap (λ found. unwrap_or found Read) (c.fault_so_far.ensures c.args.counting (read.0 ++ batch) on))
 
-pub finish-requires : goal.finish-requires
-finish-requires g c = let read = c.reading.invariant.read in let on = c.in_ok-take.ensures c.args.counting read.0 read.2 in ∣ (_, _, on) ∣₁
-
 pub returns-then-count-most-clause-read : goal.returns-then-count-most-clause-read
 returns-then-count-most-clause-read g c =
     let read = c.reading.invariant.read in

@@ -1,14 +1,12 @@
-use Rattle.std.proofs.Common.{ℕ, Bool, List, Result, ◌++◌, [], length, append_assoc, length-append, take-append-drop, ap, ◌∙◌, sym, subst, arith}
+use Rattle.std.proofs.Common.{ℕ, Bool, List, Result, ◌++◌, [], append_assoc, take-append-drop, ap, ◌∙◌, sym, subst}
 use Rattle.std.specs.Prelude.{MatchResult}
 use Rattle.std.proofs.lemmas.Result.{IfOk-weaker, err_from_is_err_and}
-use Rattle.std.proofs.Math.Logic.{∥∥₁_map}
 use Rattle.basket_read.specs.declared.fault.ReadFault.{ReadFault}
 use Rattle.basket_read.specs.declared.text.Text.{Text}
 use Rattle.basket_read.specs.Cut.{cut_at}
-use Rattle.basket_read.specs.Fimi.{is_line_feed, first_fault, MOST_BYTES}
+use Rattle.basket_read.specs.Fimi.{is_line_feed, first_fault}
 use Rattle.basket_read.specs.Fault.{ReturnsFault}
 use Rattle.basket_read.specs.Text.{IsTextSoFar}
-use Rattle.basket_read.proofs.RoomLemmas.{merely_at_most, room_after}
 use Rattle.basket_read.proofs.TextLemmas.{fault_in_prefix, if_ok}
 use Rattle.basket_read.proofs.lines.+halves.Goals as goal
 
@@ -21,14 +19,6 @@ feed_shared-returns-in_err-feed g t c = λ counting bytes so_far.
     let p = err_from_is_err_and c.from_residual.result c.from_residual.ensures.1 in
     rw (p.1, p.2) (c.in_err-feed.ensures counting bytes so_far)
 
-pub feed_shared-feed_halves-text-requires-clause-prefix : goal.feed_shared-feed_halves-text-requires-clause-prefix
-feed_shared-feed_halves-text-requires-clause-prefix g t c κs within =
-    ∥∥₁_map c.requires (λ w. (w.0, w.1, let few = w.2 in let below = c.in-Some.ensures.within in let cut = c.split_at.ensures.front_len in omega arith))
-
-pub feed_shared-feed_halves-text-requires-clause-rest : goal.feed_shared-feed_halves-text-requires-clause-rest
-feed_shared-feed_halves-text-requires-clause-rest g t c κs within =
-    merely_at_most (length c.split_at.result.1.now) MOST_BYTES c.requires (λ w. let few = w.2 in let long = c.split_at.ensures.back_len in omega arith)
-
 pub feed_shared-returns-in_err-text : goal.feed_shared-returns-in_err-text
 feed_shared-returns-in_err-text g t c = λ counting bytes so_far.
     let p = err_from_is_err_and c.from_residual-in_err-text.result c.from_residual-in_err-text.ensures.1 in
@@ -36,19 +26,6 @@ feed_shared-returns-in_err-text g t c = λ counting bytes so_far.
     let whole = (λ i. c.split_at.ensures.front i ++ c.split_at.ensures.back i) ∙ take-append-drop c.in-Some.end c.args.piece.now in
     rw (p.1, p.2) (fault_in_prefix bytes prefix c.split_at.result.1.now c.args.piece.now c.in_err-text.field-0.0 whole
     (subst (Reads counting (bytes ++ prefix)) c.in_err-text.was (c.feed_halves-text.ensures.prefix counting bytes so_far)))
-
-pub feed_shared-append-requires : goal.feed_shared-append-requires
-feed_shared-append-requires g t c =
-    let prefix = c.split_at.result.0.now in
-    IfOk-weaker c.feed_halves-text.result.1 _ _
-    (λ read some. ∥∥₁_map c.requires (λ w. (
-      w.0 ++ prefix,
-      c.split_at.result.1.now,
-      (w.1.0, subst (Reads w.1.0 (w.0 ++ prefix)) c.in_ok-text.was (c.feed_halves-text.ensures.prefix w.1.0 w.0 w.1.1)),
-      some,
-      let few = w.2 in let within = c.in-Some.ensures.within in let cut = c.split_at.ensures.front_len in let long = c.split_at.ensures.back_len in
-          let sum = length-append w.0 prefix in omega arith,
-    ))) c.feed_halves-text.ensures.rest
 
 pub feed_shared-returns-then-branch : goal.feed_shared-returns-then-branch
 feed_shared-returns-then-branch g t c = λ counting bytes so_far.
@@ -59,15 +36,6 @@ feed_shared-returns-then-branch g t c = λ counting bytes so_far.
     (c.in_ok-append.ensures.text counting (bytes ++ prefix) rest
     (subst (Reads counting (bytes ++ prefix)) c.in_ok-text.was (c.feed_halves-text.ensures.prefix counting bytes so_far))
     (ap (λ l. (cut_at is_line_feed (bytes ++ l)).last) c.split_at.ensures.front ∙ c.in-Some.ensures.ends bytes) c.feed_halves-text.ensures.rest c.if-branch.true)
-
--- if the rest isn't appended, the text is as it was after the prefix
-pub feed_shared-feed-requires-2 : goal.feed_shared-feed-requires-2
-feed_shared-feed-requires-2 g t c =
-    let prefix = c.split_at.result.0.now in
-    room_after c.args.text c.append.new.self prefix (length c.split_at.result.1.now) (length c.args.piece.now)
-    (let within = c.in-Some.ensures.within in let cut = c.split_at.ensures.front_len in let long = c.split_at.ensures.back_len in omega arith) c.requires
-    (λ counting bytes so_far. subst (λ text. IsTextSoFar text counting (bytes ++ prefix)) (sym (c.in_ok-append.ensures.left c.if-branch.false))
-    (subst (Reads counting (bytes ++ prefix)) c.in_ok-text.was (c.feed_halves-text.ensures.prefix counting bytes so_far)))
 
 pub feed_shared-returns-in_err-feed-2 : goal.feed_shared-returns-in_err-feed-2
 feed_shared-returns-in_err-feed-2 g t c = λ counting bytes so_far.

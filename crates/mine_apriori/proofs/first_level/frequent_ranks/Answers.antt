@@ -6,12 +6,13 @@ use Rattle.basket_sets.specs.Frequent.{is_frequent}
 use Rattle.basket_sets.specs.Itemset.{IsRising}
 use Rattle.basket_sets.specs.Support.{items_of, support_of}
 use Rattle.basket_sets.proofs.theory.Rising.{nil_rises}
-use Rattle.mine_supports.specs.Extensions.{AreGrouped, sets_of}
+use Rattle.mine_supports.specs.Extensions.{AreGrouped, Group, has_items, sets_of}
 use Rattle.mine_apriori.specs.Levels.{decoded_sets}
-use Rattle.mine_supports.proofs.theory.Extensions.{kept_sets}
+use Rattle.mine_supports.proofs.theory.Extensions.{kept_sets, sets_filled}
 use Rattle.mine_supports.proofs.theory.Frequent.{singles_rise}
 use Rattle.mine_apriori.proofs.JoinedLemmas.{kept_grouped}
-use Rattle.mine_apriori.proofs.JoinStepLemmas.{one_grouped}
+use Rattle.mine_supports.proofs.theory.Grouped.{one_grouped}
+use Rattle.mine_apriori.proofs.GroupLemmas.{filter_grouped}
 use Rattle.mine_apriori.proofs.LevelsLemmas.{first_asked, first_level, first_ranks, items_rise}
 use Rattle.mine_apriori.proofs.first_level.frequent_ranks.Goals as goal
 use Rattle.mine_apriori.proofs.first_level.frequent_ranks.Goals.{After-deref, After-found-2-1}
@@ -28,11 +29,11 @@ with_items-requires-clause-prefix c = nil_rises
 pub with_items-requires-clause-items : goal.with_items-requires-clause-items
 with_items-requires-clause-items c = subst IsRising (sym (ranks_are c)) (items_rise c.args.coded.now)
 
-sets_are : (c : After-found-2-1) → c.in_ok-sets.sets ≡ record { prefix = []; items = c.deref.result.now } ∷ []
-sets_are c = c.in_ok-sets.ensures ∙ ap (λ l. l ++ record { prefix = []; items = c.deref.result.now } ∷ []) c.new.ensures
+sets_are : (c : After-found-2-1) → c.in_ok-sets.sets ≡ filter has_items (record { prefix = []; items = c.deref.result.now } ∷ [])
+sets_are c = c.in_ok-sets.ensures ∙ ap (λ l. l ++ filter has_items (record { prefix = []; items = c.deref.result.now } ∷ [])) c.new.ensures
 
 listed : (c : After-found-2-1) → c.deref.result.now ≡ items_of c.args.coded.now.baskets → sets_of c.in_ok-sets.sets ≡ map (λ rank. rank ∷ []) (items_of c.args.coded.now.baskets)
-listed c ranks = ap sets_of (sets_are c) ∙ append-nil (map (λ rank. rank ∷ []) c.deref.result.now) ∙ ap (map (λ rank. rank ∷ [])) ranks
+listed c ranks = ap sets_of (sets_are c) ∙ sets_filled (record { prefix = []; items = c.deref.result.now } ∷ []) ∙ append-nil (map (λ rank. rank ∷ []) c.deref.result.now) ∙ ap (map (λ rank. rank ∷ [])) ranks
 
 pub add_frequent-requires-clause-coding : goal.add_frequent-requires-clause-coding
 add_frequent-requires-clause-coding c = c.baskets.ensures.coding
@@ -64,5 +65,6 @@ returns-clause-level c =
 pub returns-clause-grouped : goal.returns-clause-grouped
 returns-clause-grouped c =
     let coding = c.args.coded.now in
+    let group : Group = record { prefix = []; items = c.deref.result.now } in
     subst AreGrouped (sym c.in_ok-level.ensures.level) (kept_grouped (is_frequent coding.baskets coding.minimum) c.in_ok-sets.sets
-    (subst AreGrouped (sym (sets_are (goal.at.returns-clause-grouped c).After-found-2-1)) (one_grouped c.deref.result.now)))
+    (subst AreGrouped (sym (sets_are (goal.at.returns-clause-grouped c).After-found-2-1)) (filter_grouped has_items (group ∷ []) (one_grouped group))))

@@ -7,13 +7,12 @@ use Rattle.basket_sets.specs.Frequent.{counted, is_frequent}
 use Rattle.basket_sets.specs.Itemset.{IsRising}
 use Rattle.basket_sets.specs.Support.{support_of}
 use Rattle.basket_sets.proofs.theory.Ranges.{filter_rises}
-use Rattle.mine_supports.specs.Extensions.{Group, extend, kept, sets_of}
+use Rattle.mine_supports.specs.Extensions.{Group, extend, has_items, kept, sets_of}
 use Rattle.mine_apriori.specs.Levels.{decoded_sets}
 use Rattle.mine_supports.proofs.theory.Extensions.{items_read, no_group, prefix_read, range_at, range_long}
-use Rattle.mine_supports.proofs.theory.Frequent.{counts_first, counts_rest, counts_within, found_next, group_rises, kept_none, kept_some}
-use Rattle.mine_apriori.proofs.JoinStepLemmas.{none_if, some_if}
+use Rattle.mine_supports.proofs.theory.Frequent.{counts_first, counts_rest, counts_within, found_next, group_rises, kept_next}
 use Rattle.mine_apriori.proofs.frequent.add_frequent.Goals as goal
-use Rattle.mine_apriori.proofs.frequent.add_frequent.Goals.{After-items-items, then-not-is_empty+in_ok-level, else-not-is_empty}
+use Rattle.mine_apriori.proofs.frequent.add_frequent.Goals.{After-items-items}
 
 -- the place of the prefix among those of the range
 abbrev at : After-items-items → ℕ
@@ -73,20 +72,14 @@ loop-number-preserved c =
     let passes = is_frequent coding.baskets coding.minimum in
     let prefix = prefix_is before in
     let items = list_is before in
-    let frequent = c.in_ok-frequent.frequent.items in
     let are = c.in_ok-frequent.ensures.items ∙ (λ i. filter (λ item. passes (prefix i ++ item ∷ [])) (items i)) in
     let next : number + 1 ≡ c.loop-number.number + 1 - c.args.range.start = omega arith in
     record {
       rest = c.split_at.ensures.back ∙ ap (λ n. drop n c.loop-number.rest.now) (ap length (list_is before))
           ∙ counts_rest all number no_group (below before) (support_of coding.baskets) c.loop-number.rest.now c.loop-number.invariant.rest
           ∙ ap (λ n. map (support_of coding.baskets) (sets_of (drop n all))) next;
-      level = elim c.if-not-is_empty.branch [
-        | then-not-is_empty+in_ok-level w ↦
-            w.level-is ∙ w.in_ok-level.ensures ∙ (λ i. c.loop-number.invariant.level i ++ record { prefix = prefix i; items = w.deref.ensures.value i } ∷ [])
-            ∙ kept_some all number no_group (below before) passes frequent are (some_if frequent _ (omega (arith, c.in_ok-frequent.frequent.ok)) (sym c.is_empty.ensures ∙ w.if-not-is_empty.true))
-        | else-not-is_empty w ↦
-            w.level-is ∙ c.loop-number.invariant.level ∙ kept_none all number no_group (below before) passes frequent are (none_if frequent _ (omega (arith, c.in_ok-frequent.frequent.ok)) (sym c.is_empty.ensures ∙ w.if-not-is_empty.false))
-      ] ∙ ap (λ n. kept passes (take n all)) next;
+      level = c.in_ok-level.ensures ∙ (λ i. c.loop-number.invariant.level i ++ filter has_items (record { prefix = prefix i; items = (c.deref.ensures.value ∙ are) i } ∷ []))
+          ∙ kept_next all number no_group (below before) passes ∙ ap (λ n. kept passes (take n all)) next;
       found = found_next all number no_group (below before) (λ set. decoded_set coding.items (counted coding.baskets set)) passes c.args.found.now c.loop-number.found c.add_extensions.new.found c.loop-number.invariant.found
           (c.in_ok-frequent.ensures.found ∙ (λ i. c.loop-number.found ++ decoded_sets coding (filter passes (extend (prefix i) (items i)))))
           ∙ ap (λ n. c.args.found.now ++ decoded_sets coding (filter passes (sets_of (take n all)))) next;

@@ -2,13 +2,13 @@ use Rattle.std.proofs.Common.{◌≡◌, ◌+◌, ◌-◌, ◌∷◌, ◌++◌, 
 use Rattle.std.proofs.lemmas.List.{take_rest}
 use Rattle.basket_sets.specs.Itemset.{IsRising}
 use Rattle.basket_sets.proofs.theory.Ranges.{filter_rises}
-use Rattle.mine_supports.specs.Extensions.{has_items, is_some, sets_of}
+use Rattle.mine_supports.specs.Extensions.{has_items, sets_of}
 use Rattle.mine_apriori.specs.Join.{has_parts, joined_group}
-use Rattle.mine_apriori.proofs.CandidateLemmas.{length_after}
+use Rattle.mine_apriori.proofs.JoinLemmas.{length_after}
 use Rattle.mine_apriori.proofs.IntersectionLemmas.{drop_rises}
-use Rattle.mine_apriori.proofs.JoinStepLemmas.{joined_none, joined_some, none_if, some_if}
+use Rattle.mine_apriori.proofs.JoinStepLemmas.{join_more}
 use Rattle.mine_apriori.proofs.join.join.Goals as goal
-use Rattle.mine_apriori.proofs.join.join.Goals.{After-room-1, After-is_empty, then-not-is_empty+in_ok-found, else-not-is_empty}
+use Rattle.mine_apriori.proofs.join.join.Goals.{After-room-1, After-deref-in-loop-place}
 
 -- the later items
 later_are : (c : After-room-1) → c.extend_from_slice.new.self.items ≡ drop (c.loop-place.place + 1) c.args.items.now
@@ -21,7 +21,7 @@ pub keep_extensions-requires-clause-rising : goal.keep_extensions-requires-claus
 keep_extensions-requires-clause-rising c = subst IsRising (sym (later_are c)) (drop_rises (c.loop-place.place + 1) c.args.items.now c.requires.parts.items_rise)
 
 -- and those of them with which the set has its subsets
-kept_are : (c : After-is_empty) → c.extend_from_slice.new.self.items ≡ drop (c.loop-place.place + 1) c.args.items.now → c.keep_extensions.new.items.items
+kept_are : (c : After-deref-in-loop-place) → c.extend_from_slice.new.self.items ≡ drop (c.loop-place.place + 1) c.args.items.now → c.keep_extensions.new.items.items
     ≡ filter (has_parts (length c.args.prefix.now) (sets_of c.args.level.now) (c.args.prefix.now ++ get_or c.args.items.now c.loop-place.place 0 ∷ [])) (drop (c.loop-place.place + 1) c.args.items.now)
 kept_are c later =
     let set = c.deref.ensures.value ∙ c.in_ok-put_extended.ensures in
@@ -30,8 +30,8 @@ kept_are c later =
 
 pub with_items-requires-clause-items : goal.with_items-requires-clause-items
 with_items-requires-clause-items c =
-    let kept = kept_are (goal.at.with_items-requires-clause-items c).After-is_empty (later_are (goal.at.with_items-requires-clause-items c).After-room-1) in
-    subst IsRising (sym (c.deref-then-not-is_empty-2.ensures.value ∙ kept))
+    let kept = kept_are (goal.at.with_items-requires-clause-items c).After-deref-in-loop-place (later_are (goal.at.with_items-requires-clause-items c).After-room-1) in
+    subst IsRising (sym (c.deref-in-loop-place-2.ensures.value ∙ kept))
     (filter_rises (has_parts (length c.args.prefix.now) (sets_of c.args.level.now) (c.args.prefix.now ++ get_or c.args.items.now c.loop-place.place 0 ∷ [])) (drop (c.loop-place.place + 1) c.args.items.now)
     (drop_rises (c.loop-place.place + 1) c.args.items.now c.requires.parts.items_rise))
 
@@ -42,16 +42,8 @@ loop-place-preserved c =
     let items = c.args.items.now in
     let place = c.loop-place.place in
     let found = c.loop-place.found in
-    let kept = kept_are (goal.at.loop-place-preserved c).After-is_empty (later_are (goal.at.loop-place-preserved c).After-room-1) in
+    let kept = kept_are (goal.at.loop-place-preserved c).After-deref-in-loop-place (later_are (goal.at.loop-place-preserved c).After-room-1) in
     let rest = filter has_items (joined_group (suc (length prefix)) (sets_of groups) prefix (drop (place + 1) items)) in
-    elim c.if-not-is_empty.branch [
-      | then-not-is_empty+in_ok-found w ↦
-          (let set = w.deref-then-not-is_empty.ensures.value ∙ c.in_ok-put_extended.ensures in
-          let later = w.deref-then-not-is_empty-2.ensures.value ∙ kept in
-          let some = sym (ap is_some kept) ∙ some_if c.keep_extensions.new.items.items _ (omega (arith, c.keep_extensions.new.items.ok)) (sym c.is_empty.ensures ∙ w.if-not-is_empty.true) in
-          ap (λ l. l ++ rest) (w.found-is ∙ w.in_ok-found.ensures ∙ (λ i. found ++ record { prefix = set i; items = later i } ∷ []))
-          ∙ joined_some groups prefix items c.requires.parts place c.loop-place-test.true found some ∙ c.loop-place.invariant)
-      | else-not-is_empty w ↦
-          (let none = sym (ap is_some kept) ∙ none_if c.keep_extensions.new.items.items _ (omega (arith, c.keep_extensions.new.items.ok)) (sym c.is_empty.ensures ∙ w.if-not-is_empty.false) in
-          ap (λ l. l ++ rest) w.found-is ∙ joined_none groups prefix items c.requires.parts place c.loop-place-test.true found none ∙ c.loop-place.invariant)
-    ]
+    let set = c.deref-in-loop-place.ensures.value ∙ c.in_ok-put_extended.ensures in
+    ap (λ l. l ++ rest) (c.in_ok-found.ensures ∙ (λ i. found ++ filter has_items (record { prefix = set i; items = (c.deref-in-loop-place-2.ensures.value ∙ kept) i } ∷ [])))
+    ∙ join_more groups prefix items c.requires.parts place c.loop-place-test.true found ∙ c.loop-place.invariant

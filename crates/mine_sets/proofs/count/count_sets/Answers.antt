@@ -1,13 +1,19 @@
-use Rattle.std.proofs.Common.{◌∙◌, ap}
+use Rattle.std.proofs.Common.{◌∷◌, ◌∙◌, ◌++◌, [], ap, filter, map}
 use Rattle.std.proofs.lemmas.Result.{IfOk-weaker}
-use Rattle.mine_sets.specs.Asked.{asked_of}
-use Rattle.mine_sets.specs.Placed.{placed}
-use Rattle.mine_sets.proofs.PlaceLemmas.{found_in_place}
+use Rattle.basket_sets.specs.Frequent.{counted}
+use Rattle.basket_sets.specs.Support.{support_of}
+use Rattle.mine_supports.specs.Extensions.{is_some}
+use Rattle.mine_sets.proofs.AskedLemmas.{asked_counted}
 use Rattle.mine_sets.proofs.count.count_sets.Goals as goal
 
 pub returns : goal.returns
 returns g c =
-    IfOk-weaker c.listed.result _ _
-    (λ list is. is ∙ found_in_place c.args.database.now (asked_of c.args.sets.items) c.in_ok-asked.asked.items c.sort_unstable.new.self.items c.in_ok-found.found.items
-    c.sort_unstable-2.new.self.items (c.in_ok-asked.ensures ∙ ap placed c.in_ok-asked_for.ensures) c.sort_unstable.ensures.permutation c.in_ok-found.ensures c.sort_unstable-2.ensures.permutation c.sort_unstable-2.ensures.sorted)
-    c.listed.ensures
+    let baskets = c.args.database.now in
+    let asked = c.in_ok-asked.asked.items in
+    let sets = c.in_ok-others.ensures.sets ∙ ap (filter is_some) c.deref.ensures.value in
+    let found = c.in_ok-found.ensures ∙ (λ i. map (support_of (c.baskets.ensures.baskets i)) (sets i)) in
+    let total = c.in_ok-push.ensures.items ∙ (λ i. c.in_ok-supports.ensures.items i ++ c.total.ensures i ∷ []) in
+    let supports = c.in_ok-append.ensures.items ∙ (λ i. total i ++ found i) in
+    IfOk-weaker c.with_supports.result _ _
+    (λ list is. is ∙ asked_counted baskets c.args.sets.items asked c.append.new.self.items c.in_ok-asked.ensures supports ∙ ap (map (counted baskets)) c.in_ok-asked.ensures)
+    c.with_supports.ensures

@@ -13,7 +13,7 @@ index-requires c =
     let i = c.loop-set.set-index in
     let some = ap is_some (sym c.set-item.is) ∙ some_if_not c.set-item.result (λ e. true≢false (sym (c.is_empty.ensures.1 e) ∙ c.if-is_empty.false)) in
     let below = next_below sets i c.set-item.result c.loop-set-test.true some in
-    let long = ap length (c.in_ok-counted.ensures ∙ ap (map (support_of c.args.baskets.now)) c.in_ok-of_sets.ensures) in
+    let long = ap length (c.in_ok-counted.ensures ∙ ap (map (support_of c.args.baskets.now)) c.in_ok-of_sets.ensures.sets) in
     omega (arith, below, long, length-map (filter is_some sets) (support_of c.args.baskets.now), c.loop-set.invariant.next, c.in_ok-counted.counted.ok)
 
 pub overflow_add-next : goal.overflow_add-next
@@ -21,7 +21,7 @@ overflow_add-next c =
     let sets = c.args.sets.now in
     let some = ap is_some (sym c.set-item.is) ∙ some_if_not c.set-item.result (λ e. true≢false (sym (c.is_empty.ensures.1 e) ∙ c.if-is_empty.false)) in
     let below = next_below sets c.loop-set.set-index c.set-item.result c.loop-set-test.true some in
-    let long = ap length (c.in_ok-counted.ensures ∙ ap (map (support_of c.args.baskets.now)) c.in_ok-of_sets.ensures) in
+    let long = ap length (c.in_ok-counted.ensures ∙ ap (map (support_of c.args.baskets.now)) c.in_ok-of_sets.ensures.sets) in
     record { fits = omega (arith, below, long, length-map (filter is_some sets) (support_of c.args.baskets.now), c.loop-set.invariant.next, c.in_ok-counted.counted.ok) }
 
 pub loop-set-preserved : goal.loop-set-preserved
@@ -41,7 +41,7 @@ loop-set-preserved c =
           })
       | else-is_empty+in_ok-push-2 w ↦
           (let some = ap is_some (sym c.set-item.is) ∙ some_if_not set (λ e. true≢false (sym (c.is_empty.ensures.1 e) ∙ w.if-is_empty.false)) in
-          let listed = c.in_ok-counted.ensures ∙ ap (map support) c.in_ok-of_sets.ensures in
+          let listed = c.in_ok-counted.ensures ∙ ap (map support) c.in_ok-of_sets.ensures.sets in
           let below = next_below sets i set here some in
           let inside : c.loop-set.next < length c.in_ok-counted.counted.items = omega (arith, below, ap length listed, length-map (filter is_some sets) support, c.loop-set.invariant.next) in
           let read = w.index.ensures ∙ get_or_default c.in_ok-counted.counted.items c.loop-set.next w.index.result.now 0 inside ∙ (λ k. get_or (listed k) (c.loop-set.invariant.next k) 0)

@@ -1,6 +1,6 @@
 use Rattle.std.proofs.Common.{ap, ◌∙◌, length, arith}
 use Rattle.csv.specs.Records.{fields_of}
-use Rattle.basket_csv.proofs.RecordLemmas.{read_next, read_last}
+use Rattle.basket_csv.proofs.ReaderLemmas.{read_next, read_last}
 use Rattle.basket_csv.proofs.records.Records.advance.Goals as goal
 
 pub overflow_add-self : goal.overflow_add-self

@@ -3,7 +3,7 @@ use Rattle.csv.specs.Machine.{ends_at_end}
 use Rattle.csv.specs.Reading.{strip_bom, builder_config, builder_is_flexible, builder_trim, builder_names_headers}
 use Rattle.csv.specs.declared.parser.Config.{Config}
 use Rattle.basket_csv.specs.Records.{config_of}
-use Rattle.basket_csv.proofs.RecordLemmas.{all_left, known_bytes}
+use Rattle.basket_csv.proofs.ReaderLemmas.{all_left, known_bytes}
 use Rattle.basket_csv.proofs.records.Records.new.Goals as goal
 
 pub returns-clause-reading : goal.returns-clause-reading

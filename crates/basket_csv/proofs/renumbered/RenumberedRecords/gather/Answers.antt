@@ -5,7 +5,7 @@ use Rattle.basket_read.specs.GatheredBaskets.{HasGathered}
 use Rattle.basket_csv.specs.declared.part.RecordSize.{RecordSize}
 use Rattle.basket_csv.specs.Csv.{basket_of}
 use Rattle.basket_csv.specs.Part.{size, size_of}
-use Rattle.basket_csv.proofs.GatherLemmas.{enough, few_kept, gathers_more, own_below, size_weighs}
+use Rattle.basket_csv.proofs.GatherLemmas.{enough, gathers_more, own_below, size_weighs}
 use Rattle.basket_csv.proofs.renumbered.RenumberedRecords.gather.Goals as goal
 
 abbrev none : RecordSize
@@ -28,23 +28,15 @@ rename-requires c =
     ∙ own_below weighted names c.args.self.now.names.items counting baskets rows c.loop-size.size-index c.loop-size.gathered c.loop-size.rest.now c.deref-size-items.result.now _ none
     c.loop-size-test.true (c.deref-size-items.ensures.value ∙ numbered.sizes) refl up c.split_at.result.0.now c.split_at.ensures.front
 
-pub add-requires-clause-weighs : goal.add-requires-clause-weighs
-add-requires-clause-weighs c =
+pub add-requires : goal.add-requires
+add-requires c =
     let (weighted, names, rows, numbered) = c.requires.numbered in
     let (counting, baskets, has, few) = c.requires.room in
     let up = c.loop-size.invariant counting weighted names baskets rows has numbered in
-    size_weighs weighted names c.args.self.now.names.items counting baskets rows c.loop-size.size-index c.loop-size.gathered c.loop-size.rest.now c.deref-size-items.result.now _ none
-    c.loop-size-test.true (c.deref-size-items.ensures.value ∙ numbered.sizes) refl up
-
-pub add-requires-clause-room : goal.add-requires-clause-room
-add-requires-clause-room c = λ light.
-    let (weighted, names, rows, numbered) = c.requires.numbered in
-    let (counting, baskets, has, few) = c.requires.room in
-    let up = c.loop-size.invariant counting weighted names baskets rows has numbered in
-    let long = ap length c.deref-size-items.ensures.value in
-    let kept = few_kept weighted names c.args.self.now.names.items counting baskets rows c.loop-size.size-index c.loop-size.gathered c.loop-size.rest.now c.deref-size-items.result.now _ none
-    c.loop-size-test.true (c.deref-size-items.ensures.value ∙ numbered.sizes) refl up light in
-    omega arith
+    record {
+      weighs = size_weighs weighted names c.args.self.now.names.items counting baskets rows c.loop-size.size-index c.loop-size.gathered c.loop-size.rest.now c.deref-size-items.result.now _ none
+          c.loop-size-test.true (c.deref-size-items.ensures.value ∙ numbered.sizes) refl up;
+    }
 
 pub loop-size-preserved : goal.loop-size-preserved
 loop-size-preserved c = λ counting weighted names baskets rows has numbered.

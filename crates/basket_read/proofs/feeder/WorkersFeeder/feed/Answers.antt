@@ -1,10 +1,7 @@
-use Rattle.std.proofs.Common.{length, sym, subst}
+use Rattle.std.proofs.Common.{sym, subst}
 use Rattle.std.proofs.lemmas.Result.{err_from_is_err_and}
-use Rattle.basket_read.specs.Text.{HasRoom, IsTextSoFar}
+use Rattle.basket_read.specs.Text.{IsTextSoFar}
 use Rattle.basket_read.proofs.feeder.WorkersFeeder.feed.Goals as goal
-
-pub feed_shared-requires-after_bounds : goal.feed_shared-requires-after_bounds
-feed_shared-requires-after_bounds g c κs within = subst (λ text. HasRoom text (length c.args.piece.now)) (sym c.replace-before.ensures.value) c.requires.room
 
 pub returns-in_err-text : goal.returns-in_err-text
 returns-in_err-text g c = λ counting bytes t.

@@ -8,9 +8,6 @@ use Rattle.basket_read.proofs.gathered.GatheredBaskets.append.Goals.{else-other-
 pub append-requires : goal.append-requires
 append-requires c = omega (arith, c.weight.ensures, c.weight-2.ensures, c.saturating_add-weight.ensures, c.if-weight-gt-MAX_WEIGHT.false)
 
-pub append-requires-2-clause-few : goal.append-requires-2-clause-few
-append-requires-2-clause-few c = c.requires c.if-other-2.false c.if-self.false
-
 pub append-requires-2-clause-light : goal.append-requires-2-clause-light
 append-requires-2-clause-light c = omega (arith, c.weight.ensures, c.weight-2.ensures, c.saturating_add-weight.ensures, c.if-weight-gt-MAX_WEIGHT.false)
 

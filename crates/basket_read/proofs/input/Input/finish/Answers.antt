@@ -1,16 +1,13 @@
-use Rattle.std.proofs.Common.{ap, sym, subst, ◌∙◌, arith}
+use Rattle.std.proofs.Common.{ap, sym, subst, ◌∙◌}
 use Rattle.basket_read.specs.Fimi.{baskets_of, answer_of, if_light, text_of}
 use Rattle.basket_read.specs.Fault.{ReturnsBy}
 use Rattle.basket_read.specs.GatheredBaskets.{Gathers}
 use Rattle.basket_read.specs.Input.{text_after}
-use Rattle.basket_read.proofs.InputLemmas.{has_room, text_is}
+use Rattle.basket_read.proofs.InputLemmas.{text_is}
 use Rattle.basket_read.proofs.input.Input.finish.Goals as goal
 
 pub returns-in-Some : goal.returns-in-Some
 returns-in-Some c = λ counting bytes r _. ap (λ f. answer_of f (baskets_of (text_of bytes))) (sym (c.in-Some.ensures counting bytes r))
-
-pub finish-requires : goal.finish-requires
-finish-requires c = has_room c.args.self 0 (λ counting bytes r. omega (arith, r.few)) c.requires
 
 pub returns : goal.returns
 returns c = λ counting bytes r.

@@ -7,11 +7,8 @@ use Rattle.basket_read.specs.Fault.{ReturnsFault}
 use Rattle.basket_read.specs.Input.{IsInputSoFar}
 use Rattle.basket_read.proofs.TextLemmas.{take_rest}
 use Rattle.basket_read.proofs.theory.Grammar.{take_next}
-use Rattle.basket_read.proofs.InputLemmas.{some_after, settled_in_piece}
+use Rattle.basket_read.proofs.InputLemmas.{settled_in_piece}
 use Rattle.basket_read.proofs.input.Input.take.Goals as goal
-
-pub take_text-requires-clause-some : goal.take_text-requires-clause-some
-take_text-requires-clause-some g c = some_after c.args.self.now c.loop-place.self (take c.loop-place.place c.args.piece.now) c.requires.some c.loop-place.invariant
 
 pub returns-in-Decided : goal.returns-in-Decided
 returns-in-Decided g c = λ counting bytes r.
@@ -20,9 +17,6 @@ returns-in-Decided g c = λ counting bytes r.
     (take_all (length c.args.piece.now - c.loop-place.place) (drop c.loop-place.place c.args.piece.now) (omega (arith, length-drop c.loop-place.place c.args.piece.now)))
     ∙ take_rest bytes c.args.piece.now c.loop-place.place)
     (c.take_text.ensures counting (bytes ++ take c.loop-place.place c.args.piece.now) (c.loop-place.invariant counting bytes r))
-
-pub take_byte-requires : goal.take_byte-requires
-take_byte-requires g c = some_after c.args.self.now c.loop-place.self (take c.loop-place.place c.args.piece.now) c.requires.some c.loop-place.invariant
 
 pub returns-in_err-take_byte : goal.returns-in_err-take_byte
 returns-in_err-take_byte g c = λ counting bytes r.

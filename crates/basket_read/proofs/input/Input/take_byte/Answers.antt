@@ -5,12 +5,9 @@ use Rattle.basket_read.specs.declared.input.Beginning.TheVariants.{Empty, OneByt
 use Rattle.basket_read.specs.declared.input.Input.{Input}
 use Rattle.basket_read.specs.Input.{IsInputSoFar, is_decided}
 use Rattle.basket_read.specs.Text.{IsTextSoFar}
-use Rattle.basket_read.proofs.InputLemmas.{has_room, at_beginning, settled-decided, fault_few, no_mark, half_of_one, half_of_two}
+use Rattle.basket_read.proofs.InputLemmas.{at_beginning, settled-decided, fault_few, no_mark, half_of_one, half_of_two}
 use Rattle.basket_read.proofs.input.Input.take_byte.Goals as goal
 use Rattle.basket_read.proofs.input.Input.take_byte.Goals.{then-byte, else-byte+in_ok-feed-in-Empty}
-
-pub feed-requires : goal.feed-requires
-feed-requires c = has_room c.args.self.now 1 (λ counting bytes r. omega (arith, ap length (at_beginning c.args.self.now counting bytes r Empty c.in-Empty.is).0)) c.requires
 
 pub returns-in_err-feed-in-Empty : goal.returns-in_err-feed-in-Empty
 returns-in_err-feed-in-Empty c = λ counting bytes r.

@@ -1,16 +1,10 @@
-use Rattle.std.proofs.Common.{◌-◌, length, take, ap, ◌∙◌, arith, Some}
-use Rattle.std.proofs.lemmas.List.{length-take}
+use Rattle.std.proofs.Common.{◌-◌, ap, ◌∙◌, arith, Some}
 use Rattle.std.proofs.lemmas.Result.{err_from_is_err_and}
 use Rattle.basket_read.specs.declared.fault.ReadFault.TheVariants.{TooLong}
 use Rattle.basket_read.specs.Fimi.{text_of, or_else}
 use Rattle.basket_read.specs.declared.input.Beginning.TheVariants.{Decided}
-use Rattle.basket_read.proofs.InputLemmas.{has_room, at_beginning, with_text, text_fault, long_fault}
+use Rattle.basket_read.proofs.InputLemmas.{at_beginning, with_text, text_fault, long_fault}
 use Rattle.basket_read.proofs.input.Input.take_text.Goals as goal
-
-pub feed-requires : goal.feed-requires
-feed-requires g c =
-    has_room c.args.self.now (length (take (4294967295 - c.args.self.now.taken) c.args.piece.now))
-    (λ counting bytes r. omega (arith, length-take (4294967295 - c.args.self.now.taken) c.args.piece.now, r.few, r.taken)) c.requires.some
 
 pub returns-in_err-feed : goal.returns-in_err-feed
 returns-in_err-feed g c = λ counting bytes r.
@@ -25,9 +19,6 @@ returns-then-piece-room g c = λ counting bytes r _.
     let room = 4294967295 - c.args.self.now.taken in
     long_fault c.args.self.now counting bytes r c.args.piece.now room c.requires.decided (omega (arith, r.few, r.taken)) c.if-piece-room.true
     ∙ ap (λ f. or_else f (Some TooLong)) (c.in_ok-feed.ensures counting (text_of bytes) (at_beginning c.args.self.now counting bytes r Decided c.requires.decided).1).faultless
-
-pub feed-requires-2-clause-room : goal.feed-requires-2-clause-room
-feed-requires-2-clause-room g c = has_room c.args.self.now (length c.args.piece.now) (λ counting bytes r. omega (arith, r.few, r.taken)) c.requires.some
 
 pub returns-in_err-feed-2 : goal.returns-in_err-feed-2
 returns-in_err-feed-2 g c = λ counting bytes r.

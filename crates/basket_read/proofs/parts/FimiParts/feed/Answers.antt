@@ -1,5 +1,5 @@
 use Rattle.std.proofs.Common.{false, ◌++◌, Err, ap}
-use Rattle.basket_read.proofs.InputLemmas.{settled_stays, some_after, faultless_input}
+use Rattle.basket_read.proofs.InputLemmas.{settled_stays, faultless_input}
 use Rattle.basket_read.proofs.parts.FimiParts.feed.Goals as goal
 
 pub returns-in-Some-clause-exact : goal.returns-in-Some-clause-exact
@@ -9,11 +9,6 @@ pub returns-in-Some-clause-fed : goal.returns-in-Some-clause-fed
 returns-in-Some-clause-fed c = λ bytes fed _.
     rw c.in-Some.is
     (settled_stays bytes c.args.piece.now c.in-Some.fault (rw c.in-Some.is at fed))
-
-pub invariant_of-self : goal.invariant_of-self
-invariant_of-self c = record {
-  some = λ unrefused. some_after c.args.self.now.input c.take.new.self c.args.piece.now (c.args.self.now.some unrefused) c.in-Ok.ensures;
-}
 
 pub returns-in-Ok-clause-exact : goal.returns-in-Ok-clause-exact
 returns-in-Ok-clause-exact c = λ bytes fed.

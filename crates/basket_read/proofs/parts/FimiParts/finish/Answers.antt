@@ -6,9 +6,6 @@ use Rattle.basket_read.proofs.parts.FimiParts.finish.Goals as goal
 pub returns-in-Some-clause-exact : goal.returns-in-Some-clause-exact
 returns-in-Some-clause-exact c = λ bytes fed _. answer_told bytes c.in-Some.fault (rw c.in-Some.is at fed)
 
-pub finish-requires : goal.finish-requires
-finish-requires c = c.args.self.some c.in_default.is
-
 pub returns-clause-exact : goal.returns-clause-exact
 returns-clause-exact c = λ bytes fed.
     kept_answers c.finish.result c.map.result (fimi_of bytes) c.map.ensures.cases (c.finish.ensures false bytes (rw c.in_default.is at fed))

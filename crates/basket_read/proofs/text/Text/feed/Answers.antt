@@ -1,24 +1,13 @@
 use Rattle.std.proofs.Common.{◌+◌, ◌++◌, ◌∷◌, [], take, length, refl, subst, sym, arith}
-use Rattle.std.proofs.lemmas.List.{length-take, take_all}
+use Rattle.std.proofs.lemmas.List.{take_all}
 use Rattle.std.proofs.lemmas.Bool.{ltb-false}
 use Rattle.std.proofs.lemmas.Result.{err_from_is_err_and}
 use Rattle.basket_read.specs.Fault.{ReturnsFault}
 use Rattle.basket_read.specs.Text.{IsTextSoFar}
-use Rattle.basket_read.proofs.RoomLemmas.{room_after}
 use Rattle.basket_read.proofs.RunLemmas.{after_both}
 use Rattle.basket_read.specs.Fimi.{fault_at, first_fault, is_line}
 use Rattle.basket_read.proofs.theory.Grammar.{fault_in_piece, take_next}
 use Rattle.basket_read.proofs.text.Text.feed.Goals as goal
-
-pub take-requires : goal.take-requires
-take-requires c =
-    let i = c.loop-taken.taken + c.in_ok-taken.field-0 in
-    let here = c.in-Some.ensures.lookup.3 in
-    room_after c.args.self.now c.take_run.new.self (take i c.args.piece.now) 1 (length c.args.piece.now)
-    (omega (arith, length-take i c.args.piece.now, here.0)) c.requires
-    (λ counting bytes t.
-    subst (IsTextSoFar c.take_run.new.self counting) (after_both bytes c.args.piece.now c.loop-taken.taken c.in_ok-taken.field-0)
-    (c.in_ok-taken.ensures.text counting (bytes ++ take c.loop-taken.taken c.args.piece.now) (c.loop-taken.invariant.text counting bytes t)))
 
 pub returns-in_err-take-in-Some : goal.returns-in_err-take-in-Some
 returns-in_err-take-in-Some c = λ counting bytes t.

@@ -4,12 +4,8 @@ use Rattle.basket_read.specs.Cut.{cut_at}
 use Rattle.basket_read.specs.Fault.{ReturnsBy}
 use Rattle.basket_read.specs.Fimi.{is_line_feed, basket_of, if_light}
 use Rattle.basket_read.specs.GatheredBaskets.{Gathers}
-use Rattle.basket_read.proofs.RoomLemmas.{few_baskets}
 use Rattle.basket_read.proofs.TextLemmas.{all_ended}
 use Rattle.basket_read.proofs.text.Text.finish.Goals as goal
-
-pub end_line-requires : goal.end_line-requires
-end_line-requires c = few_baskets c.args.self 0 c.requires
 
 pub returns : goal.returns
 returns c = λ counting bytes t.

@@ -1,32 +1,23 @@
-use Rattle.std.proofs.Common.{◌+◌, ◌++◌, ◌∷◌, [], ap, subst, sym, ◌∙◌, Some, arith}
+use Rattle.std.proofs.Common.{◌+◌, ◌++◌, ◌∷◌, [], ap, subst, ◌∙◌}
 use Rattle.std.proofs.lemmas.Bool.{ne_eqb}
 use Rattle.std.specs.List.{flat_map}
 use Rattle.basket_read.specs.Cut.{cut_at}
 use Rattle.basket_read.specs.Fimi.{is_line_feed, basket_of}
 use Rattle.basket_read.specs.Line.{IsTaken}
-use Rattle.basket_read.proofs.RoomLemmas.{few_lines, few_baskets}
 use Rattle.basket_read.proofs.TextLemmas.{line_so_far, goes_on, refuses, takes_line_feed}
 use Rattle.basket_read.proofs.text.Text.take.Goals as goal
-
-pub end_line-requires : goal.end_line-requires
-end_line-requires c = few_baskets c.args.self.now 1 c.requires
-
-pub overflow_add-self : goal.overflow_add-self
-overflow_add-self c = omega (arith, few_lines c.args.self.now 0 c.requires, c.in_ok-end_line.ensures.lines)
-
-pub fault_at-requires : goal.fault_at-requires
-fault_at-requires c = omega (arith, few_lines c.args.self.now 0 c.requires)
 
 pub returns-then-byte-eq10 : goal.returns-then-byte-eq10
 returns-then-byte-eq10 c = λ counting bytes t.
     takes_line_feed c.args.self.now counting bytes t _ c.args.byte (ap is_line_feed c.if-byte-eq10.true) c.in_ok-end_line.ensures.line
-    (ap (λ n. n + 1) c.in_ok-end_line.ensures.lines) (c.in_ok-end_line.ensures.baskets counting (flat_map basket_of (cut_at is_line_feed bytes).ended) t.gathered)
+    ((rw c.in_ok-self.ensures.ok_part at c.checked_add.ensures).1 ∙ ap (λ n. n + 1) c.in_ok-end_line.ensures.lines)
+    (c.in_ok-end_line.ensures.baskets counting (flat_map basket_of (cut_at is_line_feed bytes).ended) t.gathered)
 
 pub returns-then-not-branch : goal.returns-then-not-branch
-returns-then-not-branch c = λ counting bytes t _.
+returns-then-not-branch c = λ counting bytes t no_memory.
     refuses c.args.self.now counting bytes t c.args.byte (ne_eqb c.args.byte 10 c.if-byte-eq10.false)
     (subst (λ taken. IsTaken taken c.take.new.self ((cut_at is_line_feed bytes).last ++ c.args.byte ∷ [])) c.if-not-branch.true (c.in_ok-take.ensures (cut_at is_line_feed bytes).last (line_so_far c.args.self.now counting bytes t)))
-    ∙ ap Some (sym c.fault_at.ensures)
+    ∙ c.fault_at.ensures no_memory
 
 pub returns : goal.returns
 returns c = λ counting bytes t.

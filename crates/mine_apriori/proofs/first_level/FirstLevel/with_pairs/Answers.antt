@@ -1,12 +1,10 @@
 use Rattle.std.proofs.Common.{◌≡◌, ◌-◌, ◌*◌, ◌/◌, filter, length, map, sym, ap, subst, ◌∙◌, arith}
-use Rattle.std.specs.Cmp.Lexicographic.{slice_cmp}
 use Rattle.std.specs.List.{All}
-use Rattle.std.specs.List.Sorted.{IsStrictlySortedBy}
-use Rattle.std.specs.Ordering.{nat_cmp}
 use Rattle.std.proofs.lemmas.List.{length-map}
 use Rattle.basket_ranks.specs.Codes.{decoded_set}
 use Rattle.basket_sets.specs.Frequent.{counted, is_frequent}
 use Rattle.basket_sets.specs.Itemset.{IsRising}
+use Rattle.basket_sets.specs.Order.{IsInReportOrder}
 use Rattle.basket_sets.specs.Support.{support_of}
 use Rattle.mine_supports.specs.Extensions.{AreGrouped, sets_of}
 use Rattle.mine_apriori.specs.Levels.{level_of, levels_up_to}
@@ -14,8 +12,7 @@ use Rattle.mine_supports.specs.Sizes.{AreOfSize}
 use Rattle.mine_apriori.specs.declared.pairs.Pair.{Pair}
 use Rattle.mine_supports.proofs.theory.Extensions.{kept_sets}
 use Rattle.mine_apriori.proofs.JoinedLemmas.{kept_grouped}
-use Rattle.mine_apriori.proofs.LevelsLemmas.{found_next, level_again, level_rises, level_sized}
-use Rattle.mine_apriori.proofs.PairLemmas.{pairs_sorted}
+use Rattle.mine_apriori.proofs.LevelsLemmas.{found_next, level_again, level_in_order, level_rises, level_sized}
 use Rattle.mine_apriori.proofs.WorkLemmas.{pair_count}
 use Rattle.mine_apriori.proofs.first_level.FirstLevel.with_pairs.Given.{Over}
 use Rattle.mine_apriori.proofs.first_level.FirstLevel.with_pairs.Goals as goal
@@ -26,7 +23,7 @@ pair_sets-requires g c =
     let ranks = ap (map (λ (pair : Pair). pair.ranks)) c.deref.ensures.value ∙ c.in_ok-pairs.ensures.ranks in
     record {
       two = subst (AreOfSize 2) (sym ranks) (level_sized c.self.inside.coded.now 2);
-      sorted = subst (IsStrictlySortedBy (slice_cmp nat_cmp)) (sym ranks) (pairs_sorted c.self.inside.coded.now);
+      in_order = subst IsInReportOrder (sym ranks) (level_in_order c.self.inside.coded.now 2);
     }
 
 -- the sets are the second level

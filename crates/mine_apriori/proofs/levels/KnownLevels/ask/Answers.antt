@@ -1,7 +1,6 @@
-use Rattle.std.proofs.Common.{◌≤◌, length, sym, ap, subst, ◌∙◌, arith}
+use Rattle.std.proofs.Common.{length, sym, ap, subst, ◌∙◌, arith}
 use Rattle.std.specs.List.{All}
 use Rattle.std.proofs.lemmas.List.{length-append, length-map}
-use Rattle.std.proofs.lemmas.Nat.{mul-le}
 use Rattle.basket_ranks.specs.Codes.{decoded_set}
 use Rattle.basket_sets.specs.Frequent.{counted}
 use Rattle.basket_sets.specs.Itemset.{IsRising}
@@ -10,7 +9,7 @@ use Rattle.mine_apriori.specs.Candidates.{candidates_of}
 use Rattle.mine_apriori.specs.Levels.{asked_of, levels_up_to}
 use Rattle.mine_apriori.specs.Work.{candidates_up_to}
 use Rattle.mine_apriori.proofs.LevelsLemmas.{level_in_order, level_rises, too_many}
-use Rattle.mine_apriori.proofs.WorkLemmas.{candidates_few, candidates_next}
+use Rattle.mine_apriori.proofs.WorkLemmas.{candidates_next}
 use Rattle.mine_apriori.proofs.levels.KnownLevels.ask.Goals as goal
 
 pub returns-then-len-limit-clause-too_many : goal.returns-then-len-limit-clause-too_many
@@ -25,18 +24,6 @@ candidates-requires-clause-in_order g c = subst IsInReportOrder (sym c.requires.
 pub candidates-requires-clause-rising : goal.candidates-requires-clause-rising
 candidates-requires-clause-rising g c = subst (All IsRising) (sym c.requires.level) (level_rises c.args.self.coded.now c.args.self.size)
 
-pub overflow_add-result : goal.overflow_add-result
-overflow_add-result g c =
-    let coding = c.args.self.coded.now in
-    let size = c.args.self.size in
-    let more = ap length (candidates_next coding size c.requires.some) ∙ length-append (candidates_up_to coding.baskets coding.minimum size) (asked_of coding size) in
-    let few = candidates_few coding size c.requires.some in
-    let found = length (levels_up_to coding size) in
-    let long = ap length c.requires.found ∙ length-map (levels_up_to coding size) (λ set. decoded_set coding.items (counted coding.baskets set)) in
-    let limit : found ≤ 4294967295 = omega (arith, c.if-len-limit.false, c.len.ensures, long, c.ranges.limit) in
-    let most = mul-le found found 4294967295 4294967295 limit limit in
-    record { fits = omega (arith, c.requires.counted, c.len-2.ensures, ap length (c.in_ok-asked.ensures.candidates ∙ ap candidates_of c.requires.level), more, few, most) }
-
 pub invariant_of-result : goal.invariant_of-result
 invariant_of-result g c =
     let coding = c.args.self.coded.now in
@@ -50,6 +37,6 @@ invariant_of-result g c =
         few = omega (arith, c.if-len-limit.false, c.len.ensures);
         asked = asked;
         grouped = c.in_ok-asked.ensures.grouped;
-        number = omega (arith, c.requires.counted, c.len-2.ensures, ap length asked, more);
+        number = omega (arith, c.requires.counted, c.len-2.ensures, c.in-Some.ensures, ap length asked, more);
       },
     )

@@ -1,6 +1,6 @@
 use Rattle.std.proofs.Common.{◌+◌, subst, sym, ap, ◌∙◌, arith}
 use Rattle.mine_apriori.specs.Levels.{level_of}
-use Rattle.mine_apriori.specs.Shard.{IsRegular}
+use Rattle.mine_supports.specs.Sizes.{IsRegular}
 use Rattle.mine_apriori.specs.Work.{candidates_of_size}
 use Rattle.mine_apriori.proofs.LawLemmas.{candidates_are_in_report_order, candidates_are_one_larger}
 use Rattle.mine_apriori.proofs.LevelsLemmas.{asks_more, level_sized}

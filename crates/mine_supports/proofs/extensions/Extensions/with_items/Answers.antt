@@ -1,10 +1,15 @@
-use Rattle.std.proofs.Common.{◌≡◌, ◌∷◌, ◌++◌, [], length, ap, ◌∙◌, arith}
+use Rattle.std.proofs.Common.{◌≡◌, ◌∷◌, ◌++◌, [], ℕ, List, true, false, cond, eqb, length, refl, sym, ap, ◌∙◌, arith}
+use Rattle.std.proofs.lemmas.Bool.{true≢false}
 use Rattle.std.proofs.lemmas.List.{length_push}
 use Rattle.basket_sets.proofs.theory.Rising.{rising-rising}
-use Rattle.mine_supports.specs.Extensions.{groups_of, sets_of}
+use Rattle.mine_supports.specs.Extensions.{groups_of, is_some, sets_of}
 use Rattle.mine_supports.proofs.theory.Extensions.{groups_push, long_push}
 use Rattle.mine_supports.proofs.extensions.Extensions.with_items.Goals as goal
 use Rattle.mine_supports.proofs.extensions.Extensions.with_items.Goals.{In_ok-push-2}
+
+some_if : (l : List ℕ) → eqb (length l) 0 ≡ false → is_some l ≡ true
+some_if [] e = absurd (true≢false e)
+some_if (x ∷ l) e = refl
 
 pushed : (c : In_ok-push-2) → c.push.new.self.items ≡ c.self.inside.prefixes.items ++ c.args.prefix.now ∷ []
 pushed c = c.in_ok-push.ensures.items ∙ ap (λ p. c.self.inside.prefixes.items ++ p ∷ []) (c.in_ok-from_items.ensures.ok ∙ rising-rising c.args.prefix.now c.requires.prefix)
@@ -27,4 +32,4 @@ returns c =
     let here = (goal.at.returns c).In_ok-push-2 in
     (λ i. groups_of (pushed here i) (listed here i))
     ∙ groups_push c.self.inside.prefixes.items c.self.inside.lists.items c.args.prefix.now c.args.items.now c.self.invariant.0
-    ∙ ap (λ l. l ++ record { prefix = c.args.prefix.now; items = c.args.items.now } ∷ []) c.self.view_is
+    ∙ (λ i. c.self.view_is i ++ cond (sym (some_if c.args.items.now (sym c.is_empty.ensures ∙ c.if-is_empty.false)) i) (record { prefix = c.args.prefix.now; items = c.args.items.now } ∷ []) [])
