@@ -1,7 +1,7 @@
 // The axes: from values to places on the canvas and back.
 const MARGIN = { left: 56, right: 16, top: 14, bottom: 44 };
 const LOG_FROM = 5; // The most over the least from which an axis goes by magnitude.
-let across = null;
+let across = null; // Of what is listed, once its picture has begun.
 let up = null;
 
 function axisOf(key, mayBeLog) {

@@ -23,6 +23,8 @@ function take(given) {
   columns = isOfRules ? columnsOfRules() : columnsOfSets();
   if (isOther || !columns[sorted.key]) sorted = { key: isOfRules ? "lift" : "count", isFalling: true };
   sort();
+  passing = shown = order;
+  across = null;
 }
 
 function numberItems() {

@@ -49,7 +49,7 @@ function stamp(colour, isLow, ink) {
 }
 
 function draw() {
-  if (!isOfRules || !canvas.clientWidth || !columns.lift) return;
+  if (!across || !canvas.clientWidth) return;
   if (stampsOf !== devicePixelRatio) makeColours();
   [canvas.width, canvas.height] = [canvas.clientWidth * devicePixelRatio, canvas.clientHeight * devicePixelRatio];
   pen.scale(devicePixelRatio, devicePixelRatio);
