@@ -161,7 +161,6 @@ def unproved() -> Path:
 def proved(tree: Path) -> Path:
     """The page over the program that was proved in a folder."""
     if not kit.has_proved_module():
-        print("Proving the program's own crate once more, for its module.", flush=True)
         kit.make_proved(tree)
     return write(PAGE, kit.PROVED_MODULE, True)
 

@@ -121,15 +121,16 @@ def prove(
     copy_to(tree, names, crates)
     cost, report = Cost(), Report()
     try:
-        for line in lines_of(tree):
-            if name := report.take(line):
-                done = len(report.proved) + len(report.kept)
-                say(
-                    f"{name}: proved, {done} of {len(names)} after {clock(cost.seconds())}"
-                )
-                if is_program(name):
-                    take_built(name, tree)
-                    then(name)
+        with kit.keeping_checked(tree):
+            for line in lines_of(tree):
+                if name := report.take(line):
+                    done = len(report.proved) + len(report.kept)
+                    say(
+                        f"{name}: proved, {done} of {len(names)} after {clock(cost.seconds())}"
+                    )
+                    if is_program(name):
+                        take_built(name, tree)
+                        then(name)
     except subprocess.CalledProcessError:
         say(f"Not proved. What the checker said:\n{report.text()}")
     return report

@@ -18,6 +18,7 @@ import sys
 import tempfile
 from collections.abc import Callable, Iterable
 from concurrent.futures import Future, ThreadPoolExecutor
+from itertools import chain
 from pathlib import Path
 from typing import NamedTuple
 from xml.etree import ElementTree
@@ -64,9 +65,13 @@ def proved(program: Path) -> Sum:
 
 
 def over_program(tree: Path, program: Path) -> Sum:
-    """Makes the page over the program that was proved in a folder, and tests both and the package."""
-    page.proved(tree)
-    return added(part(program) for part in OVER_PROGRAM)
+    """Tests the program, makes the page over it meanwhile, and then tests this and the package."""
+    of_rest = OVER_PROGRAM[1:]
+    with ThreadPoolExecutor() as beside:
+        made = beside.submit(page.proved, tree)
+        first = of_program(program)
+        made.result()
+    return added(chain([first], (part(program) for part in of_rest)))
 
 
 def added(sums: Iterable[Sum]) -> Sum:

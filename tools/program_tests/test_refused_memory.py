@@ -6,6 +6,7 @@ import shutil
 import subprocess
 import tempfile
 import unittest
+from collections.abc import Iterator
 from dataclasses import dataclass
 from pathlib import Path
 from typing import ClassVar
@@ -69,24 +70,30 @@ class Case:
     wanted: Run
 
 
-def small_cases() -> list[Case]:
-    """Each command, form and miner, by one worker and by three."""
-    cases = []
-    for workers in ("1", "3"):
-        more = f"--workers {workers}"
-        for (form, (given, asked)), (words, reports) in itertools.product(
-            FORMS.items(), REPORTS.items()
-        ):
-            report = reports[int(form not in ("fimi", "counts"))]
-            wanted = Run(inputs.text_of(report), "", 0)
-            cases.append(Case(f"{words} --form {form} {more}", given, asked, wanted))
-        for miner in MINERS:
-            words = f"sets --min 2 --miner {miner} {more}"
-            wanted = Run(inputs.text_of(SETS), "", 0)
-            cases.append(Case(words, NINE_BASKETS, b"", wanted))
+WORKERS = ("1", "3")
+
+
+def of_form(form: str) -> Iterator[Case]:
+    """Each command over a form, by one worker and by three."""
+    given, asked = FORMS[form]
+    for workers, (words, reports) in itertools.product(WORKERS, REPORTS.items()):
+        report = reports[int(form not in ("fimi", "counts"))]
+        wanted = Run(inputs.text_of(report), "", 0)
+        words += f" --form {form} --workers {workers}"
+        yield Case(words, given, asked, wanted)
+
+
+def of_miners() -> Iterator[Case]:
+    """Each miner, by one worker and by three."""
+    for workers, miner in itertools.product(WORKERS, MINERS):
+        words = f"sets --min 2 --miner {miner} --workers {workers}"
+        yield Case(words, NINE_BASKETS, b"", Run(inputs.text_of(SETS), "", 0))
+
+
+def of_refusals() -> Iterator[Case]:
+    """Runs that are refused for something else."""
     for words, given, said, status in NO_REPORTS:
-        cases.append(Case(words, given, b"", Run(b"", said, status)))
-    return cases
+        yield Case(words, given, b"", Run(b"", said, status))
 
 
 class Refused(unittest.TestCase):
@@ -124,11 +131,9 @@ class Refused(unittest.TestCase):
         run = Run(ended.stdout, ended.stderr.decode(), ended.returncode)
         return run, noted_times
 
-    def test_each_allocation_of_small_runs(self) -> None:
-        # Each allocation is refused alone, and each fifth with all that come after it.
-        for case, (onward, step) in itertools.product(
-            small_cases(), ((False, 1), (True, 5))
-        ):
+    def refuse_each(self, cases: Iterator[Case]) -> None:
+        """Refuses each allocation alone, and each fifth with all that come after it."""
+        for case, (onward, step) in itertools.product(cases, ((False, 1), (True, 5))):
             (self.folder / "given").write_bytes(case.given)
             (self.folder / "asked").write_bytes(case.asked)
             for number in itertools.count(1, step):
@@ -144,12 +149,33 @@ class Refused(unittest.TestCase):
                     break
             self.assertGreater(number, 1)
 
+    def test_each_allocation_over_baskets_of_numbers(self) -> None:
+        self.refuse_each(of_form("fimi"))
+
+    def test_each_allocation_over_baskets_of_names(self) -> None:
+        self.refuse_each(of_form("baskets"))
+
+    def test_each_allocation_over_pairs(self) -> None:
+        self.refuse_each(of_form("single"))
+
+    def test_each_allocation_over_counted_sets_of_numbers(self) -> None:
+        self.refuse_each(of_form("counts"))
+
+    def test_each_allocation_over_counted_sets_of_names(self) -> None:
+        self.refuse_each(of_form("csv-counts"))
+
+    def test_each_allocation_of_each_miner(self) -> None:
+        self.refuse_each(of_miners())
+
+    def test_each_allocation_of_runs_that_are_refused(self) -> None:
+        self.refuse_each(of_refusals())
+
     def test_allocations_of_larger_runs(self) -> None:
         source = random.Random(5)
         baskets = inputs.fimi(inputs.shop())
         (self.folder / "given").write_bytes(baskets)
         _, ask, lines, digest = ANSWERS[-1]
-        for miner, workers in itertools.product(MINERS, ("1", "3")):
+        for miner, workers in itertools.product(MINERS, WORKERS):
             words = f"{ask} --miner {miner} --workers {workers}"
             wanted, asked = self.refused(words, 0)
             self.assertEqual(summed(wanted), (lines, digest, "", 0))
