@@ -271,6 +271,20 @@ def test_everything_that_is_used_has_a_name(example: webdriver.Chrome) -> None:
     assert example.get_log("browser") == []
 
 
+def test_a_report_is_not_drawn_before_its_picture_begins(
+    example: webdriver.Chrome,
+) -> None:
+    # A frame may come between the two, while another report's marks are still there.
+    script = """
+    take({ ...data, both: data.both.slice(0, 1) });
+    draw();
+    startPicture();
+    update();
+    return shown.length;
+    """
+    assert example.execute_script(script) == 1
+
+
 STEPS = """
 const [done] = arguments;
 const sides = new Sides();
