@@ -1,5 +1,5 @@
 -- The counts of given sets.
-use Rattle.std.proofs.Common.{◌≡◌, ◌≢◌, ◌∙◌, ◌<◌, ◌+◌, ℕ, zero, suc, Bool, false, List, [], ◌∷◌, Option, Some, None, Result, Ok, Err, Global, ap, arith, drop, get_or, length, map, refl, subst, sym}
+use Rattle.std.proofs.Common.{◌≡◌, ◌≢◌, ◌∙◌, ℕ, Bool, false, List, Option, Some, None, Result, Ok, Err, Global, ap, map, refl, subst, sym}
 use Rattle.std.specs.Prelude.{IfSome, MatchResult}
 use Rattle.std.proofs.lemmas.Option.{IfSome_then}
 use Rattle.basket_plan.specs.declared.layout.Layout.{Layout}
@@ -18,14 +18,6 @@ use Rattle.basket_outcome.specs.Prepared.{prepared_text}
 use Rattle.mine_sets.specs.Asked.{asked_of}
 
 -- ---- sums of counts
-
--- the rest of the sets from a place on
-rest_from : (sets : List (List ℕ)) (place : ℕ) → place < length sets → drop place sets ≡ get_or sets place [] ∷ drop (place + 1) sets
-rest_from [] place below = absurd (omega (arith, below))
-rest_from (set ∷ sets) zero below = refl
-rest_from (set ∷ sets) (suc place) below =
-    let one_more : suc (place + 1) ≡ suc place + 1 = omega arith in
-    rest_from sets place (omega (arith, below)) ∙ ap (λ n. get_or sets place [] ∷ drop n (set ∷ sets)) one_more
 
 -- ---- both readers
 

@@ -1,11 +1,11 @@
 -- A text that is cut after a line feed.
-use Rattle.std.proofs.Common.{◌≡◌, ℕ, ◌+◌, true, false, List, [], ◌∷◌, ◌++◌, length, take, drop, take-append-drop, Result, Ok, Err, refl, sym, ap, ◌∙◌, subst, append_assoc, arith}
+use Rattle.std.proofs.Common.{◌≡◌, ℕ, ◌+◌, List, [], ◌∷◌, ◌++◌, length, take, drop, take-append-drop, Result, Ok, Err, refl, sym, ap, ◌∙◌, subst, append_assoc, arith}
 use Rattle.std.proofs.lemmas.List.{append-nil, length-append}
 use Rattle.basket_read.specs.declared.fault.ReadFault.{ReadFault}
 use Rattle.basket_read.specs.Cut.{Cut, cut_at, parts_of}
 use Rattle.basket_read.specs.Fimi.{is_line_feed, or_else}
 use Rattle.basket_read.specs.Text.{EndsLine}
-use Rattle.basket_read.proofs.theory.Cuts.{cut_ended, cut_joined, cut_after}
+use Rattle.basket_read.proofs.theory.Cuts.{cut_after}
 use Rattle.basket_read.proofs.theory.Grammar as grammar
 use Rattle.basket_counts.specs.declared.listed_sets.ListedSets.{ListedSets}
 use Rattle.basket_counts.specs.Counts.{ListedSet, is_line, fault_in_line, fault_at_from, fault_from, entries_from}
@@ -68,10 +68,3 @@ module _ (before : ℕ) (bytes prefix rest : List ℕ) (end : ℕ) (is_front : p
           (fault_of_both ∙ (λ i. or_else (a.0 i) (b.0 i)), subst (HasEntries new) entries_of_both (join _ _ a.1 b.1))
 
 -- ---- the lines that end in some bytes
-
-pub line_ends : (bytes : List ℕ) (byte : ℕ) → is_line_feed byte ≡ true → length (cut_at is_line_feed (bytes ++ byte ∷ [])).ended ≡ length (cut_at is_line_feed bytes).ended + 1
-line_ends bytes byte e =
-    let k = cut_at is_line_feed bytes in ap (λ (j : Cut). length j.ended) (cut_ended is_line_feed bytes byte e) ∙ length-append k.ended (k.last ∷ [])
-
-pub line_goes_on : (bytes : List ℕ) (byte : ℕ) → is_line_feed byte ≡ false → length (cut_at is_line_feed (bytes ++ byte ∷ [])).ended ≡ length (cut_at is_line_feed bytes).ended
-line_goes_on bytes byte e = ap (λ (j : Cut). length j.ended) (cut_joined is_line_feed bytes byte e)

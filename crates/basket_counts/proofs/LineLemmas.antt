@@ -1,7 +1,7 @@
 -- How a line goes on.
-use Rattle.std.proofs.Common.{◌≡◌, ℕ, ◌+◌, ◌*◌, ◌-◌, Bool, true, false, ◌&&◌, not, leb, List, [], ◌∷◌, ◌++◌, cond, Option, Some, None, refl, sym, ap, ◌∙◌, inl, inr, arith}
+use Rattle.std.proofs.Common.{◌≡◌, ℕ, ◌+◌, ◌*◌, ◌-◌, Bool, true, false, ◌&&◌, not, leb, List, [], ◌∷◌, ◌++◌, cond, Option, Some, None, refl, sym, ap, ◌∙◌, arith}
 use Rattle.std.specs.List.{list_all}
-use Rattle.std.proofs.lemmas.Bool.{cases_Bool, and_parts, and_from, and_right, le-leb, leb-true}
+use Rattle.std.proofs.lemmas.Bool.{and_parts, and_from, and_right, le-leb, leb-true}
 use Rattle.basket_sets.specs.Number.{is_digit, value_of}
 use Rattle.basket_sets.specs.Database.{MOST_WEIGHT}
 use Rattle.basket_sets.proofs.theory.Numerals.{all_push, and_true, value_push}
@@ -12,7 +12,7 @@ use Rattle.basket_counts.specs.declared.line.SetLine.{SetLine}
 use Rattle.basket_counts.specs.declared.tail.Tail.{Tail}
 use Rattle.basket_counts.specs.declared.tail.Tail.TheVariants.{Absent, Opened, Count, Closed}
 use Rattle.basket_counts.specs.Counts.{is_open, is_close, is_count, is_tail_of, is_tail, is_line_of, is_line, count_fault, digit_fault, bare_entry, entry, count_before, entry_of_parts, entry_of}
-use Rattle.basket_counts.specs.Line.{LineState, count_begun, tail_in, tail_at, tail_with, state_of_parts, line_at, digit_added, blank_added, close_added, is_there, said_by, said_at, digit_fault_in, IsLineSoFar, IsTaken}
+use Rattle.basket_counts.specs.Line.{LineState, count_begun, tail_in, tail_at, tail_with, state_of_parts, line_at, digit_added, blank_added, is_there, said_by, said_at, digit_fault_in, IsLineSoFar, IsTaken}
 use Rattle.basket_read.proofs.theory.Cuts.{cut, cut_ended, cut_joined, stands_nowhere}
 use Rattle.basket_read.proofs.theory.Grammar as grammar
 use Rattle.basket_read.proofs.theory.Numbers.{other_byte, digit_is_no_blank, blank_is_no_digit, within_push, within_ends, ended_at, refuses_other, numbers_joined}
@@ -64,12 +64,6 @@ blank_told (count ∷ []) last byte h b =
     (sym (and_from (not (is_nil count) && is_count count) (list_all is_blank (last ++ byte ∷ [])) p.0 (all_push is_blank last byte ∙ and_from (list_all is_blank last) (is_blank byte) p.1 b)))
 blank_told (count ∷ other ∷ others) last byte h b = absurd cc
 
-close_told : (ended : List (List ℕ)) (last : List ℕ) → is_tail_of ended last ≡ true → close_added (tail_in ended last) ≡ told (ended ++ last ∷ []) []
-close_told [] [] h = refl
-close_told [] (d ∷ word) h = ap (λ b. cond b (Some (Closed (value_of (d ∷ word)))) None) (sym (and_true (is_count (d ∷ word)) ∙ h))
-close_told (count ∷ []) last h = refl
-close_told (count ∷ other ∷ others) last h = absurd cc
-
 other_told : (ended : List (List ℕ)) (last : List ℕ) (byte : ℕ) → is_digit byte ≡ false → is_blank byte ≡ false → is_tail_of ended (last ++ byte ∷ []) ≡ false
 other_told [] last byte d b = within_ends MOST_WEIGHT last byte d
 other_told (count ∷ []) last byte d b = blanks_end last byte (not (is_nil count) && is_count count) b
@@ -82,23 +76,9 @@ module _ (tail : List ℕ) (good : is_tail tail ≡ true) (byte : ℕ) where
   told_at : (k : Cut) → cut_at is_close (tail ++ byte ∷ []) ≡ k → told k.ended k.last ≡ tail_with tail byte
   told_at k e = ap (λ (k : Cut). told k.ended k.last) (sym e)
 
-  pub tail_digit : (digit : ℕ) → is_digit byte ≡ true → byte ≡ 48 + digit → digit_added (tail_at tail) digit ≡ tail_with tail byte
-  tail_digit digit d e =
-      let same : digit ≡ byte - 48 = omega arith in
-      ap (digit_added (tail_at tail)) same ∙ digit_told c.ended c.last byte good d
-      ∙ told_at (cut c.ended (c.last ++ byte ∷ [])) (cut_joined is_close tail byte (other_byte is_digit 41 byte refl d))
-
   pub tail_blank : is_blank byte ≡ true → blank_added (tail_at tail) ≡ tail_with tail byte
   tail_blank b =
       blank_told c.ended c.last byte good b ∙ told_at (cut c.ended (c.last ++ byte ∷ [])) (cut_joined is_close tail byte (other_byte is_blank 41 byte refl b))
-
-  pub tail_close : is_close byte ≡ true → close_added (tail_at tail) ≡ tail_with tail byte
-  tail_close e = close_told c.ended c.last good ∙ told_at (cut (c.ended ++ c.last ∷ []) []) (cut_ended is_close tail byte e)
-
-  pub tail_other : is_digit byte ≡ false → is_blank byte ≡ false → is_close byte ≡ false → None ≡ tail_with tail byte
-  tail_other d b e =
-      ap (λ t. cond t (Some (tail_in c.ended (c.last ++ byte ∷ []))) None) (sym (other_told c.ended c.last byte d b))
-      ∙ told_at (cut c.ended (c.last ++ byte ∷ [])) (cut_joined is_close tail byte e)
 
 -- ---- a line that is cut at each `(`
 
@@ -194,15 +174,6 @@ module _ (old : SetLine) (line : List ℕ) (so_far : IsLineSoFar old line) where
       where
         no_open : is_tail (last ++ byte ∷ []) ≡ true → is_open byte ≡ false
         no_open = stands_nowhere is_close is_tail_of 40 refl (λ ended last. other_told ended last 40 refl refl) last byte
-
-    pub tail_refused : (byte : ℕ) → None ≡ tail_with last byte → is_line (line ++ byte ∷ []) ≡ false
-    tail_refused byte is =
-        let bad = grammar.refused (tail_at (last ++ byte ∷ [])) (is_tail (last ++ byte ∷ [])) is in
-        elim (cases_Bool (is_open byte)) [
-          | inl e ↦ ap (λ (k : Cut). is_line_of k.ended k.last) (cut_ended is_open line byte e ∙ ap (λ h. cut (h ++ last ∷ []) []) split.only)
-          | inr e ↦ ap (λ (k : Cut). is_line_of k.ended k.last) (cut_joined is_open line byte e ∙ ap (λ h. cut h (last ++ byte ∷ [])) split.only)
-              ∙ and_right (are_numbers split.text) (is_tail (last ++ byte ∷ [])) bad
-        ]
 
 -- a line feed stands in no line
 pub no_line_feed : (line : List ℕ) (byte : ℕ) → is_line (line ++ byte ∷ []) ≡ true → is_line_feed byte ≡ false

@@ -1,16 +1,14 @@
 -- How numbers that are being read go on.
-use Rattle.std.proofs.Common.{◌≡◌, ◌≢◌, ℕ, ◌+◌, ◌*◌, ◌-◌, ◌≤◌, Bool, true, false, leb, ltb, List, [], ◌∷◌, ◌++◌, length, cond, Option, Some, None, refl, sym, ap, ◌∙◌, subst, arith}
+use Rattle.std.proofs.Common.{◌≡◌, ◌≢◌, ℕ, ◌+◌, ◌*◌, ◌-◌, ◌≤◌, Bool, true, false, ltb, List, [], ◌∷◌, ◌++◌, length, cond, Option, Some, None, refl, sym, ap, ◌∙◌, subst, arith}
 use Rattle.std.specs.Prelude.{unwrap_or}
 use Rattle.std.specs.List.{list_all}
-use Rattle.std.proofs.lemmas.Bool.{and_from, leb-true, lt-ltb}
+use Rattle.std.proofs.lemmas.Bool.{lt-ltb}
 use Rattle.basket_sets.specs.Number.{is_digit, value_of}
-use Rattle.basket_sets.proofs.theory.Numerals.{value_push}
 use Rattle.basket_read.specs.declared.numbers.Numbers.{Numbers}
 use Rattle.basket_read.specs.Cut.{cut_at}
-use Rattle.basket_read.specs.Fimi.{is_blank, are_numbers, MOST_NUMBER}
-use Rattle.basket_read.specs.Number.{number_with}
+use Rattle.basket_read.specs.Fimi.{is_blank, MOST_NUMBER}
 use Rattle.basket_read.specs.Numbers.{NumbersState, numbers_state, begun_of, values_of, number_ended, IsNumbersSoFar}
-use Rattle.basket_read.proofs.theory.Numbers.{ended_at, refuses_digit, takes_digits, takes_blanks}
+use Rattle.basket_read.proofs.theory.Numbers.{ended_at, takes_digits, takes_blanks}
 use Rattle.basket_read.proofs.theory.Grammar as grammar
 
 abbrev held : Option ℕ → List ℕ → NumbersState
@@ -24,11 +22,6 @@ begun_kept false begun more ended = refl
 begun_value : (word : List ℕ) → unwrap_or (begun_of word) 0 ≡ value_of word
 begun_value [] = refl
 begun_value (d ∷ word) = refl
-
-begun_some : (word more : List ℕ) → more ≢ [] → begun_of (word ++ more) ≡ Some (value_of (word ++ more))
-begun_some [] [] some = absurd (some refl)
-begun_some [] (d ∷ more) some = refl
-begun_some (d ∷ word) more some = refl
 
 module _ (old : Numbers) (text : List ℕ) (so_far : IsNumbersSoFar old text) where
   abbrev last : List ℕ
@@ -48,25 +41,7 @@ module _ (old : Numbers) (text : List ℕ) (so_far : IsNumbersSoFar old text) wh
       let same : digit ≡ byte - 48 = omega arith in
       λ i. (ap (λ b. unwrap_or b 0) begun ∙ begun_value last) i * 10 + same i
 
-  pub takes_digit : (new : Numbers) (byte digit value : ℕ) → is_digit byte ≡ true → byte ≡ 48 + digit → number_with (unwrap_or old.begun 0) digit ≡ Some value
-      → numbers_state new ≡ record { begun = Some value; ended = old.ended.items } → IsNumbersSoFar new (text ++ byte ∷ [])
-  takes_digit new byte digit value d e is new_is =
-      let k = grammar.chosen value (unwrap_or old.begun 0 * 10 + digit) _ (sym is) in
-      let value_is : value_of (last ++ byte ∷ []) ≡ value = value_push last byte ∙ sym (with_one byte digit d e) ∙ sym k.1 in
-      let below = leb-true (unwrap_or old.begun 0 * 10 + digit) MOST_NUMBER k.0 in
-      takes_digits new text (byte ∷ []) so_far.good (and_from (is_digit byte) true d refl)
-      (subst (λ v. v ≤ MOST_NUMBER) (sym (value_is ∙ k.1)) below)
-      (new_is ∙ (λ i. record { begun = (ap Some (sym value_is) ∙ sym (begun_some last (byte ∷ []) (λ e. cc))) i; ended = ended i }))
-
-  pub takes_no_digit : (byte digit : ℕ) → is_digit byte ≡ true → byte ≡ 48 + digit → number_with (unwrap_or old.begun 0) digit ≡ None → are_numbers (text ++ byte ∷ []) ≡ false
-  takes_no_digit byte digit d e is =
-      refuses_digit text byte so_far.good d
-      (ap (λ v. leb v MOST_NUMBER) (sym (with_one byte digit d e)) ∙ grammar.refused (unwrap_or old.begun 0 * 10 + digit) _ (sym is))
-
   -- ---- a blank
-
-  pub takes_ended : (new : Numbers) (blanks : List ℕ) → list_all is_blank blanks ≡ true → blanks ≢ [] → numbers_state new ≡ number_ended (numbers_state old) → IsNumbersSoFar new (text ++ blanks)
-  takes_ended new blanks b some is = takes_blanks new text blanks so_far.good b some (is ∙ ap number_ended so_far.state ∙ ended_at text)
 
   -- ---- more digits of a number
 

@@ -27,7 +27,3 @@ set_at list place = slice_index_or (sets_in list) place []
 
 abbrev pub count_at : List Counted → ℕ → ℕ
 count_at list place = slice_index_or (map (λ c. c.count) list) place 0
-
--- both
-abbrev pub counted_at : List Counted → ℕ → Counted
-counted_at list place = slice_index_or list place (record { set = []; count = 0 })

@@ -4,11 +4,10 @@ use Rattle.std.specs.declared.alloc.Global.{Global}
 use Rattle.std.specs.declared.vec.Vec.{Vec}
 use Rattle.std.specs.List.{HoldsAt}
 use Rattle.std.proofs.lemmas.List.{get_or-set_other, get_or-set_same, get_or-take, get_or_append_left, length-set, length-take-le}
-use Rattle.std.proofs.Math.Seq.{get_or-append_seam}
 use Rattle.mine_rows.specs.declared.marks.Marks.{Marks}
 use Rattle.mine_vertical.specs.declared.siblings.Siblings.{Siblings}
 use Rattle.mine_vertical.specs.declared.search_scratch.SearchScratch.{SearchScratch}
-use Rattle.mine_vertical.specs.Projected.{AreAtRest, Keeps, Serves}
+use Rattle.mine_vertical.specs.Projected.{Keeps, Serves}
 
 pub keeps_same : {R : Type 0} (at_rest : List ℕ → Marks → Type 0) (base : Siblings R) (before after : SearchScratch R) → after.marks ≡ before.marks → Keeps at_rest base before after
 keeps_same at_rest base before after same = record {
@@ -40,15 +39,5 @@ module _ {R : Type 0} (at_rest : List ℕ → Marks → Type 0) (base : Siblings
 
     same : (place : ℕ) (d : Marks) → place < base.marks + 1 → get_or after.marks.items place d ≡ get_or before.marks.items place d
     same place d low = ap (λ l. get_or l place d) are ∙ get_or_append_left (take (base.marks + 1) before.marks.items) (marks ∷ []) d place (omega (arith, low, front)) ∙ get_or-take (base.marks + 1) before.marks.items place d low
-
-    pub keeps_beside : Keeps at_rest base before after
-    keeps_beside = record {
-      outer = λ place weights low held. (omega (arith, low, long), λ d. subst (at_rest weights) (sym (same place d (omega (arith, low)))) (held.1 d));
-      own = λ held. (omega (arith, long), λ d. subst (at_rest base.weights.value) (sym (same base.marks d (omega arith))) (held.1 d));
     }
-
-    pub serves_inner : (weights : List ℕ) → at_rest weights marks → AreAtRest at_rest after (base.marks + 1) weights
-    serves_inner weights rests = (
-      omega (arith, long),
-      λ d. subst (at_rest weights) (sym (ap (λ l. get_or l (base.marks + 1) d) are ∙ ap (λ n. get_or (take (base.marks + 1) before.marks.items ++ marks ∷ []) n d) (sym front) ∙ get_or-append_seam (take (base.marks + 1) before.marks.items) marks [] d)) rests,
     )

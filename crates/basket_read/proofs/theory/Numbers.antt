@@ -93,11 +93,6 @@ ends text byte b bad =
 pub refuses_other : (text : List ℕ) (byte : ℕ) → is_digit byte ≡ false → is_blank byte ≡ false → are_numbers (text ++ byte ∷ []) ≡ false
 refuses_other text byte d b = ends text byte b (within_ends MOST_NUMBER (cut_at is_blank text).last byte d)
 
-pub refuses_digit : (text : List ℕ) (byte : ℕ) → are_numbers text ≡ true → is_digit byte ≡ true
-    → leb (value_of (cut_at is_blank text).last * 10 + (byte - 48)) MOST_NUMBER ≡ false → are_numbers (text ++ byte ∷ []) ≡ false
-refuses_digit text byte good d above =
-    let c = cut_at is_blank text in ends text byte (digit_is_no_blank byte d) (within_push MOST_NUMBER c.last byte (parts_good c good).1 d ∙ above)
-
 -- ---- bytes that can
 
 pub takes_digits : (numbers : Numbers) (text word : List ℕ) → are_numbers text ≡ true → list_all is_digit word ≡ true → value_of ((cut_at is_blank text).last ++ word) ≤ MOST_NUMBER

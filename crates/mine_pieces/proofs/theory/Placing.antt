@@ -78,13 +78,6 @@ parts_once parts pieces some claimed same x = sum_of_parts (λ z. cond (z == x) 
 module _ {X : Type 0} where
   -- ---- places
 
-  filled_past : (places : List (Option X)) (x : ℕ) → length places ≤ x → filled places x ≡ 0
-  filled_past [] x h = refl
-  filled_past (None ∷ places) zero h = absurd (omega arith)
-  filled_past (Some v ∷ places) zero h = absurd (omega arith)
-  filled_past (None ∷ places) (suc x) h = filled_past places x (omega arith)
-  filled_past (Some v ∷ places) (suc x) h = filled_past places x (omega arith)
-
   filled_set_same : (places : List (Option X)) (x : ℕ) (v : X) → x < length places → filled (set places x (Some v)) x ≡ 1
   filled_set_same [] x v h = absurd (omega arith)
   filled_set_same (place ∷ places) zero v h = refl
