@@ -23,7 +23,7 @@ mod programs;
 mod rules;
 mod streams;
 
-/// A runtime that has threads and no random bytes.
+/// A runtime that has threads and no random bytes. All tests run by it, so that all is compiled for one runtime.
 #[derive(Drop)]
 struct NoRandomBytes<'a, R>(&'a R);
 

@@ -1,20 +1,41 @@
 //! Mining by two workers under gates that pause them. What is asserted holds whatever the schedule.
+use super::limits::Held;
 use super::*;
 use std::sync::atomic::{AtomicU64, Ordering};
 
 /// How many turns a worker is paused at most.
 const TURNS: u64 = 1_000_000_000;
 
+/// A gate of these tests. As they have one type, the miners are compiled for them once.
+pub enum Watch<'a> {
+    Meeting(&'a Meeting),
+    FirstLast(&'a FirstLast),
+    SecondPhase(&'a SecondPhase),
+    Held(&'a Held),
+}
+
+impl Gate for Watch<'_> {
+    fn pass(&self, phase: u32, worker: u32, piece: u32) {
+        match self {
+            Watch::Meeting(gate) => gate.pass(phase, worker),
+            Watch::FirstLast(gate) => gate.pass(phase, piece),
+            Watch::SecondPhase(gate) => gate.pass(phase, piece),
+            Watch::Held(gate) => gate.pass(phase, worker),
+        }
+    }
+}
+
 /// How many sets two workers find, if they aren't too many.
-pub fn found_by_two<R: Threads + Sync, G: Gate + Sync>(
+pub fn found_by_two<R: Threads + Sync>(
     rt: &R,
     alloc: Global,
     text: &[u8],
     plan: &Plan,
-    gate: &G,
+    gate: Watch<'_>,
 ) -> Result<Option<usize>, Fail> {
     let database = database(alloc, text)?;
-    match mine(rt, alloc, &database, &plan.with_workers(2), gate) {
+    let plan = plan.with_workers(2);
+    match mine(&NoRandomBytes(rt), alloc, &database, &plan, &gate) {
         Ok((frequent, _)) => Ok(Some(frequent.sets().len())),
         Err(MineFault::TooMany { limit }) if limit == plan.limit() => Ok(None),
         Err(fault) => Err(Fail::from(fault)),
@@ -69,10 +90,8 @@ impl Meeting {
             && self.second.load(Ordering::SeqCst) == 1
             && self.late.load(Ordering::SeqCst) == 0
     }
-}
 
-impl Gate for Meeting {
-    fn pass(&self, phase: u32, worker: u32, _piece: u32) {
+    fn pass(&self, phase: u32, worker: u32) {
         if phase < 64 {
             self.phases.fetch_or(1 << phase, Ordering::SeqCst);
         }
@@ -95,7 +114,7 @@ fn workers_meet_in_each_phase(rt: HostRuntime) -> Result<(), Fail> {
         let plan = plan("2")?.with_miner(miner).with_pieces(2);
         for phase in 1..4 {
             let gate = Meeting::in_phase(phase);
-            let found = found_by_two(&rt, rt.alloc(), NINE_BASKETS, &plan, &gate)?;
+            let found = found_by_two(&rt, rt.alloc(), NINE_BASKETS, &plan, Watch::Meeting(&gate))?;
             assert_eq!(rt; found, Some(13), "{name} in phase {phase}");
             assert_eq!(rt; gate.phases.load(Ordering::SeqCst), phases, "{name}");
             if phases & (1 << phase) != 0 {
@@ -127,10 +146,8 @@ impl FirstLast {
     pub fn is_late(&self) -> bool {
         self.late.load(Ordering::SeqCst) != 0
     }
-}
 
-impl Gate for FirstLast {
-    fn pass(&self, phase: u32, _worker: u32, piece: u32) {
+    fn pass(&self, phase: u32, piece: u32) {
         if phase != 2 {
             return;
         }
@@ -146,7 +163,13 @@ impl Gate for FirstLast {
 fn one_worker_takes_what_is_left(rt: HostRuntime) -> Result<(), Fail> {
     let plan = plan("2")?.with_miner(Miner::Eclat).with_pieces(4);
     let gate = FirstLast::after(3);
-    let found = found_by_two(&rt, rt.alloc(), NINE_BASKETS, &plan, &gate)?;
+    let found = found_by_two(
+        &rt,
+        rt.alloc(),
+        NINE_BASKETS,
+        &plan,
+        Watch::FirstLast(&gate),
+    )?;
     assert_eq!(rt; found, Some(13));
     assert!(rt; !gate.is_late(), "the others did not pass");
     Ok(())
@@ -154,13 +177,13 @@ fn one_worker_takes_what_is_left(rt: HostRuntime) -> Result<(), Fail> {
 
 /// Notes what is passed in the second phase.
 #[derive(Drop)]
-struct SecondPhase {
+pub struct SecondPhase {
     times: AtomicU64,
     greatest_piece: AtomicU64,
 }
 
-impl Gate for SecondPhase {
-    fn pass(&self, phase: u32, _worker: u32, piece: u32) {
+impl SecondPhase {
+    fn pass(&self, phase: u32, piece: u32) {
         if phase == 2 {
             self.times.fetch_add(1, Ordering::SeqCst);
             self.greatest_piece
@@ -192,7 +215,7 @@ fn two_workers_count_the_pairs_of_many_items_over_two_ranges(rt: HostRuntime) ->
         times: AtomicU64::new(0),
         greatest_piece: AtomicU64::new(0),
     };
-    let found = found_by_two(&rt, rt.alloc(), &text, &plan, &gate)?;
+    let found = found_by_two(&rt, rt.alloc(), &text, &plan, Watch::SecondPhase(&gate))?;
     assert_eq!(rt; found, Some(300));
     assert_eq!(rt; gate.times.load(Ordering::SeqCst), 2);
     assert_eq!(rt; gate.greatest_piece.load(Ordering::SeqCst), 1);

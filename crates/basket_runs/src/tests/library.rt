@@ -1,4 +1,5 @@
 //! The program of docs/LIBRARY.md.
+use super::NoRandomBytes;
 use basket::{Ask, Frequent, Minimum, Open, Plan, Share, SliceSource, mine};
 use basket_read::read_fimi;
 use basket_rules::{closed, rules};
@@ -49,7 +50,7 @@ fn add_sets(alloc: Global, frequent: &Frequent, lines: &mut String) -> anyhow::R
 
 #[test]
 fn the_program_of_the_library_page_finds_these_rules_and_sets(rt: HostRuntime) -> Result<(), Fail> {
-    let Ok(found) = answers(&rt, rt.alloc()) else {
+    let Ok(found) = answers(&NoRandomBytes(&rt), rt.alloc()) else {
         return Err(Fail::new(format_args!("it ends with a fault")));
     };
     assert_eq!(rt;

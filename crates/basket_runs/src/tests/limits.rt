@@ -1,5 +1,5 @@
 //! Limits that two workers pass. What is asserted holds whatever the schedule.
-use super::gates::{FirstLast, Meeting, found_by_two};
+use super::gates::{FirstLast, Meeting, Watch, found_by_two};
 use super::*;
 use std::sync::atomic::{AtomicU64, Ordering};
 
@@ -17,7 +17,7 @@ fn two_workers_have_one_limit(rt: HostRuntime) -> Result<(), Fail> {
         .with_pieces(40)
         .with_limit(2);
     let gate = Meeting::in_phase(2);
-    let found = found_by_two(&rt, rt.alloc(), &forty, &plan, &gate)?;
+    let found = found_by_two(&rt, rt.alloc(), &forty, &plan, Watch::Meeting(&gate))?;
     assert_eq!(rt; found, None);
     assert!(rt; gate.met(), "the workers did not meet");
     let passed = gate.passed.load(Ordering::SeqCst);
@@ -36,7 +36,7 @@ fn a_worker_stops_at_what_the_other_found(rt: HostRuntime) -> Result<(), Fail> {
             .with_pieces(43)
             .with_limit(1_100);
         let gate = FirstLast::after(13);
-        let found = found_by_two(&rt, rt.alloc(), FOUR_TENS, &plan, &gate)?;
+        let found = found_by_two(&rt, rt.alloc(), FOUR_TENS, &plan, Watch::FirstLast(&gate))?;
         assert_eq!(rt; found, None, "{name}");
         assert!(rt; !gate.is_late(), "{name} passed few pieces");
         let passed = gate.passed.load(Ordering::SeqCst);
@@ -47,14 +47,14 @@ fn a_worker_stops_at_what_the_other_found(rt: HostRuntime) -> Result<(), Fail> {
 
 /// Pauses one worker at its first piece of each phase.
 #[derive(Drop)]
-struct Held {
+pub struct Held {
     worker: u32,
     /// The last phase that the worker came to.
     phase: AtomicU64,
 }
 
-impl Gate for Held {
-    fn pass(&self, phase: u32, worker: u32, _piece: u32) {
+impl Held {
+    pub fn pass(&self, phase: u32, worker: u32) {
         if worker == self.worker && self.phase.swap(phase.into(), Ordering::SeqCst) < phase.into() {
             for _ in 0..1_000_000 {
                 self.phase.load(Ordering::SeqCst);
@@ -74,7 +74,7 @@ fn a_limit_is_the_same_while_a_worker_is_held(rt: HostRuntime) -> Result<(), Fai
                     phase: AtomicU64::new(0),
                 };
                 let plan = plan.with_limit(limit);
-                let found = found_by_two(&rt, rt.alloc(), NINE_BASKETS, &plan, &gate)?;
+                let found = found_by_two(&rt, rt.alloc(), NINE_BASKETS, &plan, Watch::Held(&gate))?;
                 assert_eq!(rt; found, want, "{worker} held, {pieces} pieces");
             }
         }

@@ -130,7 +130,13 @@ impl Write for Unflushed {
 fn a_run_ends_with_a_flush_of_the_writer(rt: HostRuntime) -> Result<(), Fail> {
     let mut reader = MemSource::new(NINE_BASKETS, 100, None);
     let mut writer = StdSink::new(Unflushed);
-    match run(&rt, rt.alloc(), &plan("2")?, &mut reader, &mut writer) {
+    match run(
+        &NoRandomBytes(&rt),
+        rt.alloc(),
+        &plan("2")?,
+        &mut reader,
+        &mut writer,
+    ) {
         Err(RunFault::Input(ReadFault::Memory) | RunFault::Mine(MineFault::Memory)) => {
             Err(Fail::from(AllocError))
         }
@@ -161,7 +167,10 @@ fn workers_read_what_one_reads(rt: HostRuntime) -> Result<(), Fail> {
         let one = read_fimi(alloc, &mut MemSource::new(&text, 10_000, None));
         for workers in [2, 3] {
             let mut reader = MemSource::new(&text, 10_000, None);
-            let same = match (&one, &read_fimi_shared(&rt, alloc, &mut reader, workers)) {
+            let same = match (
+                &one,
+                &read_fimi_shared(&NoRandomBytes(&rt), alloc, &mut reader, workers),
+            ) {
                 (Ok(one), Ok(all)) => one.baskets() == all.baskets(),
                 (Err(one), Err(all)) => one == all,
                 _ => false,
