@@ -7,6 +7,7 @@ use std::sync::atomic::{AtomicU64, Ordering};
 const TURNS: u64 = 1_000_000_000;
 
 /// A gate of these tests. As they have one type, the miners are compiled for them once.
+#[derive(Drop)]
 pub enum Watch<'a> {
     Meeting(&'a Meeting),
     FirstLast(&'a FirstLast),
