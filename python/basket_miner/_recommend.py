@@ -1,7 +1,6 @@
 """Offers by rules."""
 
 import itertools
-import numbers
 import operator
 import os
 from collections import Counter, defaultdict
@@ -19,6 +18,7 @@ from ._frames import column_of, without_drop
 from ._given_sets import itemsets_of
 from ._lists import each
 from ._measures import measures
+from ._minimum import whole_of
 from ._numbering import numbered
 from ._ranks import FIGURES, best_first
 from ._rule_counts import RuleCounts, counts_of
@@ -89,13 +89,13 @@ class Recommender:
         exact: bool = False,
     ) -> pd.DataFrame:
         """What the call `recommend` returns by these rules."""
-        if not isinstance(top, numbers.Integral) or top < 1:
+        if (most := whole_of(top)) is None or most < 1:
             raise DataError(f"top is a number of at least 1, not {top!r}")
         known: dict[frozenset[Any], list[tuple[Any, int]]] = {}
         rows = []
         for name, items in _baskets(baskets, basket, item):
             if items not in known:
-                known[items] = self._index.offers(items, top)
+                known[items] = self._index.offers(items, most)
             rows += [(name, *offer) for offer in known[items]]
         places = self._order[np.array([rank for *_, rank in rows], dtype=np.intp)]
         found = {

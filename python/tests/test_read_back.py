@@ -26,6 +26,16 @@ def as_csv(frame: pd.DataFrame) -> pd.DataFrame:
     return pd.read_csv(io.StringIO(frame.to_csv(index=False)))
 
 
+def as_csv_of_lists(frame: pd.DataFrame) -> pd.DataFrame:
+    sides = [name for name in SIDES if name in frame]
+    return as_csv(frame.assign(**{name: frame[name].map(list) for name in sides}))
+
+
+def as_csv_of_tuples(frame: pd.DataFrame) -> pd.DataFrame:
+    sides = [name for name in SIDES if name in frame]
+    return as_csv(frame.assign(**{name: frame[name].map(tuple) for name in sides}))
+
+
 def as_json(frame: pd.DataFrame) -> pd.DataFrame:
     return pd.read_json(io.StringIO(frame.to_json()))
 
@@ -46,7 +56,11 @@ def as_single(frame: pd.DataFrame) -> pd.DataFrame:
     return frame.astype({name: "float32" for name in floats})
 
 
-@pytest.mark.parametrize("way", [as_csv, as_json, as_arrays, as_merged, as_single])
+WAYS = [as_csv, as_csv_of_lists, as_csv_of_tuples, as_json, as_arrays, as_merged]
+WAYS += [as_single]
+
+
+@pytest.mark.parametrize("way", WAYS)
 def test_rules_make_the_same_offers_and_pages(
     way: Callable[[pd.DataFrame], pd.DataFrame], tmp_path: Any
 ) -> None:
@@ -61,7 +75,7 @@ def test_rules_make_the_same_offers_and_pages(
     pd.testing.assert_frame_equal(tidy(found).iloc[:, :4], tidy(RULES).iloc[:, :4])
 
 
-@pytest.mark.parametrize("way", [as_csv, as_json, as_arrays, as_merged, as_single])
+@pytest.mark.parametrize("way", WAYS)
 def test_itemsets_are_counted_again_and_make_the_same_rules(
     way: Callable[[pd.DataFrame], pd.DataFrame],
 ) -> None:
@@ -80,7 +94,7 @@ def texts_of(axes: Axes) -> list[str]:
     return found
 
 
-@pytest.mark.parametrize("way", [as_csv, as_json, as_arrays, as_merged, as_single])
+@pytest.mark.parametrize("way", WAYS)
 def test_pictures_have_the_same_texts_and_lines(
     way: Callable[[pd.DataFrame], pd.DataFrame],
 ) -> None:
@@ -153,9 +167,17 @@ def test_figures_that_were_rounded_say_what_to_give(tmp_path: Any) -> None:
             call()
 
 
-@pytest.mark.parametrize("side", ["milk", "frozenset({Timestamp(1)})", None, 7])
+@pytest.mark.parametrize(
+    "side",
+    [
+        *["milk", "frozenset({Timestamp(1)})", "[milk]", "['milk' 'tea']", "('milk')"],
+        *["7", "{}", "(7)", None, 7, b"milk", {"milk": 1}],
+    ],
+    ids=str,
+)
 def test_what_is_no_side_of_a_rule_is_refused(side: Any) -> None:
-    found = RULES.assign(antecedents=side)
+    sides = pd.Series([side] * len(RULES), RULES.index, dtype=object)
+    found = RULES.assign(antecedents=sides)
     with pytest.raises(DataError, match="'antecedents' has itemsets as frozensets"):
         tidy(found)
     with pytest.raises(DataError, match="'antecedents' has itemsets as frozensets"):

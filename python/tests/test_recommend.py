@@ -178,6 +178,7 @@ def test_no_rule_and_no_basket_make_no_offer() -> None:
         ("at least 1, not 0", lambda: recommend(SHOP, [["tea"]], 0)),
         ("iterable of items, not 'tea'", lambda: recommend(SHOP, ["tea"])),
         ("number of at least 1, not '3'", lambda: recommend(SHOP, [["tea"]], "3")),  # type: ignore[arg-type]
+        ("number of at least 1, not True", lambda: recommend(SHOP, [["tea"]], True)),
         ("number of at least 1, not 2.5", lambda: recommend(SHOP, [["tea"]], 2.5)),  # type: ignore[arg-type]
         ("hashable items: unhashable", lambda: recommend(SHOP, [[["tea"]]])),
         ("hashable items: 'int'", lambda: recommend(SHOP, 5)),
