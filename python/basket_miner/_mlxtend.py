@@ -220,4 +220,4 @@ def by_support(df: pd.DataFrame, least: float, figures: list[str]) -> pd.DataFra
     ]
     rules = pd.DataFrame(rows, columns=["antecedents", "consequents", "support"])
     names = dict.fromkeys(["antecedents", "consequents", *figures, "support"])
-    return rules.reindex(columns=[*names])
+    return rules.astype({"support": np.float64}).reindex(columns=[*names])
