@@ -38,10 +38,11 @@ data, ..)`, and the end of Python, however it comes, on Linux with the tool `set
 
 The program has the package's version, or a later one of the same major version.
 
-`tidy` makes a row for each item, `recommend` says what to offer to baskets by rules, `explore` writes a
-page that shows rules in a browser, `page` says where the page lies that mines in a browser, `certify` checks a report of the program against its baskets by other
-code, `basket_miner.frequent_patterns` and `basket_miner.preprocessing` have the calls of mlxtend, and
-`basket_miner.cluster` asks parts of the baskets on a Dask cluster.
+`tidy` makes a row for each item, `recommend` says what to offer to baskets by rules (`Recommender` makes
+the rules ready once for many calls), `explore` writes a page that shows rules in a browser, `page` says
+where the page lies that mines in a browser, `certify` checks a report of the program against its
+baskets by other code, `basket_miner.frequent_patterns` and `basket_miner.preprocessing` have the calls
+of mlxtend, and `basket_miner.cluster` asks parts of the baskets on a Dask cluster.
 
 All errors are of the family `BasketError`, except that a keyword that a call doesn't take is a
 `TypeError`, as in all of Python, and that `certify` raises a `ValueError`, which is a `WrongReport` if
@@ -66,7 +67,7 @@ from ._errors import (
 from ._explore import explore
 from ._itemsets import closed, items, maximal, sets
 from ._page import page
-from ._recommend import recommend
+from ._recommend import Recommender, recommend
 from ._rules import count, rules
 from ._tidy import tidy
 from ._version import __version__
@@ -80,6 +81,7 @@ __all__ = [
     "InputError",
     "OutOfMemory",
     "ProgramMissing",
+    "Recommender",
     "TimedOut",
     "TooManySets",
     "UsageError",

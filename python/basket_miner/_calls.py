@@ -4,7 +4,7 @@ import csv
 import io
 import os
 import tempfile
-from collections.abc import Hashable, Iterable, Mapping, Sequence
+from collections.abc import Hashable, Iterable, Iterator, Mapping, Sequence
 from dataclasses import replace
 from pathlib import Path
 from typing import Any, get_args
@@ -100,7 +100,7 @@ def counted(
     """The frame of what the program counts of some sets over the caller's data."""
     run_so, until = filled(Run, options), end_of(options.get("timeout"))
     baskets = read(data, options)
-    given = [_itemset(itemset) for itemset in sets]
+    given = [_itemset(itemset) for itemset in _iterated(sets)]
     if baskets.separator is None:
         baskets, text = _as_numbers(baskets, given)
     else:
@@ -120,8 +120,15 @@ def counted(
     return sets_frame(report, baskets, exact=run_so["exact"])
 
 
+def _iterated(sets: Iterable[Any]) -> Iterator[Any]:
+    try:
+        return iter(sets)
+    except TypeError as fault:
+        raise DataError(f"sets are an iterable of itemsets: {fault}") from fault
+
+
 def _itemset(itemset: Any) -> list[Hashable]:
-    if isinstance(itemset, (str, bytes)):
+    if isinstance(itemset, (str, bytes, pd.DataFrame)):
         raise DataError(f"an itemset is an iterable of items, not {itemset!r}")
     try:
         return list(dict.fromkeys(itemset))

@@ -104,6 +104,17 @@ def column_of(frame: pd.DataFrame, name: Hashable) -> pd.Series:
         raise DataError(f"{fault}{hint}") from None
 
 
+def floats_of(frame: pd.DataFrame, name: Hashable) -> Array:
+    """The column of a name as floats, or `DataError` where it has something else."""
+    try:
+        return np.asarray(column_of(frame, name).astype(np.float64))
+    except (TypeError, ValueError) as fault:
+        if isinstance(fault, DataError):
+            raise
+        said = f"column {name!r} has values that are no numbers: {fault}"
+        raise DataError(said) from fault
+
+
 def place_of(labels: Iterable[Hashable], name: Hashable) -> int:
     """The place of a name among the labels of columns, or `DataError` likewise."""
     try:

@@ -2,6 +2,7 @@
 
 import ast
 import re
+from collections.abc import Iterable, Mapping
 from typing import Any
 
 import pandas as pd
@@ -28,13 +29,26 @@ def itemsets_of(frame: pd.DataFrame, name: str) -> list[frozenset[Any]]:
 
 def _read(value: Any, name: str) -> frozenset[Any]:
     try:
-        if not isinstance(value, (str, bytes)):
+        if isinstance(value, str):
+            return frozenset(_of_text(value))
+        # Bytes and keys are no items.
+        if not isinstance(value, (bytes, Mapping)):
             return frozenset(value)
-        if found := _TEXT.fullmatch(str(value)):
-            return frozenset(ast.literal_eval(found[1] or "()"))
     except (TypeError, ValueError, SyntaxError):
         pass
     raise DataError(
         f"column {name!r} has itemsets as frozensets, lists, or texts of these with names and "
         f"numbers, and not {value!r}"
     )
+
+
+def _of_text(text: str) -> Iterable[Any]:
+    """The items of the text of a frozenset, a list or a tuple, or `ValueError`."""
+    if found := _TEXT.fullmatch(text):
+        items: Iterable[Any] = ast.literal_eval(found[1] or "()")
+        return items
+    listed = ast.literal_eval(text)
+    # An array's text is not this: "['a' 'b']" is one name to Python.
+    if not isinstance(listed, (list, tuple)) or repr(listed) != text:
+        raise ValueError(text)
+    return listed

@@ -12,7 +12,7 @@ from typing import Any
 import pandas as pd
 
 from ._baskets import Baskets
-from ._calls import asked, counted, weight_of
+from ._calls import asked, counted, weight_of, words_of
 from ._ending import end_of
 from ._errors import DataError, FileError, TooManySets
 from ._files import kept, state_of
@@ -31,6 +31,8 @@ def sized(baskets: Baskets, minimum: Minimum, most: int, options: Work) -> pd.Da
     """The frame of `sets` without those of more than `most` items."""
     if (whole := whole_of(most)) is None or whole < 1:
         raise DataError(f"max_items is a number from 1 on, not {most!r}")
+    # Runs have limits of their own here.
+    words_of(options)
     until = end_of(options.get("timeout"))
     with kept(baskets.source) as source:
         before = state_of(source)

@@ -8,6 +8,7 @@ from numbers import Real
 from typing import Any
 
 import numpy as np
+import pandas as pd
 
 from ._baskets import Array, Baskets, baskets_of
 from ._errors import DataError
@@ -48,9 +49,14 @@ def each(baskets: Any) -> Iterator[Iterable[Hashable]]:
     except TypeError as fault:
         raise _no_items(fault) from fault
     for basket in found:
-        if isinstance(basket, (str, bytes, Mapping)):
+        if isinstance(basket, (str, bytes, bytearray, Mapping)):
             raise DataError(
                 f"a basket is an iterable of items, not {basket!r}{_TABLE_HINT}"
+            )
+        if isinstance(basket, pd.DataFrame):
+            raise DataError(
+                "a basket is an iterable of items, not a DataFrame; frames of several parts of the baskets are "
+                "given as one, by pandas.concat"
             )
         if hasattr(basket, "_fields") or isinstance(basket, np.record):
             raise DataError(

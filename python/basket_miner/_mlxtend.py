@@ -3,9 +3,7 @@
 import itertools
 import math
 import numbers
-from collections.abc import Iterable
 from dataclasses import replace
-from decimal import Decimal
 from fractions import Fraction
 from typing import Any
 
@@ -14,35 +12,43 @@ import pandas as pd
 
 from ._baskets import Array, Baskets
 from ._data import read
+from ._ending import end_of
 from ._errors import DataError, InputError
-from ._frames import LONG_HINT, column_of, without_drop
+from ._frames import LONG_HINT, column_of, distinct, floats_of, without_drop
 from ._given_sets import itemsets_of
-from ._keywords import Miner, Work
+from ._keywords import Work
 from ._levels import not_above, sized
-from ._measures import MEASURES, least_confidence, measures
+from ._measures import least_confidence, measures
 from ._minimum import MOST_COUNT
 from ._program import run
 from ._report import rules_frame, sets_frame
 
 # What confidences are fractions of.
 _PARTS = 10**9
+# So many rules take some gigabytes and minutes.
+_MOST_RULES = 5_000_000
 # Neighbouring floats of 32 bits are less than half a basket of so many apart.
 _MOST_OF_SINGLES = 2**22
+
+# What may help where figures are those of no number of baskets.
+ROUNDED_HINT = (
+    "; if they were rounded, as by .round(3), give the frame as it was before"
+)
 
 # The attribute of a frame that tells how many baskets its supports are shares of.
 TRANSACTIONS = "basket_miner_transactions"
 
 
 def frequent(
-    asked: tuple[str, Miner],
+    command: str,
     df: pd.DataFrame,
     min_support: float,
     use_colnames: bool,
     max_len: int | None,
-    verbose: int,
+    work: Work,
 ) -> pd.DataFrame:
-    """The frame of what a command of the program reports by a miner."""
-    command, miner = asked
+    """The frame of what a command of the program reports."""
+    until = end_of(work["timeout"])
     is_whole = isinstance(max_len, numbers.Integral) and not isinstance(max_len, bool)
     if max_len is not None and (not is_whole or max_len < 1):
         raise DataError(f"max_len is a number from 1 on, not {max_len!r}")
@@ -51,24 +57,31 @@ def frequent(
         raise DataError(f"min_support is above 0 and at most 1: {min_support!r}")
     if not isinstance(df, pd.DataFrame):
         raise DataError(f"a pandas.DataFrame is needed, not {type(df).__name__}")
-    baskets = _baskets(df)
+    baskets = _baskets(df if use_colnames else _told_apart(df))
     if not use_colnames:
-        places = range(len(df.columns))
-        baskets = Baskets(baskets.source, labels=places, weight=baskets.weight)
-    least = _least(min_support, len(df))
+        baskets = replace(baskets, labels=range(len(df.columns)))
+    least = _least(float(min_support), len(df))
     if max_len is not None and command == "sets":
         shares = replace(baskets, total=len(df))
-        work = Work(miner=miner, progress=verbose > 0)
         frame = sized(shares, least, max_len, work)[["support", "itemsets"]]
     else:
-        words = [command, f"--min={least}", f"--miner={miner}"]
-        report = run(words, baskets.source, progress=verbose > 0)
+        words = [command, f"--min={least}", f"--miner={work['miner']}"]
+        report = run(words, baskets.source, progress=work["progress"], until=until)
         frame = sets_frame(report, baskets, len(df))[["support", "itemsets"]]
         if max_len is not None:
             frame = not_above(frame, max_len)
     frame.attrs.clear()
     frame.attrs[TRANSACTIONS] = len(df)
     return frame
+
+
+def _told_apart(df: pd.DataFrame) -> pd.DataFrame:
+    """The frame, with places as labels where its own are missing or stand twice."""
+    try:
+        distinct(df.columns.tolist(), "column")
+    except DataError:
+        return df.set_axis(range(len(df.columns)), axis="columns")
+    return df
 
 
 def _baskets(df: pd.DataFrame) -> Baskets:
@@ -108,7 +121,7 @@ def counted(
     df: pd.DataFrame, transactions: int
 ) -> tuple[Baskets, dict[frozenset[Any], int]]:
     """The itemsets with their counts, as the program takes them and by themselves."""
-    counts = _counts(column_of(df, "support"), transactions)
+    counts = _counts(df, transactions)
     itemsets = itemsets_of(df, "itemsets")
     by_itemset = dict(zip(itemsets, counts.astype(np.int64).tolist()))
     if len(by_itemset) != len(itemsets) or frozenset() in by_itemset:
@@ -122,25 +135,29 @@ def counted(
     return baskets, by_itemset
 
 
-def _counts(supports: pd.Series, transactions: int) -> Array:
-    """The counts of itemsets of some supports.
+def _counts(df: pd.DataFrame, transactions: int) -> Array:
+    """The counts of itemsets by their supports.
 
     One rounding of the quotient is all that may lie between a support and its share. Floats of 32
     bits tell counts of some million baskets alone.
     """
-    is_single = supports.dtype == np.float32 and transactions <= _MOST_OF_SINGLES
-    shares = supports.to_numpy(dtype=np.float64)
+    is_single = column_of(df, "support").dtype == np.float32
+    is_single &= transactions <= _MOST_OF_SINGLES
+    shares = floats_of(df, "support")
     counts: Array = np.rint(shares * transactions)
     rounding = 2**-23 if is_single else 1e-12
-    if not np.allclose(counts / transactions, shares, rtol=rounding, atol=0):
-        raise DataError(f"the supports are no shares of {transactions} baskets")
+    are_near = np.allclose(counts / transactions, shares, rtol=rounding, atol=0)
+    if not are_near or not (counts <= transactions).all():
+        raise DataError(
+            f"the supports are no shares of {transactions} baskets{ROUNDED_HINT}"
+        )
     if (counts < 1).any():
         raise DataError("a support is above 0")
     return counts
 
 
 def rules_that_hold(
-    baskets: Baskets, least: int, metric: str, threshold: float
+    baskets: Baskets, least: int, metric: str, threshold: float, until: float | None
 ) -> pd.DataFrame:
     """The rules whose metric is at least a threshold.
 
@@ -149,10 +166,11 @@ def rules_that_hold(
         least: no count lies below it.
         metric: the name of a measure.
         threshold: of it.
+        until: the time at which the program is ended.
     """
     total = baskets.weight or 1
     # Infinite ones have no fraction.
-    near = Fraction(float(min(max(threshold, 0), _PARTS)))
+    near = Fraction(min(max(threshold, 0), _PARTS))
     confidence = least_confidence(metric, near, Fraction(least, total))
     # A little less, since the threshold is compared with floats.
     share = max(math.floor(confidence * _PARTS) - 1, 0)
@@ -164,13 +182,14 @@ def rules_that_hold(
         known = measures(both, left, right, total)[metric]
         return np.asarray(known >= threshold)
 
-    report = _rules_report([f"--min={least}", f"--conf={share}/{_PARTS}"], baskets)
+    words = ["rules", "--form=counts", f"--min={least}", f"--conf={share}/{_PARTS}"]
+    report = _rules_report(words, baskets, until)
     return rules_frame(report, baskets, total, holds=holds)
 
 
-def _rules_report(words: list[str], baskets: Baskets) -> bytes:
+def _rules_report(words: list[str], baskets: Baskets, until: float | None) -> bytes:
     try:
-        return run(["rules", "--form=counts", *words], baskets.source)
+        return run(words, baskets.source, until=until)
     except InputError as fault:
         raise DataError(
             "the frame lacks parts of its itemsets, or their supports do not agree: it must "
@@ -180,47 +199,25 @@ def _rules_report(words: list[str], baskets: Baskets) -> bytes:
 
 
 def by_support(df: pd.DataFrame, least: float, figures: list[str]) -> pd.DataFrame:
-    """The rules of all itemsets of a support, which is all that is known of them."""
+    """The rules of all itemsets of a support, which is all that is known of them.
+
+    An itemset of n items has 2**n - 2 rules: `DataError` where that is more than memory takes.
+    """
+    supports = floats_of(df, "support").tolist()
+    itemsets = [*zip(itemsets_of(df, "itemsets"), supports)]
+    itemsets = [(itemset, support) for itemset, support in itemsets if support >= least]
+    how_many = sum(max(2 ** len(itemset) - 2, 0) for itemset, _ in itemsets)
+    if how_many > _MOST_RULES:
+        raise DataError(
+            f"these itemsets have {how_many} rules, and support_only=True lists at most {_MOST_RULES}: raise "
+            "min_threshold=, or leave out long itemsets, of which one of n items has 2**n - 2 rules"
+        )
     rows = [
         (frozenset(left), itemset.difference(left), support)
-        for itemset, support in zip(
-            itemsets_of(df, "itemsets"), column_of(df, "support").astype(float)
-        )
-        if support >= least
+        for itemset, support in itemsets
         for size in range(len(itemset) - 1, 0, -1)
         for left in itertools.combinations(itemset, size)
     ]
     rules = pd.DataFrame(rows, columns=["antecedents", "consequents", "support"])
     names = dict.fromkeys(["antecedents", "consequents", *figures, "support"])
-    return rules.reindex(columns=[*names])
-
-
-def figures_of(metrics: str | Iterable[str] | None) -> list[str]:
-    """The figures that are asked for by their names, or by the name of one; without any, all."""
-    if isinstance(metrics, str):
-        return [metrics]
-    return [*MEASURES] if metrics is None else [*metrics]
-
-
-def refuse_thresholds(threshold: float) -> None:
-    """`DataError` where a threshold is no number that figures are compared with."""
-    is_number = isinstance(threshold, (numbers.Real, Decimal))
-    if not is_number or math.isnan(threshold):
-        raise DataError(f"min_threshold is a number, not {threshold!r}")
-
-
-def refuse_metrics(metrics: Iterable[str]) -> None:
-    for metric in metrics:
-        if metric not in MEASURES:
-            raise DataError(f"metric {metric!r} is none of {', '.join(MEASURES)}")
-
-
-def refuse_nulls(null_values: bool, df: pd.DataFrame | None) -> None:
-    """`DataError` where missing values shall count as unknown, unless there are none."""
-    if not null_values:
-        return
-    if not isinstance(df, pd.DataFrame) or df.isna().any(axis=None):
-        raise DataError(
-            "null_values=True is here for frames without missing values alone, for rules in "
-            "df_orig=; give df.fillna(False) instead, which counts what is missing as not there"
-        )
+    return rules.astype({"support": np.float64}).reindex(columns=[*names])

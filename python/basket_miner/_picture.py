@@ -12,13 +12,15 @@ from matplotlib.colors import LogNorm
 from matplotlib.transforms import Bbox
 
 from ._errors import DataError
-from ._given_sets import demand_frame
+from ._frames import floats_of
+from ._given_sets import demand_frame, itemsets_of
 
 # Red above 1, blue below it, pale at 1.
 COLOURS = "RdBu_r"
 # The colours end at this lift and at its reciprocal, or at ten times that and so on: where a picture's lifts need no
 # more, a colour means the same lift in each picture.
 _END = 4.0
+_SIDES = ("antecedents", "consequents")
 _LIFT = "lift (1: as often as by chance)"
 # Ticks of numbers that span more than this are powers of ten alone.
 _MANY = 20_000
@@ -30,13 +32,20 @@ _RADIUS = 8.0
 _BESIDE = [(x, y) for x in (10, -10) for y in (0, 10, -10, 22, -22, 36, -36)]
 
 
-def demand(frame: pd.DataFrame, *columns: str) -> None:
+def demand(frame: pd.DataFrame, *columns: str) -> pd.DataFrame:
+    """The rules of a frame that has these columns, with sides as sets and figures as floats."""
     demand_frame(frame, "rules")
     missing = [name for name in columns if name not in frame.columns]
     if missing:
         raise DataError(f"the frame of rules has no column {missing[0]!r}")
     if frame.empty:
         raise DataError("there is no rule to draw")
+    sides = [name for name in _SIDES if name in frame.columns]
+    figures = [name for name in columns if name not in _SIDES]
+    return frame.assign(
+        **{name: itemsets_of(frame, name) for name in sides},
+        **{name: floats_of(frame, name) for name in figures},
+    )
 
 
 def axes_of(axes: Axes | None, width: float, height: float) -> Axes:

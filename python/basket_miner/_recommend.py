@@ -1,7 +1,6 @@
 """Offers by rules."""
 
 import itertools
-import numbers
 import operator
 import os
 from collections import Counter, defaultdict
@@ -19,6 +18,7 @@ from ._frames import column_of, without_drop
 from ._given_sets import itemsets_of
 from ._lists import each
 from ._measures import measures
+from ._minimum import whole_of
 from ._numbering import numbered
 from ._ranks import FIGURES, best_first
 from ._rule_counts import RuleCounts, counts_of
@@ -26,11 +26,14 @@ from ._tables import frame_of, is_table
 from ._wide_frames import wide_pairs
 
 
+Figure = Literal["lift", "confidence", "count"]
+
+
 def recommend(
     rules: pd.DataFrame,
     baskets: Data,
     top: int = 5,
-    by: Literal["lift", "confidence", "count"] = "lift",
+    by: Figure = "lift",
     *,
     basket: Hashable | None = None,
     item: Hashable | None = None,
@@ -47,36 +50,61 @@ def recommend(
         rules: a frame of `rules`, or of `association_rules` in `basket_miner.frequent_patterns`.
         baskets: a data frame with a row for each item of a basket, of which `basket` and `item` name
             the columns; one with a row for each basket and a column of true and false for each item;
-            or an iterable of baskets, each an iterable of labels. Items are labelled as in the rules.
+            or an iterable of baskets, each an iterable of labels, as a series of lists. Items are
+            labelled as in the rules.
         top: how many items a basket gets at most, from 1 on.
         by: the figure that makes a rule better.
         exact: adds `exact_confidence` and `exact_lift`, of `Fraction`.
 
-    Returns a row for each offer, in the order of the baskets: `basket` (its id, the label of its row, or
-    its place in the iterable), `item`, `rule` (the label of the rule's row), `count`, `confidence` and
-    `lift`. Raises `DataError` where the rules, the baskets or an argument do not fit.
+    Returns a row for each offer, in the order of the baskets: `basket` (its id, the label of its row in
+    a frame or a series, or its place in another iterable), `item`, `rule` (the label of the rule's row),
+    `count`, `confidence` and `lift`. Raises `DataError` where the rules, the baskets or an argument do
+    not fit.
     """
-    if by not in FIGURES:
-        raise DataError(f"by is one of {', '.join(FIGURES)}, not {by!r}")
-    if not isinstance(top, numbers.Integral) or top < 1:
-        raise DataError(f"top is a number of at least 1, not {top!r}")
-    counts = counts_of(rules)
-    order = best_first(counts, by)
-    index = _Index(rules, order.tolist())
-    known: dict[frozenset[Any], list[tuple[Any, int]]] = {}
-    rows = []
-    for name, items in _baskets(baskets, basket, item):
-        if items not in known:
-            known[items] = index.offers(items, top)
-        rows += [(name, *offer) for offer in known[items]]
-    places = order[np.array([rank for *_, rank in rows], dtype=np.intp)]
-    found = {
-        "basket": labels_column([name for name, _, _ in rows]),
-        "item": labels_column([offered for _, offered, _ in rows]),
-        "rule": labels_column(rules.index[places].tolist()),
-        **_figures(counts, places, exact),
-    }
-    return pd.DataFrame(found)
+    made = Recommender(rules, by)
+    return made.recommend(baskets, top, basket=basket, item=item, exact=exact)
+
+
+class Recommender:
+    """Rules that are made ready once, for baskets that come one after another.
+
+    Takes `rules` and `by` as `recommend` does. What becomes of the frame later changes no offer.
+    """
+
+    def __init__(self, rules: pd.DataFrame, by: Figure = "lift") -> None:
+        if by not in FIGURES:
+            raise DataError(f"by is one of {', '.join(FIGURES)}, not {by!r}")
+        self._counts = counts_of(rules)
+        self._order = best_first(self._counts, by)
+        self._index = _Index(rules, self._order.tolist())
+        self._labels = rules.index
+
+    def recommend(
+        self,
+        baskets: Data,
+        top: int = 5,
+        *,
+        basket: Hashable | None = None,
+        item: Hashable | None = None,
+        exact: bool = False,
+    ) -> pd.DataFrame:
+        """What the call `recommend` returns by these rules."""
+        if (most := whole_of(top)) is None or most < 1:
+            raise DataError(f"top is a number of at least 1, not {top!r}")
+        known: dict[frozenset[Any], list[tuple[Any, int]]] = {}
+        rows = []
+        for name, items in _baskets(baskets, basket, item):
+            if items not in known:
+                known[items] = self._index.offers(items, most)
+            rows += [(name, *offer) for offer in known[items]]
+        places = self._order[np.array([rank for *_, rank in rows], dtype=np.intp)]
+        found = {
+            "basket": labels_column([name for name, _, _ in rows]),
+            "item": labels_column([offered for _, offered, _ in rows]),
+            "rule": labels_column(self._labels[places].tolist()),
+            **_figures(self._counts, places, exact),
+        }
+        return pd.DataFrame(found)
 
 
 def _figures(counts: RuleCounts, places: Array, exact: bool) -> dict[str, Any]:
@@ -149,9 +177,11 @@ def _baskets(
         raise DataError("basket= and item= go with a data frame")
     if isinstance(data, (str, os.PathLike, Baskets)) or hasattr(data, "tocsr"):
         raise DataError("baskets are a data frame or an iterable of baskets")
-    for place, labels in enumerate(each(data)):
+    # Only a series has labels of its own.
+    names = data.index.tolist() if isinstance(data, pd.Series) else itertools.count()
+    for name, labels in zip(names, each(data)):
         try:
-            yield place, frozenset(labels)
+            yield name, frozenset(labels)
         except TypeError as fault:
             said = f"a basket is an iterable of hashable items: {fault}"
             raise DataError(said) from fault

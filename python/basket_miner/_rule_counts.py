@@ -7,10 +7,10 @@ import pandas as pd
 
 from ._baskets import Array
 from ._errors import DataError
-from ._frames import column_of
+from ._frames import floats_of
 from ._given_sets import demand_frame
 from ._measures import measures
-from ._mlxtend import TRANSACTIONS
+from ._mlxtend import ROUNDED_HINT, TRANSACTIONS
 
 _FIGURES = ["support", "confidence", "lift"]
 # How far figures may be from the exact ones, and up to which total counts can still be told by them: our own floats,
@@ -43,7 +43,7 @@ def counts_of(rules: pd.DataFrame) -> RuleCounts:
         DataError: a column is missing, or the figures are not those of one number of baskets.
     """
     demand_frame(rules, "rules")
-    given = [column_of(rules, name).to_numpy(dtype=np.float64) for name in _FIGURES]
+    given = [floats_of(rules, name) for name in _FIGURES]
     support, confidence, lift = given
     if not len(rules):
         none = np.empty(0, dtype=np.int64)
@@ -62,13 +62,14 @@ def counts_of(rules: pd.DataFrame) -> RuleCounts:
             return RuleCounts(whole[0], whole[1], whole[2], int(total))
     raise DataError(
         "the count, support, confidence and lift of the rules are not those of one number of baskets"
+        f"{ROUNDED_HINT}"
     )
 
 
 def _both(rules: pd.DataFrame, support: Array) -> Array:
     """How many baskets have both sides of each rule, as its frame says or knows."""
     if "count" in rules.columns:
-        return np.asarray(column_of(rules, "count"), dtype=np.float64)
+        return floats_of(rules, "count")
     if TRANSACTIONS in rules.attrs:
         return np.asarray(np.rint(support * rules.attrs[TRANSACTIONS]))
     raise DataError(

@@ -35,6 +35,6 @@ def tidy(frame: pd.DataFrame) -> pd.DataFrame:
     found = frame.drop(columns=[*sides]).iloc[places].reset_index(drop=True)
     found.insert(0, "item", labels_column(items))
     if not is_sets:
-        found.insert(0, "side", [side for _, side, _ in rows])
+        found.insert(0, "side", labels_column([side for _, side, _ in rows]))
     found.insert(0, made[0], frame.index[places])
     return found

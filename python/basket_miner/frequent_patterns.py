@@ -8,8 +8,9 @@ which `null_values` is for: they are refused (`DataError`). Without them that ar
 and `num_itemsets` change nothing.
 
 The rows stand in the program's order. `apriori`, `fpgrowth` and `hmine` return the same rows, and
-`low_memory` changes nothing. All figures are the floats nearest to the exact values, so a last
-digit may be another than where floats are divided by floats.
+`low_memory` changes nothing. `timeout=` is an argument of this package alone. All figures are the
+floats nearest to the exact values, so a last digit may be another than where floats are divided by
+floats.
 
 Raschka, MLxtend: providing machine learning and data science utilities and extensions to
 Python's scientific computing stack, Journal of Open Source Software 3 (24), 2018.
@@ -20,20 +21,20 @@ from collections.abc import Sequence
 import numpy as np
 import pandas as pd
 
+from ._ending import end_of
 from ._errors import DataError
+from ._given_sets import demand_frame
+from ._keywords import Miner, Work
 from ._measures import MEASURES, measures
 from ._mlxtend import (
     TRANSACTIONS,
     by_support,
     counted,
     frequent,
-    figures_of,
-    refuse_metrics,
-    refuse_nulls,
-    refuse_thresholds,
     rules_that_hold,
     transactions_of,
 )
+from ._mlxtend_words import figures_of, refuse_metrics, refuse_nulls, threshold_of
 
 
 def apriori(
@@ -43,17 +44,19 @@ def apriori(
     max_len: int | None = None,
     verbose: int = 0,
     low_memory: bool = False,
+    *,
+    timeout: float | None = None,
 ) -> pd.DataFrame:
     """The frequent itemsets of a frame of true and false (or 1 and 0), a row for each basket.
 
     Returns the columns `support` (`float64`) and `itemsets` (`frozenset` of the columns'
     places, or with `use_colnames` of their labels). Itemsets of more than `max_len` items are left
     out, and not looked for if there are more than 100,000 in all: the sizes are then found one by
-    one. `verbose` above 0 tells each second what runs. Raises `DataError` where an argument or the frame does not fit.
+    one. `verbose` above 0 tells each second what runs. `timeout`: after so many seconds the program is
+    ended, and `TimedOut` raised. Raises `DataError` where an argument or the frame does not fit.
     """
-    return frequent(
-        ("sets", "apriori"), df, min_support, use_colnames, max_len, verbose
-    )
+    work = _work("apriori", verbose, timeout)
+    return frequent("sets", df, min_support, use_colnames, max_len, work)
 
 
 def fpgrowth(
@@ -63,12 +66,16 @@ def fpgrowth(
     use_colnames: bool = False,
     max_len: int | None = None,
     verbose: int = 0,
+    *,
+    timeout: float | None = None,
 ) -> pd.DataFrame:
-    """The frequent itemsets, as `apriori` returns them, by FP-growth."""
+    """The frequent itemsets, as `apriori` returns them, by FP-growth.
+
+    `timeout`: after so many seconds the program is ended, and `TimedOut` raised.
+    """
     refuse_nulls(null_values, df)
-    return frequent(
-        ("sets", "fpgrowth"), df, min_support, use_colnames, max_len, verbose
-    )
+    work = _work("fpgrowth", verbose, timeout)
+    return frequent("sets", df, min_support, use_colnames, max_len, work)
 
 
 def hmine(
@@ -77,11 +84,15 @@ def hmine(
     use_colnames: bool = False,
     max_len: int | None = None,
     verbose: int = 0,
+    *,
+    timeout: float | None = None,
 ) -> pd.DataFrame:
-    """The frequent itemsets, as `apriori` returns them. The program finds them by FP-growth."""
-    return frequent(
-        ("sets", "fpgrowth"), df, min_support, use_colnames, max_len, verbose
-    )
+    """The frequent itemsets, as `apriori` returns them. The program finds them by FP-growth.
+
+    `timeout`: after so many seconds the program is ended, and `TimedOut` raised.
+    """
+    work = _work("fpgrowth", verbose, timeout)
+    return frequent("sets", df, min_support, use_colnames, max_len, work)
 
 
 def fpmax(
@@ -91,15 +102,21 @@ def fpmax(
     use_colnames: bool = False,
     max_len: int | None = None,
     verbose: int = 0,
+    *,
+    timeout: float | None = None,
 ) -> pd.DataFrame:
     """The maximal frequent itemsets, of which no larger one is frequent, as `apriori` does.
 
-    A larger itemset that `max_len` leaves out still keeps its parts from being maximal.
+    A larger itemset that `max_len` leaves out still keeps its parts from being maximal. `timeout`: after
+    so many seconds the program is ended, and `TimedOut` raised.
     """
     refuse_nulls(null_values, df)
-    return frequent(
-        ("maximal", "fpgrowth"), df, min_support, use_colnames, max_len, verbose
-    )
+    work = _work("fpgrowth", verbose, timeout)
+    return frequent("maximal", df, min_support, use_colnames, max_len, work)
+
+
+def _work(miner: Miner, verbose: int, timeout: float | None) -> Work:
+    return Work(miner=miner, progress=verbose > 0, timeout=timeout)
 
 
 def association_rules(
@@ -111,6 +128,8 @@ def association_rules(
     min_threshold: float = 0.8,
     support_only: bool = False,
     return_metrics: str | Sequence[str] | None = None,
+    *,
+    timeout: float | None = None,
 ) -> pd.DataFrame:
     """The rules between the sides of frequent itemsets whose metric is at least a threshold.
 
@@ -123,25 +142,27 @@ def association_rules(
     `conviction`, `zhangs_metric`, `jaccard`, `certainty` and `kulczynski`. Each may be the `metric`.
 
     With `support_only` the metric is the support, the other figures are missing, and the frame may
-    lack parts of its itemsets, as that of `fpmax` does. Raises `DataError` where an argument or the
-    frame does not fit.
+    lack parts of its itemsets, as that of `fpmax` does; more than 5,000,000 rules are refused.
+    `timeout`: after so many seconds the program is ended, and `TimedOut` raised. Raises `DataError`
+    where an argument or the frame does not fit.
     """
+    until = end_of(timeout)
+    demand_frame(df, "itemsets")
     if not isinstance(num_itemsets, (int, np.integer, type(None))):
         raise DataError(
             f"num_itemsets is a number of rows, not {num_itemsets!r}; give metric= and "
             "min_threshold= by name"
         )
-    refuse_thresholds(min_threshold)
+    threshold = threshold_of(min_threshold)
     figures = figures_of(return_metrics)
     refuse_metrics([metric, *figures])
     refuse_nulls(null_values, df_orig)
     if support_only:
-        return by_support(df, min_threshold, figures)
+        return by_support(df, threshold, figures)
     transactions = transactions_of(df, num_itemsets)
     baskets, counts = counted(df, transactions)
-    found = rules_that_hold(
-        baskets, min(counts.values(), default=1), metric, min_threshold
-    )
+    least = min(counts.values(), default=1)
+    found = rules_that_hold(baskets, least, metric, threshold, until)
     left, right = (
         np.array([*map(counts.__getitem__, found[side])], dtype=np.int64)
         for side in ("antecedents", "consequents")

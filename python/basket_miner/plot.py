@@ -7,7 +7,6 @@ who don't tell all colours apart; colours of lines are of the palette of Okabe a
 """
 
 from collections.abc import Iterable
-from fractions import Fraction
 from typing import Any, Unpack
 
 import numpy as np
@@ -18,7 +17,7 @@ from matplotlib.lines import Line2D
 from ._errors import DataError
 from ._itemsets import sets
 from ._keywords import SetsOptions
-from ._minimum import Minimum, exact_minimum, least_count
+from ._minimum import Minimum, exact_minimum
 from ._picture import (
     COLOURS,
     axes_of,
@@ -31,6 +30,7 @@ from ._picture import (
     spaced,
 )
 from ._signatures import MinimumsCall
+from ._sizes import counts_by_size
 from ._typed import Typed
 
 _LINES = ("#0072B2", "#D55E00", "#009E73", "#CC79A7", "#56B4E9")
@@ -55,7 +55,7 @@ def rules(frame: pd.DataFrame, axes: Axes | None = None, most: int = 5) -> Axes:
     Raises:
         DataError: there is no rule, or a column is missing.
     """
-    demand(frame, "support", "confidence", "lift")
+    frame = demand(frame, "support", "confidence", "lift")
     axes = axes_of(axes, 7.0, 4.5)
     is_few = len(frame) <= _MOST_EDGED
     scale = scale_of(frame["lift"])
@@ -135,7 +135,8 @@ def minimums(
         data = sets(data, asked[0], **keywords)
     places = [float(minimum if is_count else 100 * minimum) for minimum in asked]
     axes = axes_of(axes, 7.0, 4.5)
-    *sizes, (name, counts) = _sizes(data, asked).items()
+    by_size = counts_by_size(data, asked, len(_LINES))
+    *sizes, (name, counts) = by_size.items()
     ticks = count_ticks(max(counts))
     axes.plot(places, counts, label=name, color="black", linestyle="--", lw=2, zorder=3)
     for (name, counts), colour, mark in zip(sizes, _LINES, _MARKS):
@@ -172,7 +173,7 @@ def strongest(frame: pd.DataFrame, axes: Axes | None = None, most: int = 15) -> 
     Raises:
         DataError: there is no rule, a column is missing, or `most` is below 1.
     """
-    demand(frame, "antecedents", "consequents", *_STRENGTH)
+    frame = demand(frame, "antecedents", "consequents", *_STRENGTH)
     if most < 1:
         raise DataError(f"most is at least 1, not {most}")
     chosen = frame.sort_values(_STRENGTH, ascending=False, kind="stable").head(most)
@@ -219,30 +220,3 @@ def _cells(
     return axes.pcolormesh(
         lifts, cmap=COLOURS, norm=scale, edgecolors="lightgrey", lw=0.8
     )
-
-
-def _sizes(frame: pd.DataFrame, minimums: list[int | Fraction]) -> dict[str, list[int]]:
-    """At each minimum the number of sets: those of each size, the last with all above, and all."""
-    counts = frame["count"].to_numpy()
-    # A support is the float nearest to a count over the total, which it gives back by rounding.
-    total = round(counts[0] / frame["support"].iloc[0]) if len(frame) else 0
-    least = [least_count(minimum, total) for minimum in minimums]
-    known = frame.attrs.get("minimum", 0)
-    if len(frame) and least[0] < known:
-        raise DataError(
-            f"the frame has the itemsets that are in {known} baskets or more, and a minimum of {least[0]} is asked"
-        )
-    sizes = frame["itemsets"].map(len).to_numpy(dtype=int)
-    most = len(_LINES)
-    lines = {
-        str(size): sizes == size
-        for size in range(1, min(sizes.max(initial=1), most) + 1)
-    }
-    if sizes.max(initial=1) > most:
-        lines[f"{most} or more"] = sizes >= most
-        del lines[str(most)]
-    lines["all"] = sizes > 0
-    return {
-        name: [int((counts[is_in] >= minimum).sum()) for minimum in least]
-        for name, is_in in lines.items()
-    }

@@ -171,6 +171,8 @@ class Exchanged(Columns):
     ("said", "data"),
     [
         ("a basket is an iterable of items, not 'tea'", ["tea", "jam"]),
+        ("a basket is an iterable of items, not a DataFrame; frames of", [ROWS, ROWS]),
+        ("a basket is an iterable of items, not bytearray", [bytearray(b"tea")]),
         ("iterables of hashable items", [[["tea"]]]),
         ("iterables of hashable items", [1, 2]),
         ("iterables of hashable items", 7),

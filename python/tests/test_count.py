@@ -109,7 +109,9 @@ def test_without_baskets_a_support_is_not_a_number() -> None:
     assert frame["exact_support"].tolist() == [None, None]
 
 
-@pytest.mark.parametrize("sets", [["tea"], [3], [[["tea"]]]])
+@pytest.mark.parametrize(
+    "sets", [["tea"], [3], [[["tea"]]], 3, None, [pd.DataFrame({"tea": [1]})]], ids=str
+)
 def test_what_is_no_itemset_is_refused(sets: Any) -> None:
     with pytest.raises(miner.DataError):
         miner.count(BASKETS, sets)

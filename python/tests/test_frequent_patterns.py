@@ -218,7 +218,8 @@ def test_support_only_needs_no_parts_of_the_itemsets_and_no_number_of_rows() -> 
     )
     assert len(found) == 8
     assert list(found.columns) == ["antecedents", "consequents", "support"]
-    assert association_rules(itemsets, support_only=True).empty
+    found = association_rules(itemsets, support_only=True)
+    assert found.empty and found["support"].dtype == "float64"
 
 
 def test_null_values_change_nothing_where_no_value_is_missing() -> None:

@@ -9,7 +9,7 @@ import pandas as pd
 import pytest
 
 import brute
-from basket_miner import DataError, TooManySets, _levels, baskets, sets
+from basket_miner import DataError, TooManySets, UsageError, _levels, baskets, sets
 from basket_miner.frequent_patterns import apriori, fpgrowth
 
 CHANCE = random.Random(11)
@@ -80,6 +80,10 @@ def test_a_limit_is_that_of_the_sets_that_are_wanted() -> None:
     with pytest.raises(TooManySets, match=f"more than {size - 1} frequent"):
         sets(SHOP, 5, max_items=2, limit=size - 1)
     assert sets(SHOP, 1000, max_items=3).empty
+    for most in (1, 2):
+        for wrong in (0, "5", True, 2.5):
+            with pytest.raises(UsageError, match="limit is a whole number from 1 to"):
+                sets(SHOP, 5, max_items=most, limit=wrong)  # type: ignore[arg-type]
     for wrong in (0, 1.5, True, "2"):
         with pytest.raises(DataError, match="max_items is a number from 1 on"):
             sets(SHOP, 5, max_items=wrong)  # type: ignore[arg-type]

@@ -11,7 +11,7 @@ import pandas as pd
 import pytest
 
 import brute
-from basket_miner import DataError, baskets, recommend, rules
+from basket_miner import DataError, Recommender, baskets, recommend, rules
 from basket_miner._ranks import FIGURES, best_first
 from basket_miner._rule_counts import RuleCounts
 from basket_miner.frequent_patterns import apriori, association_rules
@@ -19,6 +19,11 @@ from basket_miner.frequent_patterns import apriori, association_rules
 RECEIPTS = Path(__file__).parents[2] / "examples/receipts.csv"
 SHOP = rules(RECEIPTS, 2, "1/4", form="single", header=True)
 COLUMNS = ["basket", "item", "rule", "count", "confidence", "lift"]
+GAPS = SHOP.assign(lift=SHOP["lift"].astype("Float64").where(SHOP.index > 0))
+
+
+def offers_of(found: pd.DataFrame) -> pd.DataFrame:
+    return recommend(found, [["tea"]])
 
 
 def test_a_basket_gets_what_its_rules_have_and_it_lacks() -> None:
@@ -110,12 +115,41 @@ def test_all_forms_of_baskets_get_the_same_offers() -> None:
     assert len(wanted) > 30
     for given, options in (
         *[(wide, {}), (wide.astype(int), {}), (wide.astype("boolean"), {})],
+        (lists, {}),
         (receipts, {"basket": "receipt", "item": "product"}),
         (mixed, {"basket": "receipt", "item": "product"}),
     ):
         found = recommend(SHOP, given, **options)  # type: ignore[arg-type]
         found = found.sort_values("basket", kind="stable").reset_index(drop=True)
         pd.testing.assert_frame_equal(found, wanted)
+
+
+@pytest.mark.parametrize("labels", [["x", "y"], [("x", 1), ("y", 2)], [7, 7]], ids=str)
+def test_offers_to_a_series_have_the_labels_of_its_index(labels: list[Any]) -> None:
+    index = pd.Index(labels, tupleize_cols=labels[0] == ("x", 1))
+    found = recommend(SHOP, pd.Series([["tea"], ["jam"]], index), top=1)
+    assert found["basket"].tolist() == labels
+    assert found["item"].tolist() == ["milk", "bread"]
+
+
+@pytest.mark.parametrize("by", FIGURES)
+def test_rules_that_are_made_ready_once_make_the_same_offers(by: Any) -> None:
+    receipts = pd.read_csv(RECEIPTS)
+    names: Any = {"basket": "receipt", "item": "product"}
+    learnt = SHOP.copy()
+    ready = Recommender(learnt, by)
+    learnt[["lift", "confidence"]] = 1.0
+    learnt.drop(index=learnt.index[1:], inplace=True)
+    for top in (1, 3):
+        found = ready.recommend(receipts, top, exact=True, **names)
+        wanted = recommend(SHOP, receipts, top, by, exact=True, **names)
+        pd.testing.assert_frame_equal(found, wanted)
+    found = ready.recommend([["tea"], ["jam"]])
+    pd.testing.assert_frame_equal(found, recommend(SHOP, [["tea"], ["jam"]], by=by))
+    with pytest.raises(DataError, match="at least 1, not 0"):
+        ready.recommend(receipts, 0, **names)
+    with pytest.raises(DataError, match="by is one of lift"):
+        Recommender(SHOP, "support")  # type: ignore[arg-type]
 
 
 def test_rules_of_mlxtends_calls_make_offers() -> None:
@@ -144,6 +178,7 @@ def test_no_rule_and_no_basket_make_no_offer() -> None:
         ("at least 1, not 0", lambda: recommend(SHOP, [["tea"]], 0)),
         ("iterable of items, not 'tea'", lambda: recommend(SHOP, ["tea"])),
         ("number of at least 1, not '3'", lambda: recommend(SHOP, [["tea"]], "3")),  # type: ignore[arg-type]
+        ("number of at least 1, not True", lambda: recommend(SHOP, [["tea"]], True)),
         ("number of at least 1, not 2.5", lambda: recommend(SHOP, [["tea"]], 2.5)),  # type: ignore[arg-type]
         ("hashable items: unhashable", lambda: recommend(SHOP, [[["tea"]]])),
         ("hashable items: 'int'", lambda: recommend(SHOP, 5)),
@@ -163,6 +198,9 @@ def test_no_rule_and_no_basket_make_no_offer() -> None:
             ),
         ),
         ("no column 'lift'", lambda: recommend(SHOP.drop(columns="lift"), [["tea"]])),
+        ("'lift' has values that are no", lambda: offers_of(SHOP.assign(lift="high"))),
+        ("'count' has values that are no", lambda: offers_of(SHOP.assign(count="x"))),
+        ("not those of one number", lambda: offers_of(GAPS)),
     ],
 )
 def test_what_does_not_fit_is_refused(said: str, call: Callable[[], Any]) -> None:

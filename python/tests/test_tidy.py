@@ -47,6 +47,7 @@ def test_numbers_stay_numbers_and_no_row_keeps_the_columns() -> None:
     assert tidy(sets([[7], [7]], 2))["item"].dtype == "int64"
     found = tidy(rules(BASKETS, 3, 0.9))
     assert found.empty and list(found.columns)[:3] == ["rule", "side", "item"]
+    assert found.dtypes.equals(tidy(rules(BASKETS, 2, 0.9)).dtypes)
 
 
 @pytest.mark.parametrize(

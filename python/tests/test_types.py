@@ -15,7 +15,9 @@ from basket_miner.cluster import _signatures as _of_parts
 SCRIPT = """
 from fractions import Fraction
 import numpy as np
-from basket_miner import baskets, count, rules, sets
+import pandas as pd
+from basket_miner import Recommender, baskets, count, recommend, rules, sets
+from basket_miner.frequent_patterns import apriori, association_rules
 shop = [["tea", "jam"], ["tea"]]
 sets(shop, np.int64(2))
 sets(shop, np.float64(0.5), miner="fpgrowth", timeout=9)
@@ -23,6 +25,12 @@ sets(shop, np.float32(0.5), max_items=2)
 rules("shop.csv", Fraction(1, 2), np.float64(0.5), form="single", header=True)
 count(shop, [["tea"], ("tea", "jam")], exact=True)
 baskets(shop, total=5)
+table = pd.DataFrame({"tea": [True]})
+association_rules(apriori(table, 0.5, timeout=9), timeout=0.5)
+Recommender(rules(shop, 1, 0.5), "count").recommend(shop, top=1)
+recommend(table, shop, by="weight")  # wrong
+apriori(table, timeout="9")  # wrong
+apriori(table, 0.5, False, None, 0, False, 9)  # wrong
 sets(shop, 1, itm="product")  # wrong
 sets(shop, 1, miner="fp-growth")  # wrong
 sets(shop, [1])  # wrong
