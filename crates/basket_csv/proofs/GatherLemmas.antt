@@ -6,7 +6,7 @@ use Rattle.std.proofs.lemmas.List.{at_drop_more, get_or-map, length-append, leng
 use Rattle.std.proofs.lemmas.List.Concat.{flat_map-append}
 use Rattle.std.proofs.lemmas.List.Folds.{list_all-append}
 use Rattle.basket_sets.specs.declared.weighted.Weighted.{Weighted}
-use Rattle.basket_sets.specs.Database.{MOST_BASKETS, MOST_WEIGHT}
+use Rattle.basket_sets.specs.Database.{MOST_WEIGHT}
 use Rattle.basket_sets.specs.ItemTable.{HasCounted}
 use Rattle.basket_sets.specs.Number.{number_of}
 use Rattle.basket_sets.specs.Support.{total_of}
@@ -16,8 +16,6 @@ use Rattle.basket_read.specs.declared.fault.ReadFault.TheVariants.{Heavy}
 use Rattle.basket_read.specs.declared.item_counts.ItemCounts.{ItemCounts}
 use Rattle.basket_read.specs.GatheredBaskets.{AreGathered, Gathers, HasGathered}
 use Rattle.basket_read.specs.declared.gathered.GatheredBaskets.{GatheredBaskets}
-use Rattle.basket_read.proofs.theory.Numbers.{one_basket}
-use Rattle.basket_read.proofs.theory.Gathered.{one_each}
 use Rattle.basket_csv.specs.declared.part.RecordSize.{RecordSize}
 use Rattle.basket_csv.specs.declared.renumbered.RenumberedRecords.{RenumberedRecords}
 use Rattle.basket_csv.specs.Csv.{all_names, basket_of, field_in, names_in, positive, weight_of}
@@ -49,15 +47,17 @@ weighs : (weighted : Bool) (row : List (List ℕ)) → 1 ≤ unwrap_or (weight_o
 weighs true row = some_weight (number_of MOST_NUMBER (trimmed (field_in row 0)))
 weighs false row = omega arith
 
-module _ (weighted : Bool) (names : List (List ℕ)) (renumbering : List ℕ) (counting : Bool) (baskets : List Weighted) (rows : Rows) where
-  -- the baskets of the records up to a place were gathered, and these are the numbers of the others
-  pub record GathersUpTo (at : ℕ) (now : GatheredBaskets) (rest : List ℕ) : Type 0 where
-    pub gathered : HasGathered now counting (baskets ++ flat_map (basket_of weighted names) (take at rows))
+module _ (weighted : Bool) (names : List (List ℕ)) (renumbering : List ℕ) (rows : Rows) where
+  -- these are the numbers of the records from a place on
+  pub record AreNumbersFrom (at : ℕ) (rest : List ℕ) : Type 0 where
     pub left : map (λ number. get_or renumbering number 0) rest ≡ map (number_in names) (all_names weighted (drop at rows))
     pub below : list_all (λ number. ltb number (length renumbering)) rest ≡ true
 
-  module _ (at : ℕ) (gathered : GatheredBaskets) (left : List ℕ) (sizes : List RecordSize) (size none : RecordSize) (within : at < length sizes) (same : sizes ≡ map (size_of weighted) rows)
-      (is : size ≡ get_or sizes at none) (h : GathersUpTo at gathered left) where
+  -- the baskets of the records up to a place were gathered after others
+  abbrev pub GathersUpTo : Bool → List Weighted → ℕ → GatheredBaskets → Type 0
+  GathersUpTo counting baskets at now = HasGathered now counting (baskets ++ flat_map (basket_of weighted names) (take at rows))
+
+  module _ (at : ℕ) (left : List ℕ) (sizes : List RecordSize) (size none : RecordSize) (within : at < length sizes) (same : sizes ≡ map (size_of weighted) rows) (is : size ≡ get_or sizes at none) (h : AreNumbersFrom at left) where
     abbrev row : List (List ℕ)
     row = get_or rows at []
 
@@ -93,20 +93,22 @@ module _ (weighted : Bool) (names : List (List ℕ)) (renumbering : List ℕ) (c
     pub size_weighs : 1 ≤ size.weight
     size_weighs = subst (λ s. 1 ≤ s.weight) (sym own_size) (weighs weighted row)
 
-    pub gathers_more : (new : GatheredBaskets) (own others numbers : List ℕ) → own ≡ take size.names left → others ≡ drop size.names left → numbers ≡ map (λ number. get_or renumbering number 0) own
-        → ((all : List Weighted) → HasGathered gathered counting all → HasGathered new counting (all ++ basket_of_numbers numbers size.weight)) → GathersUpTo (at + 1) new others
-    gathers_more new own others numbers front back renamed add =
+    pub numbers_more : (others : List ℕ) → others ≡ drop size.names left → AreNumbersFrom (at + 1) others
+    numbers_more others back = record {
+      left = ap (map (λ number. get_or renumbering number 0)) back ∙ parts.1;
+      below = ap (list_all (λ number. ltb number (length renumbering))) back ∙ both_below.1;
+    }
+
+    pub gathers_more : (counting : Bool) (baskets : List Weighted) (gathered new : GatheredBaskets) (own numbers : List ℕ) → own ≡ take size.names left → numbers ≡ map (λ number. get_or renumbering number 0) own
+        → GathersUpTo counting baskets at gathered → ((all : List Weighted) → HasGathered gathered counting all → HasGathered new counting (all ++ basket_of_numbers numbers size.weight)) → GathersUpTo counting baskets (at + 1) new
+    gathers_more counting baskets gathered new own numbers front renamed so_far add =
         let of = basket_of weighted names in
         let done = flat_map of (take at rows) in
         let ns : numbers ≡ map (number_in names) (names_in weighted row) = renamed ∙ ap (map (λ number. get_or renumbering number 0)) front ∙ parts.0 in
         let basket : basket_of_numbers numbers size.weight ≡ of row = ap (λ n. basket_of_numbers n size.weight) ns ∙ ap (λ s. basket_of_numbers (map (number_in names) (names_in weighted row)) s.weight) own_size in
         let next : flat_map of (take (at + 1) rows) ≡ done ++ of row =
         ap (flat_map of) (take_more rows at [] inside) ∙ flat_map-append of (take at rows) (row ∷ []) ∙ ap (λ bs. done ++ bs) (append-nil (of row)) in
-        record {
-          gathered = subst (HasGathered new counting) (append_assoc baskets done (basket_of_numbers numbers size.weight) ∙ ap (λ bs. baskets ++ (done ++ bs)) basket ∙ ap (λ bs. baskets ++ bs) (sym next)) (add (baskets ++ done) h.gathered);
-          left = ap (map (λ number. get_or renumbering number 0)) back ∙ parts.1;
-          below = ap (list_all (λ number. ltb number (length renumbering))) back ∙ both_below.1;
-        }
+        subst (HasGathered new counting) (append_assoc baskets done (basket_of_numbers numbers size.weight) ∙ ap (λ bs. baskets ++ (done ++ bs)) basket ∙ ap (λ bs. baskets ++ bs) (sym next)) (add (baskets ++ done) so_far)
 
 -- ---- baskets after others
 
@@ -147,17 +149,11 @@ abbrev pub GathersTo : Bool → List (List ℕ) → Rows → Bool → GatheredBa
 GathersTo weighted names rows counting gathered left =
     (done : Rows) × (rest : Rows) × (rows ≡ done ++ rest) × HasGathered gathered counting (flat_map (basket_of weighted names) done) × InParts (AreRenumbered weighted names) left rest
 
-pub part_room : (weighted : Bool) (names : List (List ℕ)) (rows : Rows) (counting : Bool) (gathered : GatheredBaskets) (left others : List RenumberedRecords) (part : RenumberedRecords)
-    → left ≡ part ∷ others → length rows ≤ MOST_BASKETS → GathersTo weighted names rows counting gathered left
-    → (x : Bool) × (baskets : List Weighted) × HasGathered gathered x baskets × (length baskets + length part.records.sizes.items ≤ MOST_BASKETS)
-part_room weighted names rows counting gathered left others part is few (done, rest, same, has, parts) =
+pub part_numbered : (weighted : Bool) (names : List (List ℕ)) (rows : Rows) (counting : Bool) (gathered : GatheredBaskets) (left others : List RenumberedRecords) (part : RenumberedRecords)
+    → left ≡ part ∷ others → GathersTo weighted names rows counting gathered left → (w : Bool) × (ns : List (List ℕ)) × (own : Rows) × AreRenumbered w ns part own
+part_numbered weighted names rows counting gathered left others part is (done, rest, same, has, parts) =
     let (own, later, first, mine, in_rest) = subst (λ l. InParts (AreRenumbered weighted names) l rest) is parts in
-    let each = one_each (basket_of weighted names) (λ row. one_basket _ _) done in (
-      counting,
-      flat_map (basket_of weighted names) done,
-      has,
-      omega (arith, each, few, ap length same, length-append done rest, ap length first, length-append own later, ap length mine.sizes, length-map own (size_of weighted)),
-    )
+    (weighted, names, own, mine)
 
 pub part_more : (weighted : Bool) (names : List (List ℕ)) (rows : Rows) (counting : Bool) (gathered new : GatheredBaskets) (left others : List RenumberedRecords) (part : RenumberedRecords)
     → left ≡ part ∷ others

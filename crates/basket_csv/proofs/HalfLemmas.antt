@@ -1,11 +1,10 @@
 -- The baskets of two halves of parts.
-use Rattle.std.proofs.Common.{◌≡◌, ◌≢◌, ℕ, ◌+◌, ◌≤◌, ◌<◌, Bool, true, false, cond, List, [], ◌++◌, Result, Ok, Err, leb, length, refl, ap, ◌∙◌, subst, inl, inr, arith}
+use Rattle.std.proofs.Common.{◌≡◌, ◌≢◌, ℕ, ◌≤◌, ◌<◌, Bool, true, false, cond, List, [], ◌++◌, Result, Ok, Err, leb, refl, ap, ◌∙◌, subst, inl, inr, arith}
 use Rattle.std.specs.List.{flat_map}
 use Rattle.std.proofs.lemmas.Bool.{cases_Bool, leb-false, leb-true}
-use Rattle.std.proofs.lemmas.List.{length-append}
 use Rattle.std.proofs.lemmas.List.Concat.{flat_map-append}
 use Rattle.basket_sets.specs.declared.weighted.Weighted.{Weighted}
-use Rattle.basket_sets.specs.Database.{MOST_BASKETS, MOST_WEIGHT}
+use Rattle.basket_sets.specs.Database.{MOST_WEIGHT}
 use Rattle.basket_sets.specs.Support.{total_of}
 use Rattle.basket_sets.proofs.theory.Support.{support-append}
 use Rattle.basket_read.specs.Fimi.{if_light}
@@ -14,8 +13,6 @@ use Rattle.basket_read.specs.declared.fault.ReadFault.TheVariants.{Heavy, Memory
 use Rattle.basket_read.specs.Fault.{ReturnsBy}
 use Rattle.basket_read.specs.declared.item_counts.ItemCounts.{ItemCounts}
 use Rattle.basket_read.specs.GatheredBaskets.{AreGathered, Gathers}
-use Rattle.basket_read.proofs.theory.Numbers.{one_basket}
-use Rattle.basket_read.proofs.theory.Gathered.{one_each}
 use Rattle.basket_csv.specs.declared.renumbered.RenumberedRecords.{RenumberedRecords}
 use Rattle.basket_csv.specs.Csv.{basket_of}
 use Rattle.basket_csv.specs.Part.{InParts, Rows}
@@ -76,18 +73,8 @@ module _ (counting weighted : Bool) (names : List (List ℕ)) (parts front back 
         ap of same ∙ flat_map-append (basket_of weighted names) first others ∙ ap (λ l. l ++ of others) (light_is (of first) baskets light) ∙ ap (λ l. baskets ++ l) (light_is (of others) more light_too),
       )
 
-  -- no more baskets than records
-  pub few_found : (baskets more : List Weighted) → of rows ≡ baskets ++ more → length rows ≤ MOST_BASKETS → length baskets + length more ≤ MOST_BASKETS
-  few_found baskets more is few =
-      let each = one_each (basket_of weighted names) (λ row. one_basket _ _) rows in
-      omega (arith, each, few, ap length is, length-append baskets more)
+  pub front_rows : HaveRows front
+  front_rows = let (first, others, same, in_front, in_back) = both in (weighted, names, first, in_front)
 
-  pub front_rows : length rows ≤ MOST_BASKETS → HaveRows front
-  front_rows few =
-      let (first, others, same, in_front, in_back) = both in
-      (weighted, names, first, in_front, omega (arith, few, ap length same, length-append first others))
-
-  pub back_rows : length rows ≤ MOST_BASKETS → HaveRows back
-  back_rows few =
-      let (first, others, same, in_front, in_back) = both in
-      (weighted, names, others, in_back, omega (arith, few, ap length same, length-append first others))
+  pub back_rows : HaveRows back
+  back_rows = let (first, others, same, in_front, in_back) = both in (weighted, names, others, in_back)

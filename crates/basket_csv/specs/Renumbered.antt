@@ -1,7 +1,6 @@
 -- The records of a part, whose names are numbered with those of the others.
-use Rattle.std.specs.Prelude.{◌≡◌, ◌≤◌, ℕ, Bool, List, IsTrue, Result, length, map, nat_lt, slice_index_or}
+use Rattle.std.specs.Prelude.{◌≡◌, ℕ, Bool, List, IsTrue, Result, length, map, nat_lt, slice_index_or}
 use Rattle.std.specs.List.{flat_map, list_all}
-use Rattle.basket_sets.specs.Database.{MOST_BASKETS}
 use Rattle.basket_read.specs.declared.fault.ReadFault.{ReadFault}
 use Rattle.basket_read.specs.declared.item_counts.ItemCounts.{ItemCounts}
 use Rattle.basket_read.specs.Fault.{ReturnsBy}
@@ -19,9 +18,9 @@ pub record AreRenumbered (weighted : Bool) (names : List (List ℕ)) (part : Ren
   pub numbers : map (λ number. slice_index_or part.names.items number 0) part.records.numbers.items ≡ map (number_in names) (all_names weighted rows)
   pub sizes : part.records.sizes.items ≡ map (size_of weighted) rows
 
--- parts in a row have some records, not too many
+-- parts in a row have some records
 abbrev pub HaveRows : List RenumberedRecords → Type 0
-HaveRows parts = (weighted : Bool) × (names : List (List ℕ)) × (rows : Rows) × InParts (AreRenumbered weighted names) parts rows × (length rows ≤ MOST_BASKETS)
+HaveRows parts = (weighted : Bool) × (names : List (List ℕ)) × (rows : Rows) × InParts (AreRenumbered weighted names) parts rows
 
 -- the counts are those of the baskets of these parts, or the baskets weigh too much
 abbrev pub GathersParts : Bool → List RenumberedRecords → Result ItemCounts ReadFault → Type 0

@@ -54,7 +54,6 @@ pub trait TextCollector: RecordCollector {
 
     /// What the records say, none of which has a fault.
     fn finish(self) -> Result<(Self::Found, Names), ReadFault>
-        requires { (start : Start) × (rows : List (List (List ℕ))) × (length rows ≤ MOST_RECORDS) × Self.has_read self start rows }
         ensures said { (start : Start) (rows : List (List (List ℕ))) → Self.has_read self start rows → ReturnsBy (finds start) result (said_of start rows) }
         ensures not_read { IfErr result (λ fault. fault ≢ Read) };
 }

@@ -2,7 +2,6 @@
 ghost use Rattle.std.specs.Prelude.{◌≡◌, ◌≤◌, ◌<◌, ◌+◌, ◌++◌, Bool, List, ℕ, true, false, [], IsTrue, fold, length, map, nat_lt, slice_index_or, OnOk, IfOk, IfErr};
 ghost use Rattle.std.specs.List.{flat_map, list_all};
 ghost use Rattle.std.specs.Thread.{IsSync};
-ghost use Rattle.basket_sets.specs.Database.{MOST_BASKETS};
 ghost use Rattle.basket_sets.specs.declared.weighted.Weighted.{Weighted};
 ghost use Rattle.basket_read.specs.Fault.{ReturnsBy};
 ghost use Rattle.basket_read.specs.Fimi.{if_light};
@@ -53,7 +52,6 @@ impl RenumberedRecords {
     /// Gathers the baskets of the records.
     fn gather(&self, alloc: Global, gathered: &mut GatheredBaskets) -> Result<(), ReadFault>
         requires numbered { (weighted : Bool) × (names : List (List ℕ)) × (rows : Rows) × AreRenumbered weighted names self.now rows }
-        requires room { (counting : Bool) × (baskets : List Weighted) × HasGathered gathered.old counting baskets × (length baskets + length self.now.records.sizes.items ≤ MOST_BASKETS) }
         ensures baskets { (counting weighted : Bool) (names : List (List ℕ)) (baskets : List Weighted) (rows : Rows) → HasGathered gathered.old counting baskets
             → AreRenumbered weighted names self.now rows → OnOk result (HasGathered gathered.new counting (baskets ++ flat_map (basket_of weighted names) rows)) }
         ensures err { IfErr result (λ fault. fault ≡ ReadFault.Memory) }
@@ -168,7 +166,7 @@ fn has_kept(counting: bool, counts: &ItemCounts) -> bool
 
 /// The counts of some baskets and of others that come after them.
 fn joined(counts: ItemCounts, later: ItemCounts) -> Result<ItemCounts, ReadFault>
-    requires { (counting : Bool) × (baskets : List Weighted) × (more : List Weighted) × AreGathered counting counts baskets × AreGathered counting later more × (length baskets + length more ≤ MOST_BASKETS) }
+    requires { (counting : Bool) × (baskets : List Weighted) × (more : List Weighted) × AreGathered counting counts baskets × AreGathered counting later more }
     ensures { (counting : Bool) (baskets more : List Weighted) → AreGathered counting counts baskets → AreGathered counting later more
         → (counting ≡ true → counts.rest ≡ []) → ReturnsBy (Gathers counting) result (if_light (baskets ++ more)) }
 {
@@ -179,6 +177,9 @@ fn joined(counts: ItemCounts, later: ItemCounts) -> Result<ItemCounts, ReadFault
     let weight = table.total() + rest.total() + later.table.total() + later.rest.total();
     if weight > Database::MAX_WEIGHT {
         return Err(ReadFault::Heavy);
+    }
+    if rest.len().saturating_add(later.rest.len()) > Database::MAX_BASKETS {
+        return Err(ReadFault::Memory);
     }
     table.append(&later.table)?;
     rest.append(later.rest)?;

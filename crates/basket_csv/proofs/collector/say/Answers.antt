@@ -3,7 +3,7 @@ use Rattle.std.proofs.lemmas.Bool.{le-ltb}
 use Rattle.std.proofs.lemmas.Result.{err_from_is_err_and}
 use Rattle.basket_read.specs.Fimi.{MOST_BYTES}
 use Rattle.basket_csv.specs.Csv.{first_number}
-use Rattle.basket_csv.proofs.RecordLemmas.{few_of_text, few_records_of}
+use Rattle.basket_csv.proofs.RecordLemmas.{few_records_of}
 use Rattle.basket_csv.proofs.collector.say.Goals as goal
 
 pub add_all-requires-clause-few : goal.add_all-requires-clause-few
@@ -15,11 +15,6 @@ returns-in_err-add_all-clause-said g c = λ start first fresh.
     let number : 0 + first_number c.args.dialect.header ≡ first_number c.args.dialect.header = omega arith in
     rw (le-ltb MOST_BYTES (length c.args.bytes.now) c.if-bytes-gt-MAX_BYTES.false, p.1, p.2)
     (λ other. rw (rw number at (c.in_err-add_all.ensures.fault start [] (omega (arith, first)) fresh other)) refl)
-
-pub finish-requires : goal.finish-requires
-finish-requires g c =
-    let (start, first, fresh) = c.requires in
-    (start, _, few_of_text c.args.dialect.separator c.args.dialect.header c.args.bytes.now c.if-bytes-gt-MAX_BYTES.false, c.in_ok-add_all.ensures.read start [] (omega (arith, first)) fresh)
 
 pub returns-clause-said : goal.returns-clause-said
 returns-clause-said g c = λ start first fresh.

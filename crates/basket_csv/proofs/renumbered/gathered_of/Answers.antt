@@ -1,15 +1,15 @@
 use Rattle.std.proofs.Common.{◌+◌, ◌∷◌, drop, ap, sym, ◌∙◌}
 use Rattle.std.proofs.lemmas.List.{drop_more}
-use Rattle.basket_csv.proofs.GatherLemmas.{part_more, part_room}
+use Rattle.basket_csv.proofs.GatherLemmas.{part_more, part_numbered}
 use Rattle.basket_csv.proofs.renumbered.gathered_of.Goals as goal
 
-pub gather-requires-clause-room : goal.gather-requires-clause-room
-gather-requires-clause-room c =
-    let (weighted, names, rows, parts, few) = c.requires in
+pub gather-requires : goal.gather-requires
+gather-requires c =
+    let (weighted, names, rows, parts) = c.requires in
     let part = c.part-item.result in
     let others = drop (c.loop-part.part-index + 1) c.args.parts.now in
     let next = drop_more c.args.parts.now c.loop-part.part-index part c.loop-part-test.true ∙ ap (λ p. p ∷ others) (sym c.part-item.is) in
-    part_room weighted names rows c.args.counting c.loop-part.gathered _ others part next few (c.loop-part.invariant weighted names rows parts)
+    record { numbered = part_numbered weighted names rows c.args.counting c.loop-part.gathered _ others part next (c.loop-part.invariant weighted names rows parts) }
 
 pub loop-part-preserved : goal.loop-part-preserved
 loop-part-preserved c = λ weighted names rows parts.
