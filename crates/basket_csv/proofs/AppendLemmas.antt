@@ -1,5 +1,5 @@
 -- What was read of pairs and of those that come after them.
-use Rattle.std.proofs.Common.{◌≡◌, ℕ, zero, suc, ◌+◌, ◌≤◌, ◌<◌, true, List, [], ◌∷◌, ◌++◌, map, length, fold, get_or, ltb, take, refl, sym, ap, ◌∙◌, subst, append_assoc, append-nil, arith}
+use Rattle.std.proofs.Common.{◌≡◌, ℕ, zero, suc, ◌+◌, ◌≤◌, ◌<◌, true, List, [], ◌∷◌, ◌++◌, map, length, fold, get_or, ltb, take, refl, sym, ap, ◌∙◌, subst, append_assoc, arith}
 use Rattle.std.specs.List.{list_all}
 use Rattle.std.proofs.lemmas.Bool.{and_parts, true≢false}
 use Rattle.std.proofs.lemmas.List.{get_or-map, length-map, map-append, take_all, take_more}
@@ -147,7 +147,3 @@ part_appended known now new part left others rows is add (done, rest, same, has,
       subst (HasPairs new known) (sym (pairs_both done own)) (add (pairs_of done) (pairs_of own) has mine),
       in_rest,
     )
-
-pub parts_appended : (known : List (List ℕ)) (now : Pairs) (rows : Rows) → AppendsTo known now [] rows → HasPairs now known (pairs_of rows)
-parts_appended known now rows (done, rest, same, has, none) =
-    subst (λ r. HasPairs now known (pairs_of r)) (sym (same ∙ ap (λ r. done ++ r) none ∙ append-nil done)) has

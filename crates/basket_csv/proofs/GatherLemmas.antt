@@ -2,7 +2,7 @@
 use Rattle.std.proofs.Common.{◌≡◌, ℕ, ◌+◌, ◌≤◌, ◌<◌, Bool, true, false, cond, List, [], ◌∷◌, ◌++◌, Option, Some, None, Ok, Err, ◌⊎◌, drop, get_or, length, ltb, map, take, unwrap_or, refl, sym, ap, ◌∙◌, subst, append_assoc, append-nil, inl, inr, arith}
 use Rattle.std.specs.List.{flat_map, list_all}
 use Rattle.std.proofs.lemmas.Bool.{and_parts, cases_Bool, le-leb, ltb-true}
-use Rattle.std.proofs.lemmas.List.{at_drop_more, get_or-map, length-append, length-map, length-take, take-append-drop, take_more}
+use Rattle.std.proofs.lemmas.List.{at_drop_more, get_or-map, length-append, length-map, take-append-drop, take_more}
 use Rattle.std.proofs.lemmas.List.Concat.{flat_map-append}
 use Rattle.std.proofs.lemmas.List.Folds.{list_all-append}
 use Rattle.basket_sets.specs.declared.weighted.Weighted.{Weighted}

@@ -52,10 +52,6 @@ few_after true false before all rows rest number is few = omega (arith, ap lengt
 few_after false true before all rows rest number is few = omega (arith, ap length is, length-append rows (drop 1 rest), length-drop 1 rest)
 few_after false false before all rows rest number is few = omega (arith, ap length is, length-append rows rest)
 
-pub no_more_after : (header : Bool) (rows : Rows) → length (after_header header rows) ≤ length rows
-no_more_after true rows = omega (arith, length-drop 1 rows)
-no_more_after false rows = omega arith
-
 -- nothing after a part has no records
 pub nothing_after : (separator : ℕ) (header : Bool) (first rest : List ℕ) → rest ≡ [] → after_header header (records_of separator (first ++ rest)) ≡ after_header header (records_of separator first) ++ records_of separator rest
 nothing_after separator header first rest none =

@@ -1,5 +1,5 @@
 -- How blanks and numbers go on.
-use Rattle.std.proofs.Common.{◌≡◌, ◌≢◌, ℕ, ◌+◌, ◌*◌, ◌-◌, ◌≤◌, Bool, true, false, ◌&&◌, ◌||◌, not, leb, eqb, List, [], ◌∷◌, ◌++◌, length, map, filter, None, refl, sym, ap, ◌∙◌, subst, inl, inr, append_assoc, arith}
+use Rattle.std.proofs.Common.{◌≡◌, ◌≢◌, ℕ, ◌+◌, ◌*◌, ◌-◌, ◌≤◌, Bool, true, false, ◌&&◌, ◌||◌, not, leb, eqb, List, [], ◌∷◌, ◌++◌, map, filter, None, refl, sym, ap, ◌∙◌, subst, inl, inr, append_assoc, arith}
 use Rattle.std.specs.List.{list_all}
 use Rattle.std.proofs.lemmas.Bool.{cases_Bool, and_parts, and_from, and_right, leb-true, le-leb, ne_eqb}
 use Rattle.std.proofs.lemmas.List.{append-nil, map-append}
@@ -12,7 +12,7 @@ use Rattle.basket_sets.proofs.theory.Numerals.{all_push, value_push}
 use Rattle.basket_sets.proofs.theory.Rising.{Member-into_rising, rising-rises, rising-rising}
 use Rattle.basket_read.specs.declared.numbers.Numbers.{Numbers}
 use Rattle.basket_read.specs.Cut.{Cut, cut_at}
-use Rattle.basket_read.specs.Fimi.{is_blank, is_nil, is_number, are_numbers, numbers_of, basket_of_numbers, fault_at, MOST_NUMBER}
+use Rattle.basket_read.specs.Fimi.{is_blank, is_nil, is_number, are_numbers, numbers_of, fault_at, MOST_NUMBER}
 use Rattle.basket_read.specs.Numbers.{numbers_state, begun_of, values_of, state_of, numbers_at, ended_with, number_ended, IsNumbersSoFar}
 use Rattle.basket_read.proofs.theory.Cuts.{cut, cut_ended, cut_joined, cut_on, cut_on_by, parts_good_before}
 use Rattle.basket_read.proofs.theory.Grammar as grammar
@@ -148,8 +148,3 @@ rising_nonempty (number ∷ numbers) some e = absurd (subst (Member number) e (M
 
 pub rising_again : (numbers : List ℕ) → rising (rising numbers) ≡ rising numbers
 rising_again numbers = rising-rising (rising numbers) (rising-rises numbers)
-
--- some numbers are one basket, or none
-pub one_basket : (numbers : List ℕ) (weight : ℕ) → length (basket_of_numbers numbers weight) ≤ 1
-one_basket [] weight = omega arith
-one_basket (number ∷ numbers) weight = omega arith

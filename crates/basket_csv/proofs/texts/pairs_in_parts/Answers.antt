@@ -1,4 +1,4 @@
-use Rattle.std.proofs.Common.{false, refl, sym, subst}
+use Rattle.std.proofs.Common.{false, sym, subst}
 use Rattle.std.proofs.lemmas.Result.{err_from_is_err_and}
 use Rattle.basket_read.specs.Fault.{Returns}
 use Rattle.basket_csv.specs.Csv.{after_header, pair_fault, pairs_of, pairs_said}
