@@ -6,9 +6,8 @@ use Rattle.std.proofs.lemmas.List.Elements.{All-map, All-from_recursion, recursi
 use Rattle.basket_sets.specs.declared.weighted.Weighted.{Weighted}
 use Rattle.basket_sets.specs.declared.minimum.Minimum.{Minimum}
 use Rattle.basket_ranks.specs.Codes.{MOST_RANKS, ranked, rank_of, coded, coded_place, IsCoding, IsCodedPlace, Coding, merged_coding}
-use Rattle.basket_sets.specs.Counts.{AllBelow}
 use Rattle.basket_sets.specs.Database.{MOST_WEIGHT, HasWeight, merged_of}
-use Rattle.basket_sets.specs.Itemset.{IsRising, rising}
+use Rattle.basket_sets.specs.Itemset.{rising}
 use Rattle.basket_sets.specs.Support.{total_of}
 use Rattle.basket_sets.proofs.theory.Members.{Member}
 use Rattle.basket_ranks.proofs.RankLemmas.{rank_at, rank_from_is}
