@@ -6,15 +6,14 @@ use Rattle.std.proofs.lemmas.List.Elements.{All-map, All-from_recursion, recursi
 use Rattle.basket_sets.specs.declared.weighted.Weighted.{Weighted}
 use Rattle.basket_sets.specs.declared.minimum.Minimum.{Minimum}
 use Rattle.basket_ranks.specs.Codes.{MOST_RANKS, ranked, rank_of, coded, coded_place, IsCoding, IsCodedPlace, Coding, merged_coding}
-use Rattle.basket_sets.specs.Counts.{AllBelow}
 use Rattle.basket_sets.specs.Database.{MOST_WEIGHT, HasWeight, merged_of}
-use Rattle.basket_sets.specs.Itemset.{IsRising, rising}
+use Rattle.basket_sets.specs.Itemset.{rising}
 use Rattle.basket_sets.specs.Support.{total_of}
 use Rattle.basket_sets.proofs.theory.Members.{Member}
 use Rattle.basket_ranks.proofs.RankLemmas.{rank_at, rank_from_is}
 use Rattle.basket_sets.proofs.theory.Rising.{rising_is, Member-from_has, has-from_Member}
 use Rattle.basket_ranks.proofs.theory.Coding.{from_ranks, into_ranks, ranks_rise, coded_place_is, coded_total}
-use Rattle.basket_sets.proofs.theory.Merging.{merged_baskets, merged_weights, merging_keeps_supports}
+use Rattle.basket_sets.proofs.theory.Merging.{merged_places, merging_keeps_supports}
 
 -- ---- the code finds these ranks
 
@@ -87,7 +86,7 @@ merged_is_coding coding is = record {
   distinct = is.distinct;
   few = is.few;
   places = All-from_recursion (IsCodedPlace coding.items) (merged_of coding.baskets)
-      (merged_baskets (λ basket. IsRising basket × AllBelow (length coding.items) basket) [] coding.baskets (recursion_from_All (IsCodedPlace coding.items) coding.baskets is.places));
-  weights = All-from_recursion HasWeight (merged_of coding.baskets) (merged_weights [] coding.baskets (recursion_from_All HasWeight coding.baskets is.weights));
+      (merged_places (IsCodedPlace coding.items) (λ place more its. its) coding.baskets (recursion_from_All (IsCodedPlace coding.items) coding.baskets is.places));
+  weights = All-from_recursion HasWeight (merged_of coding.baskets) (merged_places HasWeight (λ place more its. omega (arith, its)) coding.baskets (recursion_from_All HasWeight coding.baskets is.weights));
   light = subst (λ n. n ≤ MOST_WEIGHT) (sym (merging_keeps_supports coding.baskets [])) is.light;
 }

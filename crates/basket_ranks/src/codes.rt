@@ -9,7 +9,7 @@ ghost use Rattle.basket_sets.specs.declared.weighted.Weighted.{Weighted as Baske
 ghost use Rattle.basket_sets.specs.Support.{total_of};
 
 use crate::ranks::{RankTable, ranked_items};
-use basket_sets::{Database, Itemset, Minimum, Renumbering, Weighted, count_items, merge_equal};
+use basket_sets::{Database, Itemset, Minimum, Renumbering, Weighted, count_items, merged};
 use std::alloc::{AllocError, Global};
 use std::marker::Model;
 use std::thread::{self, Threads};
@@ -160,14 +160,13 @@ impl Coded {
         let Coded {
             items,
             minimum,
-            mut baskets,
+            baskets,
             total,
         } = self;
-        merge_equal(alloc, &mut baskets)?;
         Ok(Coded {
             items,
             minimum,
-            baskets,
+            baskets: merged(alloc, baskets)?,
             total,
         })
     }

@@ -3,6 +3,5 @@ mod NumberLemmas
 mod LeastLemmas
 mod CountLemmas
 mod MergeLemmas
-mod PlaceLemmas
 mod NameLemmas
 mod RenameLemmas

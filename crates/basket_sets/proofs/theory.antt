@@ -9,6 +9,5 @@ pub mod Support
 pub mod Merging
 pub mod Frequent
 pub mod Items
-pub mod Chunks
 pub mod Numerals
 pub mod Without

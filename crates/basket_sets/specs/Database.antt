@@ -1,6 +1,5 @@
-use Rattle.std.specs.Prelude.{◌≡◌, ◌≢◌, ◌≤◌, ℕ, Bool, List, [], ◌∷◌, ◌++◌, length, All, if◌then◌else◌, nat_eq}
+use Rattle.std.specs.Prelude.{◌≡◌, ◌≢◌, ◌≤◌, ◌+◌, ℕ, List, [], ◌∷◌, fold, length, All, if◌then◌else◌, nat_eq}
 use Rattle.std.specs.Cmp.Lexicographic.{pointwise}
-use Rattle.std.specs.List.{sum_by, list_any}
 use Rattle.basket_sets.specs.declared.weighted.Weighted.{Weighted}
 use Rattle.basket_sets.specs.Itemset.{IsRising}
 use Rattle.basket_sets.specs.Support.{support_of, total_of}
@@ -30,24 +29,16 @@ pub record IsDatabase (baskets : List Weighted) : Type 0 where
   pub few : length baskets ≤ MOST_BASKETS
   pub light : total_of baskets ≤ MOST_WEIGHT
 
--- whether the place has this basket
-abbrev pub is_of : List ℕ → Weighted → Bool
-is_of basket place = pointwise nat_eq place.basket basket
-
--- the sum of the weights of the places that have this basket
-abbrev pub weight_of : List ℕ → List Weighted → ℕ
-weight_of basket baskets = sum_by (λ place. if is_of basket place then place.weight else 0) baskets
-
--- of the places after some others, each that is the first with its basket, with the weight of all that have it
-abbrev pub merged_after : List Weighted → List Weighted → List Weighted
-merged_after before [] = []
-merged_after before (place ∷ places) =
-    if list_any (is_of place.basket) before then merged_after (before ++ place ∷ []) places
-    else weighted place.basket (weight_of place.basket (place ∷ places)) ∷ merged_after (before ++ place ∷ []) places
+-- the list with a basket's weight added to that of its equal, or with the basket at its end
+abbrev pub with_basket : List Weighted → Weighted → List Weighted
+with_basket [] place = place ∷ []
+with_basket (other ∷ others) place =
+    if pointwise nat_eq place.basket other.basket then weighted other.basket (other.weight + place.weight) ∷ others
+    else other ∷ with_basket others place
 
 -- each distinct basket once, at its first place, with the sum of its weights
 abbrev pub merged_of : List Weighted → List Weighted
-merged_of baskets = merged_after [] baskets
+merged_of baskets = fold with_basket [] baskets
 
 -- merging changes no support
 abbrev pub MergingKeepsSupports : Type 0

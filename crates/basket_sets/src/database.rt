@@ -3,7 +3,7 @@ ghost use Rattle.basket_sets.specs.Database.{IsDatabase, weighted, MOST_BASKETS,
 ghost use Rattle.basket_sets.specs.Support.{support_of, total_of};
 
 use crate::itemset::Itemset;
-use crate::merge::merge_equal;
+use crate::merge;
 use crate::weighted::Weighted;
 use std::alloc::{AllocError, AllocFailed, Global};
 use std::marker::Model;
@@ -132,10 +132,9 @@ impl Database {
     pub fn merged(&self, alloc: Global) -> Result<Database, AllocError>
         ensures { IfOk result (λ merged. merged ≡ merged_of self.now) }
     {
-        let mut baskets = copied(alloc, self.baskets())?;
-        merge_equal(alloc, &mut baskets)?;
+        let baskets = copied(alloc, self.baskets())?;
         Ok(Database {
-            baskets,
+            baskets: merge::merged(alloc, baskets)?,
             total: self.total,
         })
     }

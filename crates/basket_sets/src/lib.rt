@@ -24,7 +24,7 @@ pub use counts::count_items;
 pub use database::{Database, support};
 pub use item_table::ItemTable;
 pub use itemset::{INLINE_ITEMS, Itemset, is_rising};
-pub use merge::merge_equal;
+pub use merge::merged;
 pub use minimum::{Minimum, parse_minimum};
 pub use number::parse_number;
 pub use order::report_order;

@@ -1,12 +1,12 @@
 -- Merging equal baskets: it keeps each support, and what holds of every basket or weight.
-use Rattle.std.proofs.Common.{◌≡◌, ℕ, ◌+◌, Bool, true, false, ◌||◌, List, [], ◌∷◌, ◌++◌, cond, refl, sym, ap, ◌∙◌, arith, zero-add, ◌≤◌}
-use Rattle.std.specs.List.{sum_by, list_any, AllByRecursion}
-use Rattle.std.specs.Cmp.Lexicographic.{bytes_decides}
+use Rattle.std.proofs.Common.{◌≡◌, ℕ, ◌+◌, Bool, true, false, List, [], ◌∷◌, cond, nat_eq, fold, length, refl, sym, ap, ◌∙◌, arith, ◌≤◌}
+use Rattle.std.specs.List.{sum_by, AllByRecursion}
+use Rattle.std.specs.Cmp.Lexicographic.{pointwise, bytes_decides}
 use Rattle.std.proofs.lemmas.List.Sums.{sum_by-cons}
-use Rattle.std.proofs.lemmas.Bool.{false≢true}
 use Rattle.basket_sets.specs.declared.weighted.Weighted.{Weighted}
 use Rattle.basket_sets.specs.Itemset.{contains}
-use Rattle.basket_sets.specs.Database.{weighted, is_of, weight_of, merged_after, MergingKeepsSupports, HasWeight, merged_of}
+use Rattle.basket_sets.specs.Support.{total_of}
+use Rattle.basket_sets.specs.Database.{weighted, with_basket, MergingKeepsSupports, merged_of}
 
 -- ---- sums
 
@@ -22,146 +22,85 @@ sum_by-add f g (x ∷ xs) =
     let a = sum_by-cons f x xs in let b = sum_by-cons g x xs in let c = sum_by-cons (λ y. f y + g y) x xs in let d = sum_by-add f g xs in
     omega arith
 
--- ---- places with one basket
-
--- whether an earlier place has the place's basket
-abbrev seen : List Weighted → Weighted → Bool
-seen before place = list_any (is_of place.basket) before
-
--- a place has its basket
-pub of_itself : (place : Weighted) → is_of place.basket place ≡ true
-of_itself place = (bytes_decides place.basket place.basket).1 refl
-
--- the test says that the baskets are equal
-pub same_basket : (basket : List ℕ) (place : Weighted) → is_of basket place ≡ true → place.basket ≡ basket
-same_basket basket place e = (bytes_decides place.basket basket).0 e
-
-seen_push : (before : List Weighted) (place other : Weighted) → seen (before ++ place ∷ []) other ≡ (seen before other || is_of other.basket place)
-seen_push [] place other = or_false (is_of other.basket place)
-  where
-    or_false : (b : Bool) → (b || false) ≡ b
-    or_false true = refl
-    or_false false = refl
-seen_push (first ∷ before) place other = at (is_of other.basket first) (seen_push before place other)
-  where
-    at : (b : Bool) → seen (before ++ place ∷ []) other ≡ (seen before other || is_of other.basket place)
-        → (b || seen (before ++ place ∷ []) other) ≡ ((b || seen before other) || is_of other.basket place)
-    at true e = refl
-    at false e = e
+-- ---- one more basket
 
 module _ (chosen : List ℕ → Bool) where
   -- what a place weighs, if its basket is chosen
   abbrev weight_if : Weighted → ℕ
   weight_if place = cond (chosen place.basket) place.weight 0
 
-  -- what a place adds to the sum, if no earlier place has its basket
-  abbrev added : List Weighted → Weighted → ℕ
-  added before place = cond (seen before place) 0 (weight_if place)
-
-  -- what a place adds to it, if it has the basket
-  abbrev added_of : List ℕ → Weighted → ℕ
-  added_of basket place = cond (is_of basket place) (weight_if place) 0
-
-  -- one place for all that have the basket adds what they add
-  one_for_all : (basket : List ℕ) (places : List Weighted) → weight_if (weighted basket (weight_of basket places)) ≡ sum_by (added_of basket) places
-  one_for_all basket [] = at (chosen basket)
+  added_weight : (places : List Weighted) (place : Weighted) → sum_by weight_if (with_basket places place) ≡ sum_by weight_if places + weight_if place
+  added_weight [] place = let one = sum_by-cons weight_if place [] in omega arith
+  added_weight (other ∷ others) place = at (pointwise nat_eq place.basket other.basket) refl (added_weight others place)
     where
-      at : (b : Bool) → ◌≡◌ {A = ℕ} (cond b 0 0) 0
-      at true = refl
-      at false = refl
-  one_for_all basket (place ∷ places) =
-      ap (λ n. cond (chosen basket) n 0) (sum_by-cons (λ p. cond (is_of basket p) p.weight 0) place places)
-      ∙ at (is_of basket place) (chosen basket) refl refl
-      ∙ ap (λ n. added_of basket place + n) (one_for_all basket places)
-      ∙ sym (sum_by-cons (added_of basket) place places)
-    where
-      at : (b k : Bool) → is_of basket place ≡ b → chosen basket ≡ k
-          → cond k (cond b place.weight 0 + weight_of basket places) 0 ≡ cond b (weight_if place) 0 + cond k (weight_of basket places) 0
-      at true true e f = ap (λ n. n + weight_of basket places) (sym (ap (λ c. cond c place.weight 0) (ap chosen (same_basket basket place e) ∙ f)))
-      at true false e f = sym (ap (λ c. cond c place.weight 0 + 0) (ap chosen (same_basket basket place e) ∙ f))
-      at false true e f = refl
-      at false false e f = refl
+      both : (b : Bool) → cond b (other.weight + place.weight) 0 ≡ cond b other.weight 0 + cond b place.weight 0
+      both true = refl
+      both false = refl
 
-  -- an unseen place takes from what the later places add just what those with its basket add
-  step : (before : List Weighted) (place : Weighted) → seen before place ≡ false → (other : Weighted)
-      → added_of place.basket other + added (before ++ place ∷ []) other ≡ added before other
-  step before place new other =
-      ap (λ b. added_of place.basket other + cond b 0 (weight_if other)) (seen_push before place other)
-      ∙ at (is_of place.basket other) (is_of other.basket place) (seen before other) refl refl refl
-    where
-      at : (a b s : Bool) → is_of place.basket other ≡ a → is_of other.basket place ≡ b → seen before other ≡ s
-          → cond a (weight_if other) 0 + cond (s || b) 0 (weight_if other) ≡ cond s 0 (weight_if other)
-      at true b true e f g = absurd (false≢true (sym new ∙ ap (λ l. list_any (is_of l) before) (sym (same_basket place.basket other e)) ∙ g))
-      at true false false e f g = absurd (false≢true (sym f ∙ ap (λ l. is_of l place) (same_basket place.basket other e) ∙ of_itself place))
-      at true true false e f g = omega arith
-      at false true s e f g = absurd (false≢true (sym e ∙ ap (λ l. is_of l other) (same_basket other.basket place f) ∙ of_itself other))
-      at false false true e f g = refl
-      at false false false e f g = omega arith
+      at : (b : Bool) → pointwise nat_eq place.basket other.basket ≡ b
+          → sum_by weight_if (with_basket others place) ≡ sum_by weight_if others + weight_if place
+          → sum_by weight_if (cond b (weighted other.basket (other.weight + place.weight) ∷ others) (other ∷ with_basket others place)) ≡ sum_by weight_if (other ∷ others) + weight_if place
+      at true e rest =
+          let first = sum_by-cons weight_if (weighted other.basket (other.weight + place.weight)) others in
+          let old = sum_by-cons weight_if other others in
+          let two = both (chosen other.basket) in
+          let its = ap (λ l. cond (chosen l) place.weight 0) (sym ((bytes_decides place.basket other.basket).0 e)) in
+          omega arith
+      at false e rest =
+          let first = sum_by-cons weight_if other (with_basket others place) in
+          let old = sum_by-cons weight_if other others in
+          omega arith
 
-  -- a place whose basket was seen leaves what the later places add
-  step_seen : (before : List Weighted) (place : Weighted) → seen before place ≡ true → (other : Weighted) → added (before ++ place ∷ []) other ≡ added before other
-  step_seen before place old other = ap (λ b. cond b 0 (weight_if other)) (seen_push before place other) ∙ at (is_of other.basket place) (seen before other) refl refl
-    where
-      at : (b s : Bool) → is_of other.basket place ≡ b → seen before other ≡ s → cond (s || b) 0 (weight_if other) ≡ cond s 0 (weight_if other)
-      at b true f g = refl
-      at false false f g = refl
-      at true false f g = absurd (false≢true (sym g ∙ ap (λ l. list_any (is_of l) before) (sym (same_basket other.basket place f)) ∙ old))
-
-  kept_at : (before : List Weighted) (place : Weighted) (places : List Weighted) (b : Bool) → seen before place ≡ b
-      → sum_by weight_if (merged_after (before ++ place ∷ []) places) ≡ sum_by (added (before ++ place ∷ [])) places
-      → sum_by weight_if (cond b (merged_after (before ++ place ∷ []) places)
-      (weighted place.basket (weight_of place.basket (place ∷ places)) ∷ merged_after (before ++ place ∷ []) places))
-      ≡ cond b 0 (weight_if place) + sum_by (added before) places
-  kept_at before place places true old later =
-      later ∙ sum_by-same (added (before ++ place ∷ [])) (added before) places (step_seen before place old) ∙ sym (zero-add (sum_by (added before) places))
-  kept_at before place places false new later =
-      let one = weighted place.basket (weight_of place.basket (place ∷ places)) in
-      let rest = merged_after (before ++ place ∷ []) places in
-      let first = sum_by-cons (weight_if) one rest in
-      let all = one_for_all place.basket (place ∷ places) ∙ sum_by-cons (added_of place.basket) place places in
-      let its_own = ap (λ c. cond c (weight_if place) 0) (of_itself place) in
-      let joined = sum_by-add (added_of place.basket) (added (before ++ place ∷ [])) places ∙ sum_by-same _ (added before) places (step before place new) in
+  all_weights : (places baskets : List Weighted) → sum_by weight_if (fold with_basket places baskets) ≡ sum_by weight_if places + sum_by weight_if baskets
+  all_weights places [] = omega arith
+  all_weights places (place ∷ baskets) =
+      let rest = all_weights (with_basket places place) baskets in
+      let one = added_weight places place in
+      let old = sum_by-cons weight_if place baskets in
       omega arith
 
-  kept_after : (before places : List Weighted) → sum_by weight_if (merged_after before places) ≡ sum_by (added before) places
-  kept_after before [] = refl
-  kept_after before (place ∷ places) =
-      kept_at before place places (seen before place) refl (kept_after (before ++ place ∷ []) places) ∙ sym (sum_by-cons (added before) place places)
+-- one more basket adds its weight
+pub total_with : (places : List Weighted) (place : Weighted) → total_of (with_basket places place) ≡ total_of places + place.weight
+total_with places place = added_weight (λ basket. contains basket []) places place
 
 -- merging keeps the weight of the places whose baskets are chosen
 pub merging_keeps_weights : (chosen : List ℕ → Bool) (baskets : List Weighted)
     → sum_by (λ place. cond (chosen place.basket) place.weight 0) (merged_of baskets) ≡ sum_by (λ place. cond (chosen place.basket) place.weight 0) baskets
-merging_keeps_weights chosen baskets = kept_after chosen [] baskets ∙ sum_by-same (added chosen []) (weight_if chosen) baskets (λ place. refl)
+merging_keeps_weights chosen baskets = omega (arith, all_weights chosen [] baskets)
 
 -- merging changes no support
 pub merging_keeps_supports : MergingKeepsSupports
 merging_keeps_supports baskets set = merging_keeps_weights (λ basket. contains basket set) baskets
 
--- what holds of each basket holds of each merged one
-pub merged_baskets : (P : List ℕ → Type 0) (before places : List Weighted) → AllByRecursion (λ place. P place.basket) places
-    → AllByRecursion (λ place. P place.basket) (merged_after before places)
-merged_baskets P before [] h = tt
-merged_baskets P before (place ∷ places) h = at (seen before place) (merged_baskets P (before ++ place ∷ []) places h.1)
+-- what holds of each place, and still does with more weight, holds of each merged one
+pub merged_places : (P : Weighted → Type 0) → ((place : Weighted) (more : ℕ) → P place → P (weighted place.basket (place.weight + more)))
+    → (baskets : List Weighted) → AllByRecursion P baskets → AllByRecursion P (merged_of baskets)
+merged_places P heavier baskets each = all [] baskets tt each
   where
-    at : (b : Bool) → AllByRecursion (λ other. P other.basket) (merged_after (before ++ place ∷ []) places)
-        → AllByRecursion (λ other. P other.basket)
-        (cond b (merged_after (before ++ place ∷ []) places) (weighted place.basket (weight_of place.basket (place ∷ places)) ∷ merged_after (before ++ place ∷ []) places))
-    at true later = later
-    at false later = (h.0, later)
+    one : (places : List Weighted) (place : Weighted) → AllByRecursion P places → P place → AllByRecursion P (with_basket places place)
+    one [] place each its = (its, tt)
+    one (other ∷ others) place each its = at (pointwise nat_eq place.basket other.basket) (one others place each.1 its)
+      where
+        at : (b : Bool) → AllByRecursion P (with_basket others place) → AllByRecursion P (cond b (weighted other.basket (other.weight + place.weight) ∷ others) (other ∷ with_basket others place))
+        at true later = (heavier other place.weight each.0, each.1)
+        at false later = (each.0, later)
 
--- a basket weighs at least 1 together with its equals
-pub its_weight : (place : Weighted) (places : List Weighted) → HasWeight place → 1 ≤ weight_of place.basket (place ∷ places)
-its_weight place places h =
-    let its = sum_by-cons (λ p. cond (is_of place.basket p) p.weight 0) place places ∙ ap (λ b. cond b place.weight 0 + weight_of place.basket places) (of_itself place) in
-    omega (arith, its, h)
+    all : (places baskets : List Weighted) → AllByRecursion P places → AllByRecursion P baskets → AllByRecursion P (fold with_basket places baskets)
+    all places [] done each = done
+    all places (place ∷ baskets) done each = all (with_basket places place) baskets (one places place done each.0) each.1
 
--- the weights of merged baskets are at least 1
-pub merged_weights : (before places : List Weighted) → AllByRecursion HasWeight places → AllByRecursion HasWeight (merged_after before places)
-merged_weights before [] h = tt
-merged_weights before (place ∷ places) h = at (seen before place) (merged_weights (before ++ place ∷ []) places h.1)
+-- merging makes no list longer
+pub length-merged_of : (baskets : List Weighted) → length (merged_of baskets) ≤ length baskets
+length-merged_of baskets = omega (arith, all [] baskets)
   where
-    at : (b : Bool) → AllByRecursion HasWeight (merged_after (before ++ place ∷ []) places)
-        → AllByRecursion HasWeight
-        (cond b (merged_after (before ++ place ∷ []) places) (weighted place.basket (weight_of place.basket (place ∷ places)) ∷ merged_after (before ++ place ∷ []) places))
-    at true later = later
-    at false later = (its_weight place places h.0, later)
+    one : (places : List Weighted) (place : Weighted) → length (with_basket places place) ≤ length places + 1
+    one [] place = omega arith
+    one (other ∷ others) place = at (pointwise nat_eq place.basket other.basket) (one others place)
+      where
+        at : (b : Bool) → length (with_basket others place) ≤ length others + 1 → length (cond b (weighted other.basket (other.weight + place.weight) ∷ others) (other ∷ with_basket others place)) ≤ length (other ∷ others) + 1
+        at true less = omega arith
+        at false less = omega arith
+
+    all : (places baskets : List Weighted) → length (fold with_basket places baskets) ≤ length places + length baskets
+    all places [] = omega arith
+    all places (place ∷ baskets) = omega (arith, all (with_basket places place) baskets, one places place)
