@@ -8,14 +8,43 @@ use crate::itemset::Itemset;
 use crate::weighted::Weighted;
 use indexmap::IndexMap;
 use std::alloc::{AllocError, Global};
-use std::hash::BuildHasher;
+use std::hash::{BuildHasher, DefaultHasher, FoldHasher, Hash, Hasher};
+
+/// What each hash begins with: a hash of all the baskets. So a file of many baskets that have one hash is
+/// hard to make, as each that is put into it changes all hashes.
+#[derive(Clone, Copy)]
+struct Seed {
+    hasher: FoldHasher,
+}
+
+impl Seed {
+    fn of(baskets: &[Weighted]) -> Self {
+        let mut all = DefaultHasher::new();
+        for weighted in baskets {
+            weighted.basket.hash(&mut all);
+        }
+        let mut hasher = FoldHasher::default();
+        all.finish().hash(&mut hasher);
+        Seed { hasher }
+    }
+}
+
+impl BuildHasher for Seed {
+    type Hasher = FoldHasher;
+
+    ghost build_hasher = { λ seed. seed.hasher };
+
+    fn build_hasher(&self) -> FoldHasher {
+        self.hasher
+    }
+}
 
 /// Each distinct basket once, at its first place, with the sum of its weights.
 pub fn merged(alloc: Global, baskets: Vec<Weighted>) -> Result<Vec<Weighted>, AllocError>
     requires light { total_of baskets.items ≤ MOST_WEIGHT }
     ensures { IfOk result (λ merged. merged.items ≡ merged_of baskets.items) }
 {
-    let mut weights = IndexMap::new(alloc);
+    let mut weights = IndexMap::with_hasher(alloc, Seed::of(&baskets));
     for weighted in baskets {
         add(&mut weights, weighted)?;
     }
