@@ -9,8 +9,8 @@ use Rattle.basket_read.specs.Cut.{Cut, cut_at}
 use Rattle.basket_read.specs.Fimi.{is_blank, is_line_feed, is_nil, are_numbers}
 use Rattle.basket_read.specs.Numbers.{NumbersState, numbers_state, numbers_at, number_ended, IsNumbersSoFar, AreTaken}
 use Rattle.basket_counts.specs.declared.line.SetLine.{SetLine}
-use Rattle.basket_counts.specs.declared.tail.Tail.{Tail}
-use Rattle.basket_counts.specs.declared.tail.Tail.TheVariants.{Absent, Opened, Count, Closed}
+use Rattle.basket_counts.specs.declared.tail.CountSuffix.{CountSuffix}
+use Rattle.basket_counts.specs.declared.tail.CountSuffix.TheVariants.{Absent, Opened, Count, Closed}
 use Rattle.basket_counts.specs.Counts.{is_open, is_close, is_count, is_tail_of, is_tail, is_line_of, is_line, count_fault, digit_fault, bare_entry, entry, count_before, entry_of_parts, entry_of}
 use Rattle.basket_counts.specs.Line.{LineState, count_begun, tail_in, tail_at, tail_with, state_of_parts, line_at, digit_added, blank_added, is_there, said_by, said_at, digit_fault_in, IsLineSoFar, IsTaken}
 use Rattle.basket_read.proofs.theory.Cuts.{cut, cut_ended, cut_joined, stands_nowhere}
@@ -22,7 +22,7 @@ unlike e = cc
 
 -- ---- what follows a `(`
 
-abbrev told : List (List ℕ) → List ℕ → Option Tail
+abbrev told : List (List ℕ) → List ℕ → Option CountSuffix
 told ended last = cond (is_tail_of ended last) (Some (tail_in ended last)) None
 
 blanks_end : (last : List ℕ) (byte : ℕ) (b : Bool) → is_blank byte ≡ false → (b && list_all is_blank (last ++ byte ∷ [])) ≡ false
@@ -162,7 +162,7 @@ module _ (old : SetLine) (line : List ℕ) (so_far : IsLineSoFar old line) where
     tail_so_far = tail_is ∙ ap (λ h. (state_of_parts h last).tail) split.only
 
     -- a line that a byte was asked of, by the tail with it
-    pub tail_took : (new : SetLine) (byte : ℕ) (next : Tail) → Some next ≡ tail_with last byte → new.tail ≡ next → new.numbers ≡ old.numbers → IsLineSoFar new (line ++ byte ∷ [])
+    pub tail_took : (new : SetLine) (byte : ℕ) (next : CountSuffix) → Some next ≡ tail_with last byte → new.tail ≡ next → new.numbers ≡ old.numbers → IsLineSoFar new (line ++ byte ∷ [])
     tail_took new byte next is tail numbers =
         let k = grammar.chosen next (tail_at (last ++ byte ∷ [])) (is_tail (last ++ byte ∷ [])) is in
         let joined = cut_joined is_open line byte (no_open k.0) ∙ ap (λ h. cut h (last ++ byte ∷ [])) split.only in

@@ -7,33 +7,33 @@ use Rattle.basket_read.specs.Numbers.{NumbersState, numbers_state, numbers_at, n
 use Rattle.basket_read.specs.declared.fault.ReadFault.{ReadFault}
 use Rattle.basket_read.specs.declared.fault.ReadFault.TheVariants.{Byte, Number as TooGreat, Count as TooMany}
 use Rattle.basket_counts.specs.declared.line.SetLine.{SetLine}
-use Rattle.basket_counts.specs.declared.tail.Tail.{Tail}
-use Rattle.basket_counts.specs.declared.tail.Tail.TheVariants.{Absent, Opened, Count, Closed}
+use Rattle.basket_counts.specs.declared.tail.CountSuffix.{CountSuffix}
+use Rattle.basket_counts.specs.declared.tail.CountSuffix.TheVariants.{Absent, Opened, Count, Closed}
 use Rattle.basket_counts.specs.Counts.{ListedSet, is_open, is_close, is_tail, is_line, bare_entry, entry}
 
 -- the numbers of a line, and what follows them
 pub record LineState : Type 0 where
   pub numbers : NumbersState
-  pub tail : Tail
+  pub tail : CountSuffix
 
 abbrev pub line_state : SetLine → LineState
 line_state line = record { numbers = numbers_state line.numbers; tail = line.tail }
 
 -- what the digits of a count are, after the `(`
-abbrev pub count_begun : List ℕ → Tail
+abbrev pub count_begun : List ℕ → CountSuffix
 count_begun [] = Opened
 count_begun (byte ∷ word) = Count (value_of (byte ∷ word))
 
 -- what follows the `(`, cut at each `)`
-abbrev pub tail_in : List (List ℕ) → List ℕ → Tail
+abbrev pub tail_in : List (List ℕ) → List ℕ → CountSuffix
 tail_in [] last = count_begun last
 tail_in (count ∷ others) last = Closed (value_of count)
 
-abbrev pub tail_at : List ℕ → Tail
+abbrev pub tail_at : List ℕ → CountSuffix
 tail_at tail = tail_in (cut_at is_close tail).ended (cut_at is_close tail).last
 
 -- the same with one byte more, if it can stand there
-abbrev pub tail_with : List ℕ → ℕ → Option Tail
+abbrev pub tail_with : List ℕ → ℕ → Option CountSuffix
 tail_with tail byte = if is_tail (tail ++ byte ∷ []) then Some (tail_at (tail ++ byte ∷ [])) else None
 
 -- what has been read of a line that is cut at each `(`
@@ -60,47 +60,47 @@ IsTaken true line bytes = IsLineSoFar line bytes
 IsTaken false line bytes = is_line bytes ≡ false
 
 -- a tail after a digit, after a blank and after a `)`, if they can stand there
-abbrev pub digit_added : Tail → ℕ → Option Tail
+abbrev pub digit_added : CountSuffix → ℕ → Option CountSuffix
 digit_added Absent digit = None
 digit_added Opened digit = Some (Count digit)
 digit_added (Count count) digit = if nat_le (count * 10 + digit) MOST_WEIGHT then Some (Count (count * 10 + digit)) else None
 digit_added (Closed count) digit = None
 
-abbrev pub blank_added : Tail → Option Tail
+abbrev pub blank_added : CountSuffix → Option CountSuffix
 blank_added Absent = None
 blank_added Opened = None
 blank_added (Count count) = None
 blank_added (Closed count) = Some (Closed count)
 
-abbrev pub close_added : Tail → Option Tail
+abbrev pub close_added : CountSuffix → Option CountSuffix
 close_added Absent = None
 close_added Opened = None
 close_added (Count count) = Some (Closed count)
 close_added (Closed count) = None
 
 -- whether the line has a `(`
-abbrev pub is_there : Tail → Bool
+abbrev pub is_there : CountSuffix → Bool
 is_there Absent = false
 is_there Opened = true
 is_there (Count count) = true
 is_there (Closed count) = true
 
 -- the count that has ended
-abbrev pub count_in : Tail → Option ℕ
+abbrev pub count_in : CountSuffix → Option ℕ
 count_in Absent = None
 count_in Opened = None
 count_in (Count count) = None
 count_in (Closed count) = Some count
 
 -- what the line says where it ends, by its number
-abbrev pub said_by : Tail → List ℕ → ℕ → List ListedSet
+abbrev pub said_by : CountSuffix → List ℕ → ℕ → List ListedSet
 said_by tail numbers line = if is_there tail then entry numbers (count_in tail) line ∷ [] else bare_entry numbers line
 
 abbrev pub said_at : LineState → ℕ → List ListedSet
 said_at state line = said_by state.tail (number_ended state.numbers).ended line
 
 -- the fault of a digit that can't follow
-abbrev pub digit_fault_in : Tail → ℕ → ℕ → ReadFault
+abbrev pub digit_fault_in : CountSuffix → ℕ → ℕ → ReadFault
 digit_fault_in Absent line byte = TooGreat line
 digit_fault_in Opened line byte = TooMany line
 digit_fault_in (Count count) line byte = TooMany line

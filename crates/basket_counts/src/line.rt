@@ -1,7 +1,7 @@
 //! A line of which not all has been read.
 ghost use Rattle.std.specs.Prelude.{◌≡◌, ◌≤◌, ℕ, List, [], ◌∷◌, ◌++◌, false, length, take, IfOk, OnOk};
 
-use crate::tail::Tail;
+use crate::tail::CountSuffix;
 use basket_read::Numbers;
 use std::alloc::{AllocError, Global};
 
@@ -9,7 +9,7 @@ use std::alloc::{AllocError, Global};
 #[derive(Debug, Drop)]
 pub struct SetLine {
     numbers: Numbers,
-    tail: Tail,
+    tail: CountSuffix,
 }
 
 impl SetLine {
@@ -20,7 +20,7 @@ impl SetLine {
     {
         SetLine {
             numbers: Numbers::new(alloc),
-            tail: Tail::Absent,
+            tail: CountSuffix::Absent,
         }
     }
 
@@ -42,7 +42,7 @@ impl SetLine {
         }
         if byte == b'(' {
             self.numbers.end()?;
-            self.tail = Tail::Opened;
+            self.tail = CountSuffix::Opened;
             return Ok(true);
         }
         self.numbers.take(byte)
@@ -77,7 +77,7 @@ impl SetLine {
     }
 
     /// What follows the numbers.
-    pub fn tail(&self) -> Tail
+    pub fn tail(&self) -> CountSuffix
         ensures { result ≡ (line_state self.now).tail }
     {
         self.tail
@@ -88,6 +88,6 @@ impl SetLine {
         ensures { line_state self.new ≡ line_at [] }
     {
         self.numbers.clear();
-        self.tail = Tail::Absent;
+        self.tail = CountSuffix::Absent;
     }
 }

@@ -8,7 +8,7 @@ const MAX_COUNT: u64 = 1_099_511_627_775;
 
 /// What has been read of a line after its numbers.
 #[derive(Clone, Copy, Debug)]
-pub enum Tail {
+pub enum CountSuffix {
     /// Nothing.
     Absent,
     /// The parenthesis before a count.
@@ -19,7 +19,7 @@ pub enum Tail {
     Closed(u64),
 }
 
-impl Tail {
+impl CountSuffix {
     ghost use Rattle.basket_counts.specs.Line.{tail_at, tail_with, digit_added, blank_added, close_added, is_there, count_in, digit_fault_in};
 
     /// The tail after one more byte, if it can stand there.
@@ -39,11 +39,11 @@ impl Tail {
         ensures { result ≡ digit_added self digit }
     {
         match self {
-            Tail::Opened => Some(Tail::Count(u64::from(digit))),
-            Tail::Count(count) if count <= MAX_COUNT / 10 => {
+            CountSuffix::Opened => Some(CountSuffix::Count(u64::from(digit))),
+            CountSuffix::Count(count) if count <= MAX_COUNT / 10 => {
                 let count = count * 10 + u64::from(digit);
                 if count <= MAX_COUNT {
-                    Some(Tail::Count(count))
+                    Some(CountSuffix::Count(count))
                 } else {
                     None
                 }
@@ -56,7 +56,7 @@ impl Tail {
         ensures { result ≡ blank_added self }
     {
         match self {
-            Tail::Closed(_) => Some(self),
+            CountSuffix::Closed(_) => Some(self),
             _ => None,
         }
     }
@@ -65,7 +65,7 @@ impl Tail {
         ensures { result ≡ close_added self }
     {
         match self {
-            Tail::Count(count) => Some(Tail::Closed(count)),
+            CountSuffix::Count(count) => Some(CountSuffix::Closed(count)),
             _ => None,
         }
     }
@@ -74,7 +74,7 @@ impl Tail {
     pub fn is_there(self) -> bool
         ensures { result ≡ is_there self }
     {
-        !matches!(self, Tail::Absent)
+        !matches!(self, CountSuffix::Absent)
     }
 
     /// The count that has ended.
@@ -82,7 +82,7 @@ impl Tail {
         ensures { result ≡ count_in self }
     {
         match self {
-            Tail::Closed(count) => Some(count),
+            CountSuffix::Closed(count) => Some(count),
             _ => None,
         }
     }
@@ -92,9 +92,9 @@ impl Tail {
         ensures { result ≡ digit_fault_in self line byte }
     {
         match self {
-            Tail::Absent => ReadFault::Number { line },
-            Tail::Opened | Tail::Count(_) => ReadFault::Count { line },
-            Tail::Closed(_) => ReadFault::Byte { line, byte },
+            CountSuffix::Absent => ReadFault::Number { line },
+            CountSuffix::Opened | CountSuffix::Count(_) => ReadFault::Count { line },
+            CountSuffix::Closed(_) => ReadFault::Byte { line, byte },
         }
     }
 }

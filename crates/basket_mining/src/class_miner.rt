@@ -2,7 +2,7 @@
 ghost use Rattle.basket_mining.specs.Classes.{IsJoins, IsTrees};
 
 use basket_core::CountedSets;
-use mine_conditional::Tables;
+use mine_conditional::ClassScratch;
 use mine_fp::{Forest, fp_class_with};
 use mine_limit::{MineFault, Tally};
 use mine_phases::ClassMiner;
@@ -25,11 +25,11 @@ impl<R: Row> ClassMiner for EclatMiner<'_, R> {
     fn class<T: Tally>(
         &self,
         alloc: Global,
-        tables: &mut Tables,
+        scratch: &mut ClassScratch,
         rank: u32,
         tally: &mut T,
     ) -> Result<(CountedSets, u64), MineFault> {
-        eclat_class_with::<R, T>(alloc, &self.vertical, tables, rank, tally)
+        eclat_class_with::<R, T>(alloc, &self.vertical, scratch, rank, tally)
     }
 }
 
@@ -45,10 +45,10 @@ impl ClassMiner for FpGrowthMiner<'_> {
     fn class<T: Tally>(
         &self,
         alloc: Global,
-        tables: &mut Tables,
+        scratch: &mut ClassScratch,
         rank: u32,
         tally: &mut T,
     ) -> Result<(CountedSets, u64), MineFault> {
-        fp_class_with(alloc, &self.0, tables, rank, tally)
+        fp_class_with(alloc, &self.0, scratch, rank, tally)
     }
 }

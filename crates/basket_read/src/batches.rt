@@ -6,21 +6,21 @@ ghost use Rattle.basket_read.specs.Read.{ReadsFimi};
 
 use crate::bytes::fill;
 use crate::fault::ReadFault;
-use crate::feeder::Feeder;
 use crate::input::Input;
 use crate::item_counts::ItemCounts;
+use crate::line_reader::LineReader;
 use basket_stream::Source;
 use std::alloc::Global;
 
 /// Reads an input to its end in batches of this many bytes. Its baskets may be counted.
-pub(crate) fn read_batches<F: Feeder, S: Source>(
-    feeder: &F,
+pub(crate) fn read_batches<F: LineReader, S: Source>(
+    line_reader: &F,
     alloc: Global,
     reader: &mut S,
     most: usize,
     counting: bool,
 ) -> Result<ItemCounts, ReadFault>
-    requires ready { F.is_ready feeder.now }
+    requires ready { F.is_ready line_reader.now }
     requires fresh { S.has_failed reader.old ≡ false }
     requires some { 0 < most }
     ensures read { ReadsFimi (Gathers counting) (S.left reader.old) (S.left reader.new) (S.has_failed reader.new) result }
@@ -31,7 +31,7 @@ pub(crate) fn read_batches<F: Feeder, S: Source>(
     let mut input = Input::new(alloc, counting);
     'reading: loop {
         let count = fill(reader, &mut buffer, most)?;
-        input.take(feeder, &buffer[..count])?;
+        input.take(line_reader, &buffer[..count])?;
         if reader.failed() {
             return Err(input.fault_so_far().unwrap_or(ReadFault::Read));
         }

@@ -7,8 +7,8 @@ ghost use Rattle.basket_read.specs.Input.{IsInputSoFar, TakesOn};
 
 use crate::bytes::{MARK, MAX_BYTES};
 use crate::fault::ReadFault;
-use crate::feeder::{Alone, Feeder};
 use crate::item_counts::ItemCounts;
+use crate::line_reader::{Alone, LineReader};
 use crate::text::Text;
 use std::alloc::Global;
 
@@ -53,13 +53,13 @@ impl Input {
     }
 
     /// Takes more of the input, up to its first fault.
-    pub fn take<F: Feeder>(&mut self, feeder: &F, piece: &[u8]) -> Result<(), ReadFault>
-        requires { F.is_ready feeder.now }
+    pub fn take<F: LineReader>(&mut self, line_reader: &F, piece: &[u8]) -> Result<(), ReadFault>
+        requires { F.is_ready line_reader.now }
         ensures { TakesOn self.old piece.now result self.new }
     {
         for (place, byte) in piece.iter().enumerate() {
             if let Beginning::Decided = self.beginning {
-                return self.take_text(feeder, &piece[place..]);
+                return self.take_text(line_reader, &piece[place..]);
             }
             self.take_byte(*byte)?;
         }
@@ -100,8 +100,8 @@ impl Input {
     }
 
     /// Takes bytes after the beginning, as many as an input may have.
-    fn take_text<F: Feeder>(&mut self, feeder: &F, piece: &[u8]) -> Result<(), ReadFault>
-        requires ready { F.is_ready feeder.now }
+    fn take_text<F: LineReader>(&mut self, line_reader: &F, piece: &[u8]) -> Result<(), ReadFault>
+        requires ready { F.is_ready line_reader.now }
         requires decided { self.old.beginning ≡ Beginning.Decided }
         ensures { TakesOn self.old piece.now result self.new }
     {
@@ -110,7 +110,7 @@ impl Input {
             self.text.feed(&piece[..room])?;
             return Err(ReadFault::TooLong);
         }
-        feeder.feed(&mut self.text, piece)?;
+        line_reader.feed(&mut self.text, piece)?;
         self.taken += piece.len() as u32;
         Ok(())
     }

@@ -5,9 +5,9 @@ ghost use Rattle.basket_read.specs.Fimi.{settled_fault, fimi_of};
 ghost use Rattle.basket_read.specs.Fault.{Returns, ReturnsFault};
 
 use crate::fault::ReadFault;
-use crate::feeder::Alone;
 use crate::input::Input;
 use crate::item_counts::ItemCounts;
+use crate::line_reader::Alone;
 use basket_sets::Database;
 use std::alloc::Global;
 

@@ -6,8 +6,8 @@ ghost use Rattle.basket_read.specs.Read.{ReadsFimi};
 
 use crate::batches::read_batches;
 use crate::fault::ReadFault;
-use crate::feeder::{Alone, Workers};
 use crate::item_counts::ItemCounts;
+use crate::line_reader::{Alone, Workers};
 use basket_sets::Database;
 use basket_stream::Source;
 use std::alloc::Global;
@@ -76,8 +76,8 @@ pub fn read_fimi_shared<R: Threads + Sync, S: Source>(
     if workers < 2 {
         return read_fimi(alloc, reader);
     }
-    let feeder = Workers { rt, count: workers };
-    read_batches(&feeder, alloc, reader, KEPT_BATCH, false).map(ItemCounts::into_rest)
+    let line_reader = Workers { rt, count: workers };
+    read_batches(&line_reader, alloc, reader, KEPT_BATCH, false).map(ItemCounts::into_rest)
 }
 
 /// Reads a FIMI input to its end and counts its items, as `count_fimi` does, by this many workers.
@@ -96,6 +96,6 @@ pub fn count_fimi_shared<R: Threads + Sync, S: Source>(
     if workers < 2 {
         return count_fimi(alloc, reader);
     }
-    let feeder = Workers { rt, count: workers };
-    read_batches(&feeder, alloc, reader, BATCH, true)
+    let line_reader = Workers { rt, count: workers };
+    read_batches(&line_reader, alloc, reader, BATCH, true)
 }

@@ -5,6 +5,6 @@ pub mod Room
 pub mod Bytes
 pub mod Table
 pub mod Report
-pub mod Strip
+pub mod LineBuffer
 pub mod Items
 pub mod Rules

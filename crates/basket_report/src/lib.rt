@@ -1,20 +1,20 @@
 //! The bytes of a report: a line of numbers for each set or rule, or a CSV record of names.
 #![tactic(auto)]
 
+mod buffer;
 mod bytes;
 mod count_text;
 mod count_texts;
-mod extent;
 mod item_text;
 mod items;
 mod lines;
 mod ratios;
 mod report;
+mod report_size;
 mod room;
 mod rules;
 mod set_lines;
 mod sets;
-mod strip;
 mod style;
 mod table;
 mod texts;

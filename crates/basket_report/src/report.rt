@@ -9,7 +9,7 @@ use crate::style::Style;
 use crate::table::Table;
 use crate::texts::Texts;
 use basket_core::Frequent;
-use basket_rules::{ConfidentRule, Lookups, RuleCounts, Sides};
+use basket_rules::{ConfidentRule, RuleCounts, SetIndex, Sides};
 use std::alloc::{AllocError, Global};
 
 /// A report so far. If something can't be added to it, all of it is lost.
@@ -70,15 +70,15 @@ impl<'a> Report<'a> {
         frequent: &Frequent,
         number: usize,
         met: &[ConfidentRule],
-        lookups: &mut Lookups<'_>,
+        set_index: &mut SetIndex<'_>,
     ) -> Result<(), AllocError>
         requires { number < length frequent.now.sets }
         ensures { (wording : Wording) (text : List ℕ) → HasSoFar self.old wording text
             → OnOk result (HasSoFar self.new wording (text ++ rules_report_of wording (rules_in frequent.now number met.now))) }
     {
         for rule in met {
-            let counts = lookups.rule(frequent, number, rule)?;
-            self.put_rule(&lookups.sides, &counts)?;
+            let counts = set_index.rule(frequent, number, rule)?;
+            self.put_rule(&set_index.sides, &counts)?;
         }
         Ok(())
     }

@@ -8,13 +8,13 @@ ghost use Rattle.basket_report.specs.Report.{rules_report_of};
 ghost use Rattle.basket_report.specs.Rules.{ReportsRules, ReportsUnions};
 ghost use Rattle.basket_report.specs.Style.{wording_of};
 
-use crate::extent::Extent;
 use crate::report::Report;
+use crate::report_size::ReportSize;
 use crate::style::Style;
 use crate::texts::Texts;
 use basket_core::{Frequent, Share, shard};
 use basket_order::PlaceTable;
-use basket_rules::{Lookups, met_rules, places_of};
+use basket_rules::{SetIndex, met_rules, places_of};
 use mine_pieces::{Cutting, Open, PartWork, Phase, by_pieces};
 use std::alloc::{AllocError, Global};
 use std::thread::Threads;
@@ -40,11 +40,11 @@ struct Unions<'a> {
 }
 
 impl<'a> PartWork<Vec<u8>> for Unions<'a> {
-    type Tools = Lookups<'a>;
+    type Tools = SetIndex<'a>;
 
     ghost part_count = { λ work. work.parts };
 
-    ghost are_tools = { λ work lookups. Unit {0} };
+    ghost are_tools = { λ work set_index. Unit {0} };
 
     ghost is_value = { λ work part text. ReportsUnions (wording_of work.style) work.frequent.now work.confidence
         (shard_start part work.parts (length work.frequent.now.sets)) (shard_start (part + 1) work.parts (length work.frequent.now.sets)) text.items };
@@ -53,21 +53,21 @@ impl<'a> PartWork<Vec<u8>> for Unions<'a> {
         self.parts
     }
 
-    fn tools(&self, alloc: Global) -> Result<Lookups<'a>, AllocError> {
-        Ok(Lookups::new(alloc, self.places))
+    fn tools(&self, alloc: Global) -> Result<SetIndex<'a>, AllocError> {
+        Ok(SetIndex::new(alloc, self.places))
     }
 
     fn value(
         &self,
         alloc: Global,
-        lookups: &mut Lookups<'a>,
+        set_index: &mut SetIndex<'a>,
         part: u32,
     ) -> Result<Vec<u8>, AllocError> {
         let (from, to) = shard(part, self.parts, self.frequent.sets().len());
         let mut report = Report::for_rules(alloc, self.style, self.texts)?;
         for number in from..to {
-            let met = met_rules(alloc, self.frequent, number, self.confidence, lookups)?;
-            report.put_rules(self.frequent, number, &met, lookups)?;
+            let met = met_rules(alloc, self.frequent, number, self.confidence, set_index)?;
+            report.put_rules(self.frequent, number, &met, set_index)?;
         }
         report.into_text()
     }
@@ -88,7 +88,7 @@ pub fn rules_report<R: Threads + Sync>(
 {
     let sets = frequent.sets();
     let places = places_of(alloc, sets)?;
-    let texts = Extent::of(sets).texts(alloc)?;
+    let texts = ReportSize::of(sets).texts(alloc)?;
     let workers = workers.clamp(1, 64);
     let parts = part_count(sets.len(), workers);
     let unions = Unions {

@@ -4,43 +4,43 @@ ghost use Rattle.std.specs.Io.KnownBytes.{Appends};
 ghost use Rattle.basket_report.specs.Bytes.{IsWritten, TakesPrefix};
 ghost use Rattle.basket_report.specs.Lines.{set_line};
 ghost use Rattle.basket_report.specs.Report.{report_of, set_of};
-ghost use Rattle.basket_report.specs.Strip.{HasLines};
+ghost use Rattle.basket_report.specs.LineBuffer.{HasLines};
 ghost use Rattle.basket_report.specs.Style.{Numbered};
 
+use crate::buffer::{LONGEST, LineBuffer};
 use crate::bytes::send_bytes;
 use crate::count_text::CountText;
-use crate::extent::Extent;
 use crate::item_text::ITEM_TEXT_ROOM;
+use crate::report_size::ReportSize;
 use crate::room::put_items;
-use crate::strip::{LONGEST, Strip};
 use crate::texts::Texts;
 use basket_core::{CountedSets, Failed, MOST_ITEMS, Sink};
 use std::alloc::{AllocError, Global};
 use std::thread::{self, Threads};
 
-/// What it takes to write the lines of sets, with a strip for each worker. Once it is made no
+/// What it takes to write the lines of sets, with a buffer for each worker. Once it is made no
 /// memory is needed, so a report is written to its end unless the writer fails.
 #[derive(Debug, Drop)]
 pub struct SetLines {
     texts: Texts,
-    strips: Vec<Strip>,
-    /// How many sets a strip takes.
+    buffers: Vec<LineBuffer>,
+    /// How many sets a buffer takes.
     share: usize,
 }
 
 impl SetLines {
     /// Nothing is written yet. At most this many workers will make the lines, fewer if they are short.
     pub fn new(alloc: Global, sets: &CountedSets, workers: u32) -> Result<Self, AllocError> {
-        let extent = Extent::of(sets);
-        let count = extent.strips(workers);
-        let mut strips = Vec::with_capacity(alloc, count as usize)?;
+        let report_size = ReportSize::of(sets);
+        let count = report_size.buffers(workers);
+        let mut buffers = Vec::with_capacity(alloc, count as usize)?;
         for _strip in 0..count {
-            strips.push(Strip::new(alloc, extent, count)?)?;
+            buffers.push(LineBuffer::new(alloc, report_size, count)?)?;
         }
         Ok(SetLines {
-            texts: extent.texts(alloc)?,
-            strips,
-            share: extent.share(count),
+            texts: report_size.texts(alloc)?,
+            buffers,
+            share: report_size.share(count),
         })
     }
 
@@ -61,8 +61,8 @@ impl SetLines {
     {
         let mut place = 0;
         while place < sets.len() {
-            fill_strips(rt, &mut self.strips, &self.texts, sets, place, self.share);
-            let next = send_strips(writer, &self.strips, sets, place);
+            fill_buffers(rt, &mut self.buffers, &self.texts, sets, place, self.share);
+            let next = send_buffers(writer, &self.buffers, sets, place);
             if next == place {
                 send_set(writer, &self.texts, sets, place);
             }
@@ -76,52 +76,57 @@ impl SetLines {
 }
 
 /// Has each worker make the lines of this many sets, from a place on.
-fn fill_strips<R: Threads + Sync>(
+fn fill_buffers<R: Threads + Sync>(
     rt: &R,
-    strips: &mut [Strip],
+    buffers: &mut [LineBuffer],
     texts: &Texts,
     sets: &CountedSets,
     place: usize,
     share: usize,
 )
-    ensures { All (HasLines sets.now) strips.new }
+    ensures { All (HasLines sets.now) buffers.new }
 {
-    let workers = strips.len().max(1);
+    let workers = buffers.len().max(1);
     thread::for_each_mut(
         rt,
-        strips,
+        buffers,
         workers,
-        &|number, strip: &mut Strip|
-            ensures { HasLines sets.entry.now strip.exit.now }
+        &|number, buffer: &mut LineBuffer|
+            ensures { HasLines sets.entry.now buffer.exit.now }
         {
             let from = place.saturating_add(share.saturating_mul(number));
-            strip.fill(texts, sets, from.min(sets.len()), share)
+            buffer.fill(texts, sets, from.min(sets.len()), share)
         },
     );
 }
 
-/// Writes the lines of the strips, as far as each begins where the one before ends, from a place
+/// Writes the lines of the buffers, as far as each begins where the one before ends, from a place
 /// on. Returns the place after them.
-fn send_strips<W: Sink>(writer: &mut W, strips: &[Strip], sets: &CountedSets, place: usize) -> usize
+fn send_buffers<W: Sink>(
+    writer: &mut W,
+    buffers: &[LineBuffer],
+    sets: &CountedSets,
+    place: usize,
+) -> usize
     requires place { place ≤ length sets.now }
-    requires strips { All (HasLines sets.now) strips.now }
+    requires buffers { All (HasLines sets.now) buffers.now }
     ensures place { (place ≤ result) × (result ≤ length sets.now) }
     ensures way { (start : Option (List ℕ))
         → IsWritten start (W.taken writer.old) (W.has_failed writer.old) (W.ends_in_flush writer.old) (report_of Numbered (take place sets.now))
         → IsWritten start (W.taken writer.new) (W.has_failed writer.new) (W.ends_in_flush writer.new) (report_of Numbered (take result sets.now)) }
 {
     let mut next = place;
-    for strip in strips {
-        if strip.from() != next {
+    for buffer in buffers {
+        if buffer.from() != next {
             break;
         }
-        send_bytes(writer, strip.text());
-        next = strip.to();
+        send_bytes(writer, buffer.text());
+        next = buffer.to();
     }
     next
 }
 
-/// Writes the line of a set that no strip takes.
+/// Writes the line of a set that no buffer takes.
 fn send_set<W: Sink>(writer: &mut W, texts: &Texts, sets: &CountedSets, place: usize)
     requires { place < length sets.now }
     ensures { (start : Option (List ℕ))

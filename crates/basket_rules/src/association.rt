@@ -10,9 +10,9 @@ ghost use Rattle.basket_rules.specs.Rules.{KeepsConfident, AreRules, AreRulesWit
 use crate::confident::ConfidentRule;
 use crate::consequents::{Consequent, MOST_PLACES, Sides, longer_consequents};
 use crate::listed::items_at;
-use crate::lookups::{Lookups, places_of};
+use crate::query::RuleQuery;
 use crate::rule_counts::RuleCounts;
-use crate::wanted::Wanted;
+use crate::set_index::{SetIndex, places_of};
 use basket_core::{Fraction, Frequent, Itemset, MOST_ITEMS, Share};
 use basket_order::PlaceTable;
 use std::alloc::{AllocError, Global};
@@ -42,11 +42,11 @@ pub fn rules(alloc: Global, frequent: &Frequent, confidence: Share) -> Result<Ve
 {
     let sets = frequent.sets();
     let places = places_of(alloc, sets)?;
-    let mut lookups = Lookups::new(alloc, &places);
+    let mut set_index = SetIndex::new(alloc, &places);
     let mut rules = Vec::new(alloc);
     for number in 0..sets.len() {
-        let met = met_rules(alloc, frequent, number, confidence, &mut lookups)?;
-        add_rules(alloc, frequent, number, &met, &mut lookups, &mut rules)?;
+        let met = met_rules(alloc, frequent, number, confidence, &mut set_index)?;
+        add_rules(alloc, frequent, number, &met, &mut set_index, &mut rules)?;
     }
     Ok(rules)
 }
@@ -63,10 +63,10 @@ pub fn rules_with(
     ensures lists { IfOk result (λ rules. IsConsistent frequent.now.sets → rules.items ≡ rules_among_with frequent.now confidence (set_at frequent.now.sets number)) }
 {
     let places = PlaceTable::none(alloc);
-    let mut lookups = Lookups::new(alloc, &places);
-    let met = met_rules(alloc, frequent, number, confidence, &mut lookups)?;
+    let mut set_index = SetIndex::new(alloc, &places);
+    let met = met_rules(alloc, frequent, number, confidence, &mut set_index)?;
     let mut rules = Vec::with_capacity(alloc, met.len())?;
-    add_rules(alloc, frequent, number, &met, &mut lookups, &mut rules)?;
+    add_rules(alloc, frequent, number, &met, &mut set_index, &mut rules)?;
     Ok(rules)
 }
 
@@ -76,15 +76,15 @@ fn add_rules(
     frequent: &Frequent,
     number: usize,
     met: &[ConfidentRule],
-    lookups: &mut Lookups<'_>,
+    set_index: &mut SetIndex<'_>,
     rules: &mut Vec<Rule>,
 ) -> Result<(), AllocError>
     requires { number < length frequent.now.sets }
     ensures { OnOk result (rules.new.items ≡ rules.old.items ++ rules_in frequent.now number met.now) }
 {
     for rule in met {
-        let counts = lookups.rule(frequent, number, rule)?;
-        rules.push(rule_of_sides(alloc, &lookups.sides, &counts)?)?;
+        let counts = set_index.rule(frequent, number, rule)?;
+        rules.push(rule_of_sides(alloc, &set_index.sides, &counts)?)?;
     }
     Ok(())
 }
@@ -112,7 +112,7 @@ pub fn met_rules(
     frequent: &Frequent,
     number: usize,
     confidence: Share,
-    lookups: &mut Lookups<'_>,
+    set_index: &mut SetIndex<'_>,
 ) -> Result<Vec<ConfidentRule>, AllocError>
     requires { number < length frequent.now.sets }
     ensures baskets { IfOk result (λ rules. AreRulesWith frequent.now confidence number (rules_in frequent.now number rules.items)) }
@@ -127,8 +127,8 @@ pub fn met_rules(
     if count > MOST_PLACES {
         return Ok(rules);
     }
-    lookups.hashes.set(items)?;
-    let wanted = Wanted {
+    set_index.hashes.set(items)?;
+    let query = RuleQuery {
         frequent,
         number,
         items,
@@ -137,7 +137,7 @@ pub fn met_rules(
     };
     let mut consequents = longer_consequents(alloc, &[Consequent::none()], count)?;
     for size in 0..most_consequent_items(count) {
-        let met = keep_confident(alloc, &wanted, &consequents, lookups, &mut rules)?;
+        let met = keep_confident(alloc, &query, &consequents, set_index, &mut rules)?;
         consequents = longer_consequents(alloc, &met, count)?;
     }
     Ok(rules)
@@ -153,18 +153,18 @@ fn most_consequent_items(count: usize) -> usize
 /// The consequents whose rules meet the confidence. Their rules are added.
 fn keep_confident(
     alloc: Global,
-    wanted: &Wanted<'_>,
+    query: &RuleQuery<'_>,
     tried: &[Consequent],
-    lookups: &mut Lookups<'_>,
+    set_index: &mut SetIndex<'_>,
     rules: &mut Vec<ConfidentRule>,
 ) -> Result<Vec<Consequent>, AllocError>
-    ensures { IfOk result (λ met. KeepsConfident wanted.now.frequent.now wanted.now.confidence wanted.now.number tried.now met.items
-        (rules_in wanted.now.frequent.now wanted.now.number rules.old.items) (rules_in wanted.now.frequent.now wanted.now.number rules.new.items)) }
+    ensures { IfOk result (λ met. KeepsConfident query.now.frequent.now query.now.confidence query.now.number tried.now met.items
+        (rules_in query.now.frequent.now query.now.number rules.old.items) (rules_in query.now.frequent.now query.now.number rules.new.items)) }
 {
-    let whole = lookups.hashes.side(u64::MAX);
+    let whole = set_index.hashes.side(u64::MAX);
     let mut met = Vec::with_capacity(alloc, tried.len())?;
     for consequent in tried {
-        if let Some(rule) = rule_for(wanted, *consequent, whole, lookups)? {
+        if let Some(rule) = rule_for(query, *consequent, whole, set_index)? {
             rules.push(rule)?;
             met.push(*consequent)?;
         }
@@ -174,19 +174,19 @@ fn keep_confident(
 
 /// The rule with this consequent, if it meets the confidence. `whole` is the hash of the union.
 fn rule_for(
-    wanted: &Wanted<'_>,
+    query: &RuleQuery<'_>,
     consequent: Consequent,
     whole: u64,
-    lookups: &mut Lookups<'_>,
+    set_index: &mut SetIndex<'_>,
 ) -> Result<Option<ConfidentRule>, AllocError>
-    ensures { IfOk result (λ found. IsRuleFor wanted.now.frequent.now wanted.now.confidence wanted.now.number (side_of (set_at wanted.now.frequent.now.sets wanted.now.number) consequent) (found_rule wanted.now.frequent.now wanted.now.number found)) }
+    ensures { IfOk result (λ found. IsRuleFor query.now.frequent.now query.now.confidence query.now.number (side_of (set_at query.now.frequent.now.sets query.now.number) consequent) (found_rule query.now.frequent.now query.now.number found)) }
 {
-    let part = lookups.hashes.side(consequent.places);
-    let antecedent_count = wanted.count_of(!consequent.places, whole.wrapping_sub(part), lookups)?;
-    if !meets(wanted.confidence, wanted.count, antecedent_count) {
+    let part = set_index.hashes.side(consequent.places);
+    let antecedent_count = query.count_of(!consequent.places, whole.wrapping_sub(part), set_index)?;
+    if !meets(query.confidence, query.count, antecedent_count) {
         return Ok(None);
     }
-    let consequent_count = wanted.count_of(consequent.places, part, lookups)?;
+    let consequent_count = query.count_of(consequent.places, part, set_index)?;
     Ok(ConfidentRule::new(consequent, antecedent_count, consequent_count))
 }
 

@@ -1,4 +1,4 @@
--- RankPlaces of ranks in a rising list.
+-- LocalNumbers of ranks in a rising list.
 use Rattle.std.proofs.Common.{◌≡◌, ℕ, unwrap_or, ◌+◌, ◌<◌, ◌≤◌, Bool, true, false, ◌||◌, List, [], ◌∷◌, ◌++◌, Option, Some, None, length, take, get_or, set, map, cond, eqb, refl, sym, ap, ◌∙◌, subst, inl, inr, arith, add-zero, zero-add, zero, suc}
 use Rattle.std.specs.Prelude.{All, replicate}
 use Rattle.std.specs.List.{AllByRecursion, cons_option, filter_map}
@@ -17,7 +17,7 @@ use Rattle.basket_sets.proofs.theory.Rising.{Member-from_has, has-from_Member, c
 use Rattle.basket_sets.proofs.theory.Tests.{Member-at, rising_at}
 use Rattle.mine_baskets.specs.declared.span.Span.{Span}
 use Rattle.mine_baskets.specs.ListBaskets.{AreRankBaskets, IsRankBasket}
-use Rattle.mine_conditional.specs.RankPlaces.{ArePlaces, by_table, table_places}
+use Rattle.mine_conditional.specs.LocalNumbers.{ArePlaces, by_table, table_places}
 use Rattle.mine_baskets.specs.Span.{IsWithin, basket_at, baskets_at}
 use Rattle.basket_sets.proofs.theory.Rising.{has_more}
 use Rattle.mine_baskets.proofs.theory.Neighbours.{pushed_basket}

@@ -1,7 +1,7 @@
 pub mod BitTable
 pub mod Paths
-pub mod RankPlaces
+pub mod LocalNumbers
 pub mod Shift
-pub mod Tables
+pub mod ClassScratch
 pub mod WordPaths
 pub mod Conditional

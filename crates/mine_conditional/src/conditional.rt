@@ -7,7 +7,7 @@ ghost use Rattle.mine_conditional.specs.Conditional.{conditional_baskets};
 ghost use Rattle.mine_pairs.specs.Pairs.{first_support, pairs_of};
 ghost use Rattle.mine_conditional.specs.Paths.{IsConditional};
 
-use crate::rank_places::RankPlaces;
+use crate::local_numbers::LocalNumbers;
 use mine_baskets::{ListBaskets, WordBaskets};
 use mine_pairs::Runs;
 use std::alloc::{AllocError, Global};
@@ -41,7 +41,7 @@ impl Conditional {
     pub fn below(
         runs: &Runs,
         alloc: Global,
-        places: &mut RankPlaces,
+        places: &mut LocalNumbers,
         rank: u32,
         least: u64,
         pairs: &[(u32, u64)],

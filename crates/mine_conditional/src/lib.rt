@@ -2,19 +2,19 @@
 //!
 //! `paths` has coded baskets in the form from which classes are mined: as runs, or as words if there
 //! are few ranks (`word_paths`). `conditional` keeps the baskets that have a rank to the ranks that
-//! are frequent together with it, which `rank_places`, `bit_table` and `shift` number anew. `tables`
+//! are frequent together with it, which `local_numbers`, `bit_table` and `shift` number anew. `scratch`
 //! are used again from rank to rank.
 #![tactic(auto)]
 
 mod bit_table;
 mod conditional;
+mod local_numbers;
 mod paths;
-mod rank_places;
+mod scratch;
 mod shift;
-mod tables;
 mod word_paths;
 
 pub use conditional::{Conditional, ranks_of};
+pub use local_numbers::LocalNumbers;
 pub use paths::Paths;
-pub use rank_places::RankPlaces;
-pub use tables::Tables;
+pub use scratch::ClassScratch;

@@ -9,7 +9,7 @@ ghost use Rattle.mine_pairs.specs.Pairs.{pairs_of};
 ghost use Rattle.mine_conditional.specs.Paths.{IsConditional, IsOrdered, is_branch};
 
 use crate::conditional::Conditional;
-use crate::rank_places::RankPlaces;
+use crate::local_numbers::LocalNumbers;
 use crate::word_paths;
 use mine_baskets::{Span, WordBaskets};
 use mine_pairs::{Runs, Sums};
@@ -106,7 +106,7 @@ impl Paths {
     pub fn below(
         &self,
         alloc: Global,
-        places: &mut RankPlaces,
+        places: &mut LocalNumbers,
         rank: u32,
         least: u64,
         pairs: &[(u32, u64)],

@@ -15,7 +15,7 @@ use Rattle.basket_sets.proofs.theory.Rising.{Member-from_has, contains_each, has
 use Rattle.basket_sets.proofs.theory.Tests.{Member-at, all_of, each_of}
 use Rattle.mine_baskets.specs.ListBaskets.{IsRankBasket}
 use Rattle.mine_classes.specs.Conditional.{ConditionalSupports}
-use Rattle.mine_conditional.specs.declared.tables.Tables.{Tables}
+use Rattle.mine_conditional.specs.declared.scratch.ClassScratch.{ClassScratch}
 use Rattle.mine_conditional.specs.Paths.{is_branch}
 use Rattle.mine_pairs.proofs.theory.Kept.{kept_short}
 use Rattle.mine_fp.specs.declared.pattern_base.PatternBase.{PatternBase}
@@ -34,8 +34,8 @@ branch_has baskets h place m i j less n =
     let full = each_of (λ (p : Weighted). list_all (λ r. contains p.basket (range_with_len 0 r)) p.basket) baskets h place m in
     has_each place.basket (range_with_len 0 j) (each_of (λ r. contains place.basket (range_with_len 0 r)) place.basket full j n) i (Member-into_range 0 j i (omega arith) (omega arith))
 
--- tables with a slot for each rank have one for each that is kept
-pub slots_below : {base below : PatternBase} {number : ℕ} {before after : Tables} → IsBelow base number below → number < base.paths.ranks → HaveSlots before base → KeepSlots before after → HaveSlots after below
+-- scratch memory with a slot for each rank has one for each that is kept
+pub slots_below : {base below : PatternBase} {number : ℕ} {before after : ClassScratch} → IsBelow base number below → number < base.paths.ranks → HaveSlots before base → KeepSlots before after → HaveSlots after below
 slots_below {base} {below} {number} is less slots kept =
     let short = kept_short base.paths.baskets base.least number in
     record { sums = omega (arith, is.conditional.ranks, short, less, slots.sums, kept.0); places = omega (arith, is.conditional.ranks, short, less, slots.places, kept.1) }

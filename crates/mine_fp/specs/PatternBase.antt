@@ -6,7 +6,7 @@ use Rattle.basket_sets.specs.Itemset.{IsRising, has}
 use Rattle.basket_sets.specs.Minimum.{IsLeastSupport}
 use Rattle.basket_sets.specs.Support.{support_of, total_of}
 use Rattle.mine_baskets.specs.ListBaskets.{AreRankBaskets}
-use Rattle.mine_conditional.specs.declared.tables.Tables.{Tables}
+use Rattle.mine_conditional.specs.declared.scratch.ClassScratch.{ClassScratch}
 use Rattle.mine_pairs.specs.Pairs.{named_pair, pairs_of}
 use Rattle.mine_conditional.specs.Paths.{IsConditional}
 use Rattle.mine_fp.specs.declared.pattern_base.PatternBase.{PatternBase}
@@ -54,11 +54,11 @@ pub record IsBelow (base : PatternBase) (number : ℕ) (below : PatternBase) : T
   pub coded : below.coded ≡ base.coded
   pub least : below.least ≡ base.least
 
--- tables have a slot for each rank of a pattern base
-pub record HaveSlots (tables : Tables) (base : PatternBase) : Type 0 where
-  pub sums : base.paths.ranks ≤ tables.sums
-  pub places : base.paths.ranks ≤ tables.places
+-- scratch memory has a slot for each rank of a pattern base
+pub record HaveSlots (scratch : ClassScratch) (base : PatternBase) : Type 0 where
+  pub sums : base.paths.ranks ≤ scratch.sums
+  pub places : base.paths.ranks ≤ scratch.places
 
--- tables have as many slots as before
-abbrev pub KeepSlots : Tables → Tables → Type 0
+-- scratch memory has as many slots as before
+abbrev pub KeepSlots : ClassScratch → ClassScratch → Type 0
 KeepSlots before after = (after.sums ≡ before.sums) × (after.places ≡ before.places)

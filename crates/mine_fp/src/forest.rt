@@ -4,7 +4,7 @@ ghost use Rattle.std.specs.List.{range_with_len};
 ghost use Rattle.basket_sets.specs.Support.{support_of};
 ghost use Rattle.mine_baskets.specs.ListBaskets.{AreRankBaskets, HaveSameWeights};
 ghost use Rattle.mine_classes.specs.Mined.{MinesClass, class_size};
-ghost use Rattle.mine_conditional.specs.Tables.{AreTablesOf};
+ghost use Rattle.mine_conditional.specs.ClassScratch.{IsScratchOf};
 ghost use Rattle.mine_fp.specs.Trees.{class_trees};
 
 use crate::pattern_base::{PatternBase, Trees};
@@ -13,7 +13,7 @@ use mine_baskets::ListBaskets;
 use mine_classes::laws::{
     classes_are_listed, conditional_supports, lists_have_class_size, rare_ranks_have_no_class,
 };
-use mine_conditional::{Paths, Tables};
+use mine_conditional::{ClassScratch, Paths};
 use mine_limit::{MineFault, Tally};
 use mine_pairs::Runs;
 use mine_search::Class;
@@ -100,25 +100,25 @@ pub fn fp_class<T: Tally>(
     ensures trees { IfOk result (λ mined. mined.1 ≡ class_trees forest.now rank) }
     ensures few { IfOk result (λ mined. mined.1 ≤ class_size forest.now rank) }
 {
-    let mut tables = Tables::new(alloc, forest.all.coded.ranks())?;
-    fp_class_with(alloc, forest, &mut tables, rank, tally)
+    let mut scratch = ClassScratch::new(alloc, forest.all.coded.ranks())?;
+    fp_class_with(alloc, forest, &mut scratch, rank, tally)
 }
 
-/// The class of a rank as `fp_class` finds it, with tables that are used again from class to class.
+/// The class of a rank as `fp_class` finds it, with scratch memory that is used again from class to class.
 pub fn fp_class_with<T: Tally>(
     alloc: Global,
     forest: &Forest<'_>,
-    tables: &mut Tables,
+    scratch: &mut ClassScratch,
     rank: u32,
     tally: &mut T,
 ) -> Result<(CountedSets, u64), MineFault>
     requires rank { rank < length forest.now.items }
-    requires tables { AreTablesOf (length forest.now.items) tables.old }
+    requires scratch { IsScratchOf (length forest.now.items) scratch.old }
     requires going { T.is_over tally.old ≡ false }
     ensures class { MinesClass T.told_of T.limit_of T.is_over forest.now rank tally.old tally.new result }
     ensures trees { IfOk result (λ mined. mined.1 ≡ class_trees forest.now rank) }
     ensures few { IfOk result (λ mined. mined.1 ≤ class_size forest.now rank) }
-    ensures tables { OnOk result (AreTablesOf (length forest.now.items) tables.new) }
+    ensures scratch { OnOk result (IsScratchOf (length forest.now.items) scratch.new) }
 {
     classes_are_listed();
     conditional_supports();
@@ -131,12 +131,12 @@ pub fn fp_class_with<T: Tally>(
         return Ok((none, 0));
     }
     let mut trees = Trees::none();
-    let below = all.below(alloc, rank, tables, &mut trees)?;
+    let below = all.below(alloc, rank, scratch, &mut trees)?;
     let class = Class {
         rank,
         support,
         below,
         steps: trees,
     };
-    class.list(alloc, all.coded, &forest.empty, tables, tally)
+    class.list(alloc, all.coded, &forest.empty, scratch, tally)
 }

@@ -8,7 +8,7 @@ ghost use Rattle.mine_fp.specs.PatternBase.{HaveSlots, IsBase, IsBelow, KeepSlot
 
 use basket_core::Coded;
 use mine_classes::laws::conditional_supports;
-use mine_conditional::{Paths, Tables};
+use mine_conditional::{ClassScratch, Paths};
 use mine_search::Projected;
 use std::alloc::{AllocError, Global};
 
@@ -45,25 +45,25 @@ impl<'a> PatternBase<'a> {
         &self,
         alloc: Global,
         number: u32,
-        tables: &mut Tables,
+        scratch: &mut ClassScratch,
         trees: &mut Trees,
     ) -> Result<Option<Self>, AllocError>
         requires inside { number < self.now.paths.ranks }
         requires long { vec_len self.now.ranks ≡ self.now.paths.ranks }
-        requires slots { HaveSlots tables.old self.now }
+        requires slots { HaveSlots scratch.old self.now }
         ensures none { IfOk result (λ below. IfNone below (pairs_of self.now.paths.baskets self.now.least number ≡ [])) }
         ensures below { IfOk result (λ below. IfSome below (IsBelow self.now number)) }
-        ensures kept { KeepSlots tables.old tables.new }
+        ensures kept { KeepSlots scratch.old scratch.new }
         ensures trees { OnOk result (trees.new.number ≡ trees.old.number + 1) }
     {
         let mut ranks = self
             .paths
-            .pairs(alloc, &mut tables.sums, number, self.least)?;
+            .pairs(alloc, &mut scratch.sums, number, self.least)?;
         trees.number = trees.number.checked_add(1).ok_or(AllocError)?;
         if ranks.is_empty() {
             return Ok(None);
         }
-        let places = &mut tables.places;
+        let places = &mut scratch.places;
         let conditional = self.paths.below(alloc, places, number, self.least, &ranks)?;
         let paths = Paths::of(alloc, conditional)?;
         rename(&mut ranks, &self.ranks);
@@ -76,7 +76,7 @@ impl<'a> PatternBase<'a> {
 }
 
 impl<'a> Projected for PatternBase<'a> {
-    type Scratch = Tables;
+    type Scratch = ClassScratch;
 
     type Steps = Trees;
 
@@ -108,7 +108,7 @@ impl<'a> Projected for PatternBase<'a> {
         &self,
         alloc: Global,
         at: usize,
-        scratch: &mut Tables,
+        scratch: &mut ClassScratch,
         trees: &mut Trees,
     ) -> Result<Option<Self>, AllocError> {
         conditional_supports();
@@ -126,11 +126,11 @@ impl<'a> Projected for PatternBase<'a> {
         self.paths.is_branch()
     }
 
-    fn give_back(self, scratch: &mut Tables) {}
+    fn give_back(self, scratch: &mut ClassScratch) {}
 
     ghost ranks_are = { λ base node is. is.ranks };
 
-    ghost unused = { λ base tables. (refl, refl) };
+    ghost unused = { λ base scratch. (refl, refl) };
 
     ghost used_twice = { λ base first second third earlier later. (later.0 ∙ earlier.0, later.1 ∙ earlier.1) };
 

@@ -2,10 +2,10 @@
 ghost use Rattle.std.specs.Prelude.{◌≡◌, ◌<◌, ℕ, IfOk, OnOk, false, length};
 ghost use Rattle.basket_ranks.specs.Codes.{Coding};
 ghost use Rattle.mine_classes.specs.Mined.{MinesClass};
-ghost use Rattle.mine_conditional.specs.Tables.{AreTablesOf};
+ghost use Rattle.mine_conditional.specs.ClassScratch.{IsScratchOf};
 
 use basket_core::CountedSets;
-use mine_conditional::Tables;
+use mine_conditional::ClassScratch;
 use mine_limit::{MineFault, Tally};
 use std::alloc::Global;
 
@@ -16,18 +16,18 @@ pub trait ClassMiner {
     ghost is_work: { Self → ℕ → ℕ → Type 0 };
 
     /// The sets of the class as items, and how much work they took. Each set is reported to the
-    /// tally. The tables are used again from class to class.
+    /// tally. The scratch memory is used again from class to class.
     fn class<T: Tally>(
         &self,
         alloc: Global,
-        tables: &mut Tables,
+        scratch: &mut ClassScratch,
         rank: u32,
         tally: &mut T,
     ) -> Result<(CountedSets, u64), MineFault>
         requires rank { rank < length (coding_of self.now).items }
-        requires tables { AreTablesOf (length (coding_of self.now).items) tables.old }
+        requires scratch { IsScratchOf (length (coding_of self.now).items) scratch.old }
         requires going { T.is_over tally.old ≡ false }
         ensures class { MinesClass T.told_of T.limit_of T.is_over (coding_of self.now) rank tally.old tally.new result }
         ensures work { IfOk result (λ mined. is_work self.now rank mined.1) }
-        ensures tables { OnOk result (AreTablesOf (length (coding_of self.now).items) tables.new) };
+        ensures scratch { OnOk result (IsScratchOf (length (coding_of self.now).items) scratch.new) };
 }

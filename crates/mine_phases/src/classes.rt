@@ -3,7 +3,7 @@ ghost use Rattle.std.specs.Prelude.{◌≡◌, ◌≤◌, ◌<◌, ◌+◌, ◌+
 ghost use Rattle.mine_limit.specs.declared.fault.MineFault.TheVariants.{TooMany};
 ghost use Rattle.basket_ranks.specs.Codes.{frequent_of_coding};
 ghost use Rattle.basket_core.specs.Listing.{listing_of};
-ghost use Rattle.mine_conditional.specs.Tables.{AreTablesOf};
+ghost use Rattle.mine_conditional.specs.ClassScratch.{IsScratchOf};
 ghost use Rattle.mine_round.specs.Record.{unused};
 ghost use Rattle.mine_phases.specs.Classes.{AreMined, HasLargeClass, IsClassShare, IsMined, IsWorkOfAll, claimed_size, ranks_of};
 ghost use Rattle.mine_pieces.specs.Pieces.{HasEach};
@@ -15,7 +15,7 @@ use crate::joined::{Class, joined};
 use crate::round_tally::{RoundTally, Start, are_over};
 use basket_core::{Coded, Frequent};
 use mine_classes::laws::{class_items_are_all, class_sizes_add_up, lists_have_class_size};
-use mine_conditional::Tables;
+use mine_conditional::ClassScratch;
 use mine_limit::{MineFault, Tally};
 use mine_pieces::{Cutting, Gate, Phase, WorkerResult, by_workers, claim_piece, collected};
 use mine_round::{Round, RoundSeat};
@@ -60,7 +60,7 @@ impl<M: ClassMiner, G: Gate> Classes<'_, '_, M, G> {
     {
         let mut seat = seat;
         let mut values = Vec::new(alloc);
-        let Ok(mut tables) = Tables::new(alloc, self.ranks) else {
+        let Ok(mut scratch) = ClassScratch::new(alloc, self.ranks) else {
             let values = Err(MineFault::Memory);
             return WorkerResult { seat, values };
         };
@@ -69,7 +69,7 @@ impl<M: ClassMiner, G: Gate> Classes<'_, '_, M, G> {
                 let values = Ok(values);
                 return WorkerResult { seat, values };
             };
-            let (back, mined) = self.mine::<Brand>(alloc, &mut tables, claimed, &mut values, seat);
+            let (back, mined) = self.mine::<Brand>(alloc, &mut scratch, claimed, &mut values, seat);
             seat = back;
             if let Err(fault) = mined {
                 let values = Err(fault);
@@ -85,7 +85,7 @@ impl<M: ClassMiner, G: Gate> Classes<'_, '_, M, G> {
     fn mine<S: Start>(
         &self,
         alloc: Global,
-        tables: &mut Tables,
+        scratch: &mut ClassScratch,
         claimed: u32,
         values: &mut Vec<(u32, Class)>,
         seat: RoundSeat,
@@ -93,12 +93,12 @@ impl<M: ClassMiner, G: Gate> Classes<'_, '_, M, G> {
         requires start { seat ≡ S.start }
         requires counts { CountsSets self.now.round.now seat }
         requires few { slice_index seat.held.seen 0 ≤ self.now.limit }
-        requires tables { AreTablesOf self.now.ranks tables.old }
+        requires scratch { IsScratchOf self.now.ranks scratch.old }
         requires claimed { claimed < self.now.pieces }
         requires each { AreMined (M.coding_of self.now.miner.now) (M.is_work self.now.miner.now) values.old.items }
         ensures counts { CountsSets self.now.round.now result.0 }
         ensures same { still result.0 ≡ still seat }
-        ensures tables { OnOk result.1 (AreTablesOf self.now.ranks tables.new) }
+        ensures scratch { OnOk result.1 (IsScratchOf self.now.ranks scratch.new) }
         ensures numbers { OnOk result.1 (numbers_of values.new.items ≡ numbers_of values.old.items ++ ranks_of (M.coding_of self.now.miner.now) self.now.pieces claimed) }
         ensures each { OnOk result.1 (AreMined (M.coding_of self.now.miner.now) (M.is_work self.now.miner.now) values.new.items) }
         ensures told { OnOk result.1 (slice_index result.0.held.added 0 ≡ slice_index seat.held.added 0 + claimed_size (M.coding_of self.now.miner.now) self.now.pieces claimed) }
@@ -107,23 +107,23 @@ impl<M: ClassMiner, G: Gate> Classes<'_, '_, M, G> {
             → (most ≡ self.now.limit) × ((self.now.limit < slice_index result.0.held.seen 0) ⊎ HasLargeClass (M.coding_of self.now.miner.now) self.now.limit) }
     {
         let mut tally = RoundTally::<S>::new(self.round, seat, self.limit);
-        let mined = self.add_classes(alloc, tables, claimed, values, &mut tally);
+        let mined = self.add_classes(alloc, scratch, claimed, values, &mut tally);
         (tally.into_seat(), mined)
     }
 
     /// Adds the class of each rank of a claimed piece to the values, reported to a tally, which
-    /// looks after each class at what the others have found. The tables are used again from piece
+    /// looks after each class at what the others have found. The scratch memory is used again from piece
     /// to piece.
     fn add_classes<S: Start>(
         &self,
         alloc: Global,
-        tables: &mut Tables,
+        scratch: &mut ClassScratch,
         claimed: u32,
         values: &mut Vec<(u32, Class)>,
         tally: &mut RoundTally<'_, S>,
     ) -> Result<(), MineFault>
         requires going { tally.old.over ≡ false }
-        requires tables { AreTablesOf self.now.ranks tables.old }
+        requires scratch { IsScratchOf self.now.ranks scratch.old }
         requires claimed { claimed < self.now.pieces }
         requires each { AreMined (M.coding_of self.now.miner.now) (M.is_work self.now.miner.now) values.old.items }
         ensures numbers { OnOk result (numbers_of values.new.items ≡ numbers_of values.old.items ++ ranks_of (M.coding_of self.now.miner.now) self.now.pieces claimed) }
@@ -134,7 +134,7 @@ impl<M: ClassMiner, G: Gate> Classes<'_, '_, M, G> {
             → (most ≡ tally.old.limit) × (IsTrue tally.new.over ⊎ HasLargeClass (M.coding_of self.now.miner.now) most) }
         ensures at_most { tally.new.told ≤ tally.old.told + claimed_size (M.coding_of self.now.miner.now) self.now.pieces claimed }
         ensures limit { tally.new.limit ≡ tally.old.limit }
-        ensures tables { OnOk result (AreTablesOf self.now.ranks tables.new) }
+        ensures scratch { OnOk result (IsScratchOf self.now.ranks scratch.new) }
     {
         lists_have_class_size();
         // The classes of the greatest ranks are the largest. So they are mined first, and each piece
@@ -142,7 +142,7 @@ impl<M: ClassMiner, G: Gate> Classes<'_, '_, M, G> {
         let mut place = claimed as usize;
         while place < self.ranks as usize {
             let rank = self.ranks - 1 - place as u32;
-            let class = self.miner.class(alloc, tables, rank, tally)?;
+            let class = self.miner.class(alloc, scratch, rank, tally)?;
             values.push((rank, class))?;
             if !tally.look() {
                 let limit = tally.limit();

@@ -99,7 +99,7 @@ impl Row for BitRow {
         self.count
     }
 
-    fn is_large(&self, kept: usize, joined: usize, weights: &Weights) -> bool {
+    fn pays_to_reproject(&self, kept: usize, joined: usize, weights: &Weights) -> bool {
         kept >= LEAST_KEPT && kept >= joined / 2 && weights.places() > 64 && weights.is_halved()
     }
 

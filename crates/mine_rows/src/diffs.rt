@@ -73,7 +73,7 @@ impl Row for DiffList {
         self.count
     }
 
-    fn is_large(&self, _kept: usize, _joined: usize, _weights: &Weights) -> bool {
+    fn pays_to_reproject(&self, _kept: usize, _joined: usize, _weights: &Weights) -> bool {
         false
     }
 

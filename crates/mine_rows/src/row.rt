@@ -92,7 +92,7 @@ pub trait Row: Drop {
 
     /// Whether it pays to make a database of its cover, if this many of the rows that were joined
     /// with it are kept.
-    fn is_large(&self, kept: usize, joined: usize, weights: &Weights) -> bool;
+    fn pays_to_reproject(&self, kept: usize, joined: usize, weights: &Weights) -> bool;
 
     /// Adds a bit to the words of the places of its cover, or says that it doesn't list them.
     fn add_bit(&self, words: &mut [u64], bit: u64) -> bool

@@ -86,7 +86,7 @@ impl Row for TidList {
         self.count
     }
 
-    fn is_large(&self, kept: usize, _joined: usize, weights: &Weights) -> bool {
+    fn pays_to_reproject(&self, kept: usize, _joined: usize, weights: &Weights) -> bool {
         // The words that a database is made from are as many as the places of all.
         let places = self.places.len();
         kept >= LEAST_KEPT && places >= LEAST_PLACES && places >= weights.places() as usize / 8

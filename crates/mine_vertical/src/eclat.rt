@@ -2,7 +2,7 @@
 ghost use Rattle.std.specs.Prelude.{◌≡◌, ◌<◌, IfOk, false, length};
 ghost use Rattle.mine_vertical.specs.Joins.{class_joins};
 ghost use Rattle.mine_classes.specs.Mined.{MinesClass, RanksAreFrequent};
-ghost use Rattle.mine_conditional.specs.Tables.{AreTablesOf};
+ghost use Rattle.mine_conditional.specs.ClassScratch.{IsScratchOf};
 
 use crate::joins::Joins;
 use crate::search_scratch::SearchScratch;
@@ -10,7 +10,7 @@ use crate::siblings::{Siblings, class_siblings};
 use crate::vertical::Vertical;
 use basket_core::CountedSets;
 use mine_classes::laws::{conditional_supports, rare_ranks_have_no_class};
-use mine_conditional::Tables;
+use mine_conditional::ClassScratch;
 use mine_limit::{MineFault, Tally};
 use mine_rows::Row;
 use mine_search::Class;
@@ -31,25 +31,25 @@ pub fn eclat_class<R: Row, T: Tally>(
     ensures class { MinesClass T.told_of T.limit_of T.is_over vertical.now rank tally.old tally.new result }
     ensures joins { IfOk result (λ mined. RanksAreFrequent vertical.now → mined.1 ≡ class_joins vertical.now rank) }
 {
-    let mut tables = Tables::new(alloc, vertical.coded().ranks())?;
-    eclat_class_with::<R, T>(alloc, vertical, &mut tables, rank, tally)
+    let mut scratch = ClassScratch::new(alloc, vertical.coded().ranks())?;
+    eclat_class_with::<R, T>(alloc, vertical, &mut scratch, rank, tally)
 }
 
-/// The class of a rank as `eclat_class` finds it, with tables that are used again from class to
+/// The class of a rank as `eclat_class` finds it, with scratch memory that is used again from class to
 /// class.
 pub fn eclat_class_with<R: Row, T: Tally>(
     alloc: Global,
     vertical: &Vertical<'_>,
-    tables: &mut Tables,
+    scratch: &mut ClassScratch,
     rank: u32,
     tally: &mut T,
 ) -> Result<(CountedSets, u64), MineFault>
     requires rank { rank < length vertical.now.items }
-    requires tables { AreTablesOf (length vertical.now.items) tables.old }
+    requires scratch { IsScratchOf (length vertical.now.items) scratch.old }
     requires going { T.is_over tally.old ≡ false }
     ensures class { MinesClass T.told_of T.limit_of T.is_over vertical.now rank tally.old tally.new result }
     ensures joins { IfOk result (λ mined. RanksAreFrequent vertical.now → mined.1 ≡ class_joins vertical.now rank) }
-    ensures tables { AreTablesOf (length vertical.now.items) tables.new }
+    ensures scratch { IsScratchOf (length vertical.now.items) scratch.new }
 {
     conditional_supports();
     rare_ranks_have_no_class();
@@ -62,7 +62,7 @@ pub fn eclat_class_with<R: Row, T: Tally>(
         return Ok((none, 0));
     }
     let mut joins = Joins::none();
-    let (weights, siblings) = class_siblings::<R>(alloc, runs, tables, &mut joins, rank, least)?;
+    let (weights, siblings) = class_siblings::<R>(alloc, runs, scratch, &mut joins, rank, least)?;
     let mut room = SearchScratch::new(alloc);
     room.add_marks(alloc, 0, &weights)?;
     let below = Siblings {

@@ -60,8 +60,8 @@ impl<R: Row> Sibling<R> {
     }
 
     /// Whether it pays to make a database of its cover.
-    pub fn is_large(&self, kept: usize, joined: usize, weights: &Weights) -> bool {
-        self.row.is_large(kept, joined, weights)
+    pub fn pays_to_reproject(&self, kept: usize, joined: usize, weights: &Weights) -> bool {
+        self.row.pays_to_reproject(kept, joined, weights)
     }
 
     /// Adds a bit to the words of the places of its cover, or says that its row doesn't list them.

@@ -1,5 +1,5 @@
 //! Eclat (Zaki 2000): a class is mined alone, by the search of `mine_search`, over the places of its
-//! conditional database. A row represents the places whose baskets contain a set; `remade` makes the
+//! conditional database. A row represents the places whose baskets contain a set; `reprojected` makes the
 //! database of a set anew if that is smaller.
 #![tactic(auto)]
 
@@ -7,7 +7,7 @@ mod eclat;
 mod joins;
 pub mod laws;
 mod projected;
-mod remade;
+mod reprojected;
 mod search_scratch;
 mod siblings;
 mod vertical;

@@ -7,7 +7,7 @@ ghost use Rattle.mine_vertical.specs.Remade.{GiveSupports};
 ghost use Rattle.mine_vertical.specs.Siblings.{AreKept, AreOver, AreSiblings};
 
 use crate::joins::{Joins, Sibling};
-use crate::remade::remade;
+use crate::reprojected::reprojected;
 use crate::search_scratch::{SearchScratch, make_place};
 use crate::siblings::Siblings;
 use mine_rows::{Marks, Row};
@@ -61,8 +61,8 @@ impl<'a, R: Row> Projected for Siblings<'a, R> {
             room.take_back(list);
             return Ok(None);
         }
-        let is_large = self.list[at].is_large(kept, at, &self.weights);
-        let Some(anew) = self.made_anew(alloc, &list[..kept], is_large, room)? else {
+        let pays_to_reproject = self.list[at].pays_to_reproject(kept, at, &self.weights);
+        let Some(anew) = self.made_anew(alloc, &list[..kept], pays_to_reproject, room)? else {
             return Ok(Some(Siblings {
                 coded: self.coded,
                 least: self.least,
@@ -147,7 +147,7 @@ impl<'a, R: Row> Siblings<'a, R> {
         &self,
         alloc: Global,
         siblings: &[Sibling<R>],
-        is_large: bool,
+        pays_to_reproject: bool,
         room: &mut SearchScratch<R>,
     ) -> Result<Option<Self>, AllocError>
         requires rises { IsRising (map (λ sibling. sibling.rank) siblings.now) }
@@ -162,7 +162,7 @@ impl<'a, R: Row> Siblings<'a, R> {
         ensures wider { IfOk result (λ made. IfSome made (λ inner. self.now.marks < inner.marks)) }
         ensures room { OnOk result (Keeps R.at_rest self.now room.old room.new) }
     {
-        let found = remade(alloc, siblings, &self.weights, is_large)?;
+        let found = reprojected(alloc, siblings, &self.weights, pays_to_reproject)?;
         let Some((weights, list)) = found else {
             return Ok(None);
         };

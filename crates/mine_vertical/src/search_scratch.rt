@@ -5,7 +5,7 @@ use crate::joins::Sibling;
 use mine_rows::{Marks, Row, Weights};
 use std::alloc::{AllocError, Global};
 
-/// Tables to mark places in, one for each database that the search is within, and lists of siblings
+/// ClassScratch to mark places in, one for each database that the search is within, and lists of siblings
 /// that are not needed any more.
 #[derive(Drop)]
 pub struct SearchScratch<R> {

@@ -8,13 +8,13 @@ ghost use Rattle.basket_sets.specs.Support.{total_of};
 ghost use Rattle.mine_baskets.specs.Covers.{weights_of};
 ghost use Rattle.mine_pairs.specs.Pairs.{pairs_of};
 ghost use Rattle.mine_conditional.specs.Paths.{IsConditional};
-ghost use Rattle.mine_conditional.specs.Tables.{AreTablesOf};
+ghost use Rattle.mine_conditional.specs.ClassScratch.{IsScratchOf};
 ghost use Rattle.mine_vertical.specs.Siblings.{AreClassSiblings, AreOver};
 
 use crate::joins::{Joins, Sibling};
 use basket_core::Coded;
 use mine_baskets::ListBaskets;
-use mine_conditional::{Conditional, RankPlaces, Tables, ranks_of};
+use mine_conditional::{ClassScratch, Conditional, LocalNumbers, ranks_of};
 use mine_pairs::Runs;
 use mine_rows::{Row, Weights};
 use std::alloc::{AllocError, Global};
@@ -39,7 +39,7 @@ pub struct Siblings<'a, R> {
 fn conditional_of(
     alloc: Global,
     runs: &Runs,
-    places: &mut RankPlaces,
+    places: &mut LocalNumbers,
     rank: u32,
     least: u64,
     pairs: &[(u32, u64)],
@@ -100,21 +100,21 @@ pub fn siblings_of<R: Row>(
 pub fn class_siblings<R: Row>(
     alloc: Global,
     runs: &Runs,
-    tables: &mut Tables,
+    scratch: &mut ClassScratch,
     joins: &mut Joins,
     rank: u32,
     least: u64,
 ) -> Result<(Weights, Vec<Sibling<R>>), AllocError>
     requires rank { rank < runs.now.ranks }
-    requires tables { AreTablesOf runs.now.ranks tables.old }
+    requires scratch { IsScratchOf runs.now.ranks scratch.old }
     requires few { joins.old.number + rank ≤ 18446744073709551615 }
     ensures siblings { IfOk result (λ made. (baskets : List Basket) × AreClassSiblings R.stands runs.now.baskets least rank made.0 made.1.items baskets) }
     ensures joins { OnOk result (joins.new.number ≡ joins.old.number + rank) }
-    ensures tables { AreTablesOf runs.now.ranks tables.new }
+    ensures scratch { IsScratchOf runs.now.ranks scratch.new }
 {
-    let pairs = joins.pairs(alloc, runs, &mut tables.sums, rank, least)?;
+    let pairs = joins.pairs(alloc, runs, &mut scratch.sums, rank, least)?;
     let kept = ranks_of(alloc, &pairs)?;
-    let places = &mut tables.places;
+    let places = &mut scratch.places;
     let conditional = conditional_of(alloc, runs, places, rank, least, &pairs)?;
     let (_, unmerged) = runs.of_rank(rank);
     siblings_of(alloc, &kept, &conditional, unmerged.len())

@@ -12,9 +12,9 @@ use Rattle.basket_rules.proofs.association.keep_confident.Goals as goal
 
 pub loop-consequent-preserved : goal.loop-consequent-preserved
 loop-consequent-preserved c =
-    let listing = c.args.wanted.now.frequent.now in
-    let confidence = c.args.wanted.now.confidence in
-    let number = c.args.wanted.now.number in
+    let listing = c.args.query.now.frequent.now in
+    let confidence = c.args.query.now.confidence in
+    let number = c.args.query.now.number in
     let tried = c.args.tried.now in
     let at = c.loop-consequent.consequent-index in
     let old = rules_in listing number c.args.rules.now.items in

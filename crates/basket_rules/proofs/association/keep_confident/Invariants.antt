@@ -4,4 +4,4 @@ use Rattle.basket_rules.proofs.association.keep_confident.Given as goal
 
 abbrev pub invariant-loop-consequent : goal.invariant-loop-consequent
 invariant-loop-consequent l =
-    IsKeptUpTo l.wanted.frequent.now l.wanted.confidence l.wanted.number l.consequent-index l.tried l.met.items (rules_in l.wanted.frequent.now l.wanted.number l.fn.rules.items) (rules_in l.wanted.frequent.now l.wanted.number l.rules.items)
+    IsKeptUpTo l.query.frequent.now l.query.confidence l.query.number l.consequent-index l.tried l.met.items (rules_in l.query.frequent.now l.query.number l.fn.rules.items) (rules_in l.query.frequent.now l.query.number l.rules.items)

@@ -9,25 +9,25 @@ use Rattle.basket_rules.proofs.association.rule_for.Goals as goal
 
 pub returns-then-not-meets : goal.returns-then-not-meets
 returns-then-not-meets c = λ consistent.
-    let wanted = c.args.wanted.now in
-    let listing = wanted.frequent.now in
-    let union = set_at listing.sets wanted.number in
+    let query = c.args.query.now in
+    let listing = query.frequent.now in
+    let union = set_at listing.sets query.number in
     let antecedent_count = c.in_ok-antecedent_count.antecedent_count in
-    let few : length union ≤ 64 = subst (λ l. length l ≤ 64) wanted.is wanted.few in
-    let antecedent = antecedent_side c.args.consequent union (omega arith) few (set_nonempty listing.sets consistent wanted.number wanted.listed).0 in
+    let few : length union ≤ 64 = subst (λ l. length l ≤ 64) query.is query.few in
+    let antecedent = antecedent_side c.args.consequent union (omega arith) few (set_nonempty listing.sets consistent query.number query.listed).0 in
     let antecedent_is = subst (λ l. IsCountIn listing.sets l antecedent_count) antecedent c.in_ok-antecedent_count.ensures in
-    let test = c.meets.ensures ∙ ap (λ n. leb (wanted.confidence.0 * antecedent_count) (n * wanted.confidence.1)) wanted.counted in
-    no_rule listing wanted.number wanted.listed (side_of union c.args.consequent) wanted.confidence antecedent_count antecedent_is (sym test ∙ c.if-not-meets.true) consistent
+    let test = c.meets.ensures ∙ ap (λ n. leb (query.confidence.0 * antecedent_count) (n * query.confidence.1)) query.counted in
+    no_rule listing query.number query.listed (side_of union c.args.consequent) query.confidence antecedent_count antecedent_is (sym test ∙ c.if-not-meets.true) consistent
 
 pub returns : goal.returns
 returns c = λ consistent.
-    let wanted = c.args.wanted.now in
-    let listing = wanted.frequent.now in
-    let union = set_at listing.sets wanted.number in
+    let query = c.args.query.now in
+    let listing = query.frequent.now in
+    let union = set_at listing.sets query.number in
     let antecedent_count = c.in_ok-antecedent_count.antecedent_count in
-    let few : length union ≤ 64 = subst (λ l. length l ≤ 64) wanted.is wanted.few in
-    let antecedent = antecedent_side c.args.consequent union (omega arith) few (set_nonempty listing.sets consistent wanted.number wanted.listed).0 in
+    let few : length union ≤ 64 = subst (λ l. length l ≤ 64) query.is query.few in
+    let antecedent = antecedent_side c.args.consequent union (omega arith) few (set_nonempty listing.sets consistent query.number query.listed).0 in
     let antecedent_is = subst (λ l. IsCountIn listing.sets l antecedent_count) antecedent c.in_ok-antecedent_count.ensures in
-    let test = c.meets.ensures ∙ ap (λ n. leb (wanted.confidence.0 * antecedent_count) (n * wanted.confidence.1)) wanted.counted in
-    a_found_rule listing wanted.number wanted.listed c.args.consequent wanted.confidence antecedent_count c.in_ok-consequent_count.consequent_count c.new.result antecedent_is c.in_ok-consequent_count.ensures
+    let test = c.meets.ensures ∙ ap (λ n. leb (query.confidence.0 * antecedent_count) (n * query.confidence.1)) query.counted in
+    a_found_rule listing query.number query.listed c.args.consequent query.confidence antecedent_count c.in_ok-consequent_count.consequent_count c.new.result antecedent_is c.in_ok-consequent_count.ensures
     (sym test ∙ c.if-not-meets.false) c.new.ensures.some c.new.ensures.none consistent

@@ -29,7 +29,7 @@ loop-place-init g c =
     let coding : Coding = g.M.ClassMiner.coding_of c.args.self.now.miner.now in
     let none = first_ranks coding c.args.self.now.pieces c.args.claimed c.args.claimed c.requires.claimed refl in
     record {
-      tables = c.requires.tables;
+      scratch = c.requires.scratch;
       going = c.requires.going;
       limit = refl;
       turn = mod-eq_of_lt c.requires.claimed;
@@ -85,7 +85,7 @@ loop-place-preserved g c =
     let next = next_rank coding pieces c.args.claimed place rank was.turn (omega (arith, c.loop-place-test.true, c.args.self.now.all_ranks)) (rank_is c.args.self.now.ranks place coding c.args.self.now.all_ranks) (omega (arith, c.requires.claimed)) in
     let sum = ap (sum_by (class_size coding)) next ∙ sum_by_push (class_size coding) ranks rank in
     record {
-      tables = (let made = c.in_ok-class.ensures.tables in (made.0 ∙ sym c.args.self.now.all_ranks, made.1 ∙ sym c.args.self.now.all_ranks));
+      scratch = (let made = c.in_ok-class.ensures.scratch in (made.0 ∙ sym c.args.self.now.all_ranks, made.1 ∙ sym c.args.self.now.all_ranks));
       going = not_true _ (sym c.look.ensures.over ∙ c.if-not-look.false);
       limit = c.look.ensures.limit ∙ class.limit ∙ was.limit;
       turn = add-mod_right place pieces ∙ was.turn;

@@ -1,7 +1,7 @@
 use Rattle.std.proofs.Common.{◌≡◌, ◌+◌, ◌-◌, ◌%◌, ◌++◌, false}
 use Rattle.std.specs.List.{sum_by}
 use Rattle.mine_classes.specs.Mined.{class_size}
-use Rattle.mine_conditional.specs.Tables.{AreTablesOf}
+use Rattle.mine_conditional.specs.ClassScratch.{IsScratchOf}
 use Rattle.mine_phases.specs.Classes.{AreMined}
 use Rattle.mine_pieces.specs.WorkerResult.{numbers_of}
 use Rattle.mine_phases.proofs.Ranks.{ranks_before}
@@ -9,7 +9,7 @@ use Rattle.mine_phases.proofs.classes.Classes.add_classes.Given as goal
 
 abbrev pub invariant-loop-place : goal.invariant-loop-place
 invariant-loop-place g l = record {
-  tables : AreTablesOf l.self.ranks l.tables;
+  scratch : IsScratchOf l.self.ranks l.scratch;
   going : l.tally.over ≡ false;
   limit : l.tally.limit ≡ l.initial.tally.limit;
   turn : l.place % l.self.pieces ≡ l.claimed;

@@ -46,7 +46,7 @@ loop-alloc-preserved g c =
     let sum = ap (sum_by size) claimed ∙ sum_by_push size before number in
     record {
       counts = c.mine-back.ensures.counts;
-      tables = rw c.in_default-mined.is at c.mine-back.ensures.tables;
+      scratch = rw c.in_default-mined.is at c.mine-back.ensures.scratch;
       within = omega (arith, high, c.in-Some.ensures.piece.0, c.args.self.now.of_round);
       numbers = (rw c.in_default-mined.is at c.mine-back.ensures.numbers) ∙ ap (λ l. l ++ ranks number) was.numbers ∙ ap (λ l. flat_map ranks before ++ l) (sym (append-nil (ranks number)))
           ∙ sym (ap (flat_map ranks) claimed ∙ flat_map-append ranks before (number ∷ []));

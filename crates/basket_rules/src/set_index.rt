@@ -1,0 +1,72 @@
+//! What rules are looked up by.
+ghost use Rattle.std.specs.Prelude.{◌≡◌, ◌<◌, IfOk, length};
+ghost use Rattle.basket_sets.specs.Itemset.{IsRising};
+ghost use Rattle.basket_rules.specs.Confident.{rule_from, rule_in};
+
+use crate::confident::ConfidentRule;
+use crate::consequents::Sides;
+use crate::hashes::ItemHashes;
+use crate::listed::items_at;
+use crate::rule_counts::RuleCounts;
+use basket_core::{CountedSets, Frequent, MOST_ITEMS};
+use basket_order::{PlaceTable, items_hash};
+use std::alloc::{AllocError, Global};
+
+/// What a thread keeps from union to union while it makes the rules of a list: places of its sets by
+/// hashes, which threads share, and room that is used again. No rule depends on it.
+#[derive(Debug, Drop)]
+pub struct SetIndex<'a> {
+    pub(crate) places: &'a PlaceTable,
+    /// The items of the set that was looked at last, if it is kept as a word.
+    pub(crate) room: [u32; MOST_ITEMS],
+    /// The hashes of the items of the last union.
+    pub(crate) hashes: ItemHashes,
+    /// The items of the sides of the last rule.
+    pub sides: Sides,
+}
+
+/// The places of the sets of a list by their hashes.
+pub fn places_of(alloc: Global, sets: &CountedSets) -> Result<PlaceTable, AllocError> {
+    let mut places = PlaceTable::with_room(alloc, sets.len())?;
+    let mut room = [0; MOST_ITEMS];
+    for place in 0..sets.len() {
+        places.keep(items_hash(items_at(sets, place, &mut room)), place);
+    }
+    Ok(places)
+}
+
+impl<'a> SetIndex<'a> {
+    /// Nothing is allocated.
+    pub fn new(alloc: Global, places: &'a PlaceTable) -> Self {
+        SetIndex {
+            places,
+            room: [0; MOST_ITEMS],
+            hashes: ItemHashes::none(alloc),
+            sides: Sides::new(alloc),
+        }
+    }
+
+    /// Puts the items of both sides of a rule of the set at the place into `sides`, and returns its
+    /// counts.
+    pub fn rule(
+        &mut self,
+        frequent: &Frequent,
+        number: usize,
+        met: &ConfidentRule,
+    ) -> Result<RuleCounts, AllocError>
+        requires { number < length frequent.now.sets }
+        ensures rule { IfOk result (λ counts. rule_from self.new.sides counts ≡ rule_in frequent.now number met.now) }
+        ensures antecedent { IfOk result (λ _. IsRising self.new.sides.antecedent.items) }
+        ensures consequent { IfOk result (λ _. IsRising self.new.sides.consequent.items) }
+    {
+        let sets = frequent.sets();
+        let items = items_at(sets, number, &mut self.room);
+        self.sides.fill(items, met.consequent.places)?;
+        Ok(RuleCounts {
+            count: sets.count(number),
+            total: frequent.total(),
+            antecedent_count: met.antecedent_count,
+            consequent_count: met.consequent_count,
+        })
+    }
+}

@@ -1,6 +1,0 @@
-use Rattle.std.proofs.Common.{take}
-use Rattle.mine_conditional.specs.RankPlaces.{ArePlaces}
-use Rattle.mine_conditional.proofs.rank_places.put.Given as goal
-
-abbrev pub invariant-loop-at : goal.invariant-loop-at
-invariant-loop-at l = ArePlaces (take l.at l.kept) l.of

@@ -1,0 +1,26 @@
+//! What is used again from rank to rank.
+ghost use Rattle.std.specs.Prelude.{IfOk};
+ghost use Rattle.mine_conditional.specs.ClassScratch.{IsScratchOf};
+
+use crate::local_numbers::LocalNumbers;
+use mine_pairs::Sums;
+use std::alloc::{AllocError, Global};
+
+/// A place and a sum for each rank, used again from rank to rank, and by databases of fewer ranks.
+#[derive(Debug, Drop)]
+pub struct ClassScratch {
+    pub sums: Sums,
+    pub places: LocalNumbers,
+}
+
+impl ClassScratch {
+    /// Scratch memory for this many ranks.
+    pub fn new(alloc: Global, count: u32) -> Result<Self, AllocError>
+        ensures { IfOk result (IsScratchOf count) }
+    {
+        Ok(ClassScratch {
+            sums: Sums::new(alloc, count)?,
+            places: LocalNumbers::new(alloc, count)?,
+        })
+    }
+}
