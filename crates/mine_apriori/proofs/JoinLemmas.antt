@@ -1,9 +1,9 @@
 -- A set as its front and its last two items.
 use Rattle.std.proofs.Common.{◌≡◌, ℕ, ◌<◌, List, [], ◌∷◌, ◌++◌, length, refl, ap, inl, inr, arith, zero, suc}
 use Rattle.std.proofs.lemmas.List.{length_push}
-use Rattle.basket_sets.specs.Itemset.{IsRising, without}
-use Rattle.basket_sets.proofs.theory.Members.{Member-append, Member-append_right}
-use Rattle.basket_sets.proofs.theory.Rising.{cons_rises, first_below, rest_rises}
+use Rattle.basket_sets.specs.Itemset.{IsRising, with_item, without}
+use Rattle.basket_sets.proofs.theory.Members.{Member-append, Member-append_left, Member-append_right}
+use Rattle.basket_sets.proofs.theory.Rising.{Member-into_with_item, Member-with_item, cons_rises, first_below, front_rises, rest_rises, same_rising, with_item-rises}
 use Rattle.mine_supports.proofs.theory.Grouped.{one_rises}
 
 pub record Ends (last : ℕ) (set : List ℕ) : Type 0 where
@@ -56,3 +56,10 @@ rises_after (z ∷ front) x y up h =
 pub rising_ends : (front : List ℕ) (x y : ℕ) → IsRising ((front ++ x ∷ []) ++ y ∷ []) → x < y
 rising_ends [] x y up = first_below x (y ∷ []) up y (inl refl)
 rising_ends (z ∷ front) x y up = rising_ends front x y (rest_rises z ((front ++ x ∷ []) ++ y ∷ []) up)
+
+-- a set with an item above its own
+pub with_last : (set : List ℕ) (item : ℕ) → IsRising (set ++ item ∷ []) → with_item item set ≡ set ++ item ∷ []
+with_last set item up =
+    same_rising (with_item item set) (set ++ item ∷ []) (with_item-rises item set (front_rises set item up)) up
+    (λ z m. elim (Member-with_item item set z m) [ inl e ↦ Member-append_right z set (item ∷ []) (inl e) | inr n ↦ Member-append_left z set (item ∷ []) n ])
+    (λ z m. Member-into_with_item item set z (elim (Member-append z set (item ∷ []) m) [ inl n ↦ inr n | inr n ↦ elim n [ inl e ↦ inl e | inr k ↦ absurd k ] ]))

@@ -7,7 +7,6 @@ ghost use Rattle.basket_sets.specs.Support.{support_of};
 ghost use Rattle.mine_supports.specs.Extensions.{extend, kept, sets_of};
 ghost use Rattle.mine_apriori.specs.Levels.{decoded_sets};
 
-use crate::join::put_extended;
 use basket_core::{Coded, CountedSets, Itemset};
 use mine_supports::{Extensions, PrefixRange};
 use std::alloc::{AllocError, Global};
@@ -33,11 +32,11 @@ pub fn add_frequent(
     let mut level = Extensions::new(alloc);
     let mut rest = counts;
     for number in range.start..range.end {
-        let prefix = sets.prefixes()[number].items();
+        let prefix = &sets.prefixes()[number];
         let items = sets.lists()[number].items();
         let (counts, others) = rest.split_at(items.len());
         let frequent = add_extensions(alloc, coded, prefix, items, counts, found)?;
-        level = level.with_items(alloc, prefix, &frequent)?;
+        level = level.with_items(alloc, prefix.items(), &frequent)?;
         rest = others;
     }
     Ok(level)
@@ -47,7 +46,7 @@ pub fn add_frequent(
 fn add_extensions(
     alloc: Global,
     coded: &Coded,
-    prefix: &[u32],
+    prefix: &Itemset,
     items: &[u32],
     counts: &[u64],
     found: &mut CountedSets,
@@ -61,11 +60,9 @@ fn add_extensions(
     let minimum = coded.minimum();
     let total = coded.total();
     let mut kept = Vec::new(alloc);
-    let mut set = Vec::new(alloc);
     for (place, item) in items.iter().enumerate() {
         if minimum.met(counts[place], total) {
-            put_extended(&mut set, prefix, *item)?;
-            let ranks = Itemset::from_items(alloc, &set)?;
+            let ranks = prefix.with(alloc, *item)?;
             found.push_renamed(alloc, &ranks, coded.items(), counts[place])?;
             kept.push(*item)?;
         }

@@ -134,7 +134,7 @@ fn keep_with(
 }
 
 /// Makes a set of a prefix and one item more. The room of its items is used again.
-pub(crate) fn put_extended(set: &mut Vec<u32>, prefix: &[u32], item: u32) -> Result<(), AllocError>
+fn put_extended(set: &mut Vec<u32>, prefix: &[u32], item: u32) -> Result<(), AllocError>
     ensures { OnOk result (set.new.items ≡ prefix.now ++ item ∷ []) }
 {
     set.clear();

@@ -137,8 +137,7 @@ impl<'a> Levels<'a> {
         ensures err { IfErr result (λ fault. fault ≡ Memory) }
     {
         let Levels { coded, found, .. } = self;
-        let mut classes = Vec::with_capacity(alloc, 1)?;
-        classes.push(found)?;
+        let classes = vec![in alloc; found]?;
         Ok(Frequent::of_classes(alloc, coded, classes)?)
     }
 
@@ -155,8 +154,7 @@ impl<'a> Levels<'a> {
         ensures err { IfErr result (λ fault. fault ≡ Memory) }
     {
         let Levels { coded, found, .. } = self;
-        let mut classes = Vec::with_capacity(alloc, 1)?;
-        classes.push(found)?;
+        let classes = vec![in alloc; found]?;
         Ok(Frequent::of_classes_shared(rt, alloc, coded, classes, threads)?)
     }
 }

@@ -22,18 +22,11 @@ pub fn find_near(sets: &[Itemset], front: &[u32], rest: &[u32], near: usize) -> 
 {
     let mut search = NearSearch::new(near, sets.len());
     while let Some(at) = search.next() {
-        match compare(&sets[at], front, rest) {
+        match compare_parts(sets[at].items(), front, rest) {
             Ordering::Less => search.go_after(at),
             Ordering::Equal => return Ok(at),
             Ordering::Greater => search.go_before(at),
         }
     }
     Err(search.start())
-}
-
-/// Compares a set with the one that has the items of `front` and then those of `rest`.
-fn compare(set: &Itemset, front: &[u32], rest: &[u32]) -> Ordering
-    ensures { result ≡ slice_cmp nat_cmp set.now (front.now ++ rest.now) }
-{
-    compare_parts(set.items(), front, rest)
 }

@@ -6,10 +6,10 @@ use Rattle.basket_sets.specs.Frequent.{counted, is_frequent}
 use Rattle.basket_sets.specs.Itemset.{has, rising}
 use Rattle.basket_sets.specs.Minimum.{meets}
 use Rattle.basket_sets.specs.Support.{support_of}
-use Rattle.basket_sets.proofs.theory.Rising.{rising-rising}
 use Rattle.mine_supports.proofs.theory.Frequent.{count_read, extended_rises, found_more, kept_more}
+use Rattle.mine_apriori.proofs.JoinLemmas.{with_last}
 use Rattle.mine_apriori.proofs.frequent.add_extensions.Goals as goal
-use Rattle.mine_apriori.proofs.frequent.add_extensions.Goals.{After-met, then-met+in_ok-put_extended+in_ok-ranks+in_ok-push_renamed+in_ok-push+in-Heap-1, then-met+in_ok-put_extended+in_ok-ranks+in_ok-push_renamed+in_ok-push+in-Inline-1, else-met}
+use Rattle.mine_apriori.proofs.frequent.add_extensions.Goals.{After-met, then-met+in_ok-ranks+in_ok-push_renamed+in_ok-push+in-Heap-1, then-met+in_ok-ranks+in_ok-push_renamed+in_ok-push+in-Inline-1, else-met}
 
 -- the test is that of the set
 tested : (c : After-met) → is_frequent c.args.coded.now.baskets c.args.coded.now.minimum (c.args.prefix.now ++ get_or c.args.items.now c.loop-place.place 0 ∷ []) ≡ c.met.result
@@ -22,7 +22,7 @@ push_renamed-requires c = λ item h.
     let coding = c.args.coded.now in
     let set = c.args.prefix.now ++ get_or c.args.items.now c.loop-place.place 0 ∷ [] in
     let up = extended_rises c.args.prefix.now c.args.items.now c.loop-place.place c.requires.rising c.loop-place-test.true in
-    let is = c.in_ok-ranks.ensures.ok ∙ ap rising (c.deref.ensures.value ∙ c.in_ok-put_extended.ensures) ∙ rising-rising set up in
+    let is = c.in_ok-ranks.ensures.ok ∙ with_last c.args.prefix.now (get_or c.args.items.now c.loop-place.place 0) up in
     let passes = tested (goal.at.push_renamed-requires c).After-met ∙ c.if-met.true in
     let below = ranks_below coding c.requires.coding set passes item (ap (λ l. has l item) (sym is) ∙ h) in
     omega (arith, below, ap length c.items.ensures)
@@ -42,16 +42,16 @@ loop-place-preserved c =
     let count = count_read (support_of coding.baskets) prefix items c.args.counts.now i c.requires.counts here in
     let inv = c.loop-place.invariant in
     elim c.if-met.branch [
-      | then-met+in_ok-put_extended+in_ok-ranks+in_ok-push_renamed+in_ok-push+in-Heap-1 w ↦
-          (let ranks = w.in_ok-ranks.ensures.ok ∙ ap rising (w.deref.ensures.value ∙ w.in_ok-put_extended.ensures) ∙ rising-rising set up in
+      | then-met+in_ok-ranks+in_ok-push_renamed+in_ok-push+in-Heap-1 w ↦
+          (let ranks = w.in_ok-ranks.ensures.ok ∙ with_last prefix (get_or items i 0) up in
           record {
             items = ap (λ v. v.items) w.kept-is ∙ w.in_ok-push.ensures.items ∙ ap (λ l. l ++ get_or items i 0 ∷ []) inv.items ∙ kept_more (λ item. passes (prefix ++ item ∷ [])) items i true here (is ∙ w.if-met.true);
             found = w.found-is ∙ w.in_ok-push_renamed.ensures
                 ∙ (λ k. c.loop-place.found ++ record { set = rising (map (λ number. get_or (w.items.ensures k) number 0) (ranks k)); count = count k } ∷ [])
                 ∙ found_more decode passes prefix items i true c.args.found.now c.loop-place.found here (is ∙ w.if-met.true) inv.found;
           })
-      | then-met+in_ok-put_extended+in_ok-ranks+in_ok-push_renamed+in_ok-push+in-Inline-1 w ↦
-          (let ranks = w.in_ok-ranks.ensures.ok ∙ ap rising (w.deref.ensures.value ∙ w.in_ok-put_extended.ensures) ∙ rising-rising set up in
+      | then-met+in_ok-ranks+in_ok-push_renamed+in_ok-push+in-Inline-1 w ↦
+          (let ranks = w.in_ok-ranks.ensures.ok ∙ with_last prefix (get_or items i 0) up in
           record {
             items = ap (λ v. v.items) w.kept-is ∙ w.in_ok-push.ensures.items ∙ ap (λ l. l ++ get_or items i 0 ∷ []) inv.items ∙ kept_more (λ item. passes (prefix ++ item ∷ [])) items i true here (is ∙ w.if-met.true);
             found = w.found-is ∙ w.in_ok-push_renamed.ensures

@@ -35,9 +35,9 @@ list_is c =
     c.items-items.ensures.items ∙ items_read c.args.sets.now c.lists.result.now c.loop-number.number c.index-lists-number.result c.lists.ensures (inside c) c.index-lists-number.is
     ∙ sym (ap (λ (group : Group). group.items) (same c))
 
-prefix_is : (c : After-items-items) → c.items-prefix.result.now ≡ (get_or (groups c) (at c) no_group).prefix
+prefix_is : (c : After-items-items) → c.index-prefixes-number.result ≡ (get_or (groups c) (at c) no_group).prefix
 prefix_is c =
-    c.items-prefix.ensures.items ∙ prefix_read c.args.sets.now c.prefixes.result.now c.loop-number.number c.index-prefixes-number.result c.prefixes.ensures (inside c) c.index-prefixes-number.is
+    prefix_read c.args.sets.now c.prefixes.result.now c.loop-number.number c.index-prefixes-number.result c.prefixes.ensures (inside c) c.index-prefixes-number.is
     ∙ sym (ap (λ (group : Group). group.prefix) (same c))
 
 pub split_at-requires : goal.split_at-requires
@@ -61,7 +61,7 @@ pub with_items-requires-clause-items : goal.with_items-requires-clause-items
 with_items-requires-clause-items c =
     let coding = c.args.coded.now in
     subst IsRising (sym (c.deref.ensures.value ∙ c.in_ok-frequent.ensures.items))
-    (filter_rises (λ item. is_frequent coding.baskets coding.minimum (c.items-prefix.result.now ++ item ∷ [])) c.items-items.result.now (subst IsRising (sym c.items-items.ensures.items) c.items-items.ensures.rising))
+    (filter_rises (λ item. is_frequent coding.baskets coding.minimum (c.index-prefixes-number.result ++ item ∷ [])) c.items-items.result.now (subst IsRising (sym c.items-items.ensures.items) c.items-items.ensures.rising))
 
 pub loop-number-preserved : goal.loop-number-preserved
 loop-number-preserved c =
@@ -78,7 +78,7 @@ loop-number-preserved c =
       rest = c.split_at.ensures.back ∙ ap (λ n. drop n c.loop-number.rest.now) (ap length (list_is before))
           ∙ counts_rest all number no_group (below before) (support_of coding.baskets) c.loop-number.rest.now c.loop-number.invariant.rest
           ∙ ap (λ n. map (support_of coding.baskets) (sets_of (drop n all))) next;
-      level = c.in_ok-level.ensures ∙ (λ i. c.loop-number.invariant.level i ++ filter has_items (record { prefix = prefix i; items = (c.deref.ensures.value ∙ are) i } ∷ []))
+      level = c.in_ok-level.ensures ∙ (λ i. c.loop-number.invariant.level i ++ filter has_items (record { prefix = (c.items.ensures.items ∙ prefix) i; items = (c.deref.ensures.value ∙ are) i } ∷ []))
           ∙ kept_next all number no_group (below before) passes ∙ ap (λ n. kept passes (take n all)) next;
       found = found_next all number no_group (below before) (λ set. decoded_set coding.items (counted coding.baskets set)) passes c.args.found.now c.loop-number.found c.add_extensions.new.found c.loop-number.invariant.found
           (c.in_ok-frequent.ensures.found ∙ (λ i. c.loop-number.found ++ decoded_sets coding (filter passes (extend (prefix i) (items i)))))

@@ -1,4 +1,4 @@
-use Rattle.std.proofs.Common.{◌≡◌, ◌<◌, ◌++◌, length, sym, ◌∙◌, subst, arith}
+use Rattle.std.proofs.Common.{◌≡◌, ◌<◌, ◌++◌, length, sym, ap, ◌∙◌, subst, arith}
 use Rattle.std.specs.Cmp.Lexicographic.{slice_cmp}
 use Rattle.std.specs.List.{AllWithin}
 use Rattle.std.specs.Ordering.{nat_cmp}
@@ -12,7 +12,7 @@ loop-at-preserved-in-Less c =
     let key = c.args.front.now ++ c.args.rest.now in
     let at = c.in-Some.at in
     let below : at < length sets = omega (arith, c.loop-at.invariant.within, c.in-Some.ensures.before) in
-    let less = read_at sets key at c.index-sets-at.result Less below c.index-sets-at.is (sym c.compare.ensures ∙ c.in-Less.is) in
+    let less = read_at sets key at c.index-sets-at.result Less below c.index-sets-at.is (sym (c.compare_parts.ensures ∙ ap (λ set. slice_cmp nat_cmp set key) c.items.ensures.items) ∙ c.in-Less.is) in
     record {
       begun = omega (arith, below, c.go_after.ensures.start);
       within = omega (arith, c.loop-at.invariant.within, c.go_after.ensures.end);
@@ -26,7 +26,7 @@ loop-at-preserved c =
     let key = c.args.front.now ++ c.args.rest.now in
     let at = c.in-Some.at in
     let below : at < length sets = omega (arith, c.loop-at.invariant.within, c.in-Some.ensures.before) in
-    let more = read_at sets key at c.index-sets-at.result Greater below c.index-sets-at.is (sym c.compare.ensures ∙ c.in-Greater.is) in
+    let more = read_at sets key at c.index-sets-at.result Greater below c.index-sets-at.is (sym (c.compare_parts.ensures ∙ ap (λ set. slice_cmp nat_cmp set key) c.items.ensures.items) ∙ c.in-Greater.is) in
     record {
       begun = omega (arith, c.loop-at.invariant.begun, c.go_before.ensures.start);
       within = omega (arith, below, c.go_before.ensures.end);
@@ -40,13 +40,13 @@ returns-in-Equal-clause-found c =
     let key = c.args.front.now ++ c.args.rest.now in
     let below : c.in-Some.at < length sets = omega (arith, c.loop-at.invariant.within, c.in-Some.ensures.before) in
     stands sets key c.in-Some.at c.requires.sorted below
-    (read_at sets key c.in-Some.at c.index-sets-at.result Equal below c.index-sets-at.is (sym c.compare.ensures ∙ c.in-Equal.is))
+    (read_at sets key c.in-Some.at c.index-sets-at.result Equal below c.index-sets-at.is (sym (c.compare_parts.ensures ∙ ap (λ set. slice_cmp nat_cmp set key) c.items.ensures.items) ∙ c.in-Equal.is))
 
 pub returns-in-Equal-clause-place : goal.returns-in-Equal-clause-place
 returns-in-Equal-clause-place c =
     let sets = c.args.sets.now in
     let below : c.in-Some.at < length sets = omega (arith, c.loop-at.invariant.within, c.in-Some.ensures.before) in
-    stands_there sets (c.args.front.now ++ c.args.rest.now) c.index-sets-at.result c.in-Some.at below c.index-sets-at.is (sym c.compare.ensures ∙ c.in-Equal.is)
+    stands_there sets (c.args.front.now ++ c.args.rest.now) c.index-sets-at.result c.in-Some.at below c.index-sets-at.is (sym (c.compare_parts.ensures ∙ ap (λ set. slice_cmp nat_cmp set (c.args.front.now ++ c.args.rest.now)) c.items.ensures.items) ∙ c.in-Equal.is)
 
 pub returns-clause-found : goal.returns-clause-found
 returns-clause-found c =

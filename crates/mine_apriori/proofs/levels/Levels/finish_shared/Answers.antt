@@ -1,4 +1,4 @@
-use Rattle.std.proofs.Common.{◌++◌, ◌∷◌, [], length, ap, ◌∙◌, arith}
+use Rattle.std.proofs.Common.{length, ap, ◌∙◌, arith}
 use Rattle.mine_apriori.specs.Levels.{asked_of}
 use Rattle.mine_apriori.proofs.LevelsLemmas.{found_as_many, one_class_once}
 use Rattle.mine_apriori.proofs.levels.Levels.finish_shared.Goals as goal
@@ -6,8 +6,7 @@ use Rattle.mine_apriori.proofs.levels.Levels.finish_shared.Goals as goal
 pub of_classes_shared-requires-after_bounds : goal.of_classes_shared-requires-after_bounds
 of_classes_shared-requires-after_bounds g c κs within =
     let knows = c.self.invariant.1 in
-    one_class_once c.self.inside.coded.now c.self.invariant.0 c.self.inside.size knows.some (ap (λ s. asked_of s.coding s.size) c.self.view_is ∙ c.requires) c.self.inside.found knows.found_all _
-    (c.in_ok-push.ensures.items ∙ ap (λ l. l ++ c.self.inside.found ∷ []) c.in_ok-classes.ensures.items)
+    one_class_once c.self.inside.coded.now c.self.invariant.0 c.self.inside.size knows.some (ap (λ s. asked_of s.coding s.size) c.self.view_is ∙ c.requires) c.self.inside.found knows.found_all _ c.in_ok-classes.ensures.items
 
 pub returns-clause-within : goal.returns-clause-within
 returns-clause-within g c =
