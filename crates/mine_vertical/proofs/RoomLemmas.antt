@@ -1,9 +1,9 @@
 -- What a room keeps.
-use Rattle.std.proofs.Common.{◌≡◌, ℕ, ◌+◌, ◌<◌, List, [], ◌∷◌, ◌++◌, length, get_or, set, take, sym, ap, ◌∙◌, subst, arith, length-append}
+use Rattle.std.proofs.Common.{◌≡◌, ℕ, ◌<◌, List, length, get_or, set, sym, ap, ◌∙◌, subst, arith}
 use Rattle.std.specs.declared.alloc.Global.{Global}
 use Rattle.std.specs.declared.vec.Vec.{Vec}
 use Rattle.std.specs.List.{HoldsAt}
-use Rattle.std.proofs.lemmas.List.{get_or-set_other, get_or-set_same, get_or-take, get_or_append_left, length-set, length-take-le}
+use Rattle.std.proofs.lemmas.List.{get_or-set_other, get_or-set_same, length-set}
 use Rattle.mine_rows.specs.declared.marks.Marks.{Marks}
 use Rattle.mine_vertical.specs.declared.siblings.Siblings.{Siblings}
 use Rattle.mine_vertical.specs.declared.search_scratch.SearchScratch.{SearchScratch}
@@ -28,16 +28,3 @@ module _ {R : Type 0} (at_rest : List ℕ → Marks → Type 0) (base : Siblings
     where
       long : length after.marks.items ≡ length before.marks.items
       long = ap length are ∙ length-set before.marks.items base.marks marks
-
-  -- marks are added beside its own
-  module _ (marks : Marks) (are : after.marks.items ≡ take (base.marks + 1) before.marks.items ++ marks ∷ []) where
-    front : length (take (base.marks + 1) before.marks.items) ≡ base.marks + 1
-    front = length-take-le (base.marks + 1) before.marks.items (omega (arith, serves.0))
-
-    long : length after.marks.items ≡ base.marks + 2
-    long = omega (arith, ap length are, length-append (take (base.marks + 1) before.marks.items) (marks ∷ []), front)
-
-    same : (place : ℕ) (d : Marks) → place < base.marks + 1 → get_or after.marks.items place d ≡ get_or before.marks.items place d
-    same place d low = ap (λ l. get_or l place d) are ∙ get_or_append_left (take (base.marks + 1) before.marks.items) (marks ∷ []) d place (omega (arith, low, front)) ∙ get_or-take (base.marks + 1) before.marks.items place d low
-    }
-    )
