@@ -1,5 +1,5 @@
 //! The texts and the names in a record.
-ghost use Rattle.std.specs.Prelude.{◌≡◌, ◌≤◌, drop, map, fold, MatchOption, IfOk, IfErr, IfSome, true, false, ℕ};
+ghost use Rattle.std.specs.Prelude.{◌≡◌, drop, map, fold, MatchOption, IfOk, IfErr, IfSome, true, false};
 ghost use Rattle.std.specs.Str.{is_utf8};
 ghost use Rattle.csv.specs.Records.{fields_of};
 ghost use Rattle.basket_csv.specs.Csv.{field_in, is_text, names_of};

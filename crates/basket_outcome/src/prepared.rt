@@ -67,11 +67,11 @@ impl PreparedReport {
             }
             Ask::Sets => PreparedReport::of_sets(alloc, frequent.into_sets(), style, workers),
             Ask::Closed => {
-                let sets = closed(alloc, &frequent)?;
+                let sets = closed(rt, alloc, &frequent, workers)?;
                 PreparedReport::of_sets(alloc, sets, style, workers)
             }
             Ask::Maximal => {
-                let sets = maximal(alloc, &frequent)?;
+                let sets = maximal(rt, alloc, &frequent, workers)?;
                 PreparedReport::of_sets(alloc, sets, style, workers)
             }
             Ask::Rules(confidence) => {

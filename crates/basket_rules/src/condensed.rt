@@ -6,23 +6,36 @@ ghost use Rattle.basket_rules.specs.Consistency.{IsConsistent};
 use crate::covered::{Supersets, covered};
 use basket_core::{CountedSets, Frequent};
 use std::alloc::{AllocError, Global};
+use std::thread::Threads;
 
-/// The frequent sets of which no proper superset has the same support, in report order.
-pub fn closed(alloc: Global, frequent: &Frequent) -> Result<CountedSets, AllocError>
+/// The frequent sets of which no proper superset has the same support, in report order,
+/// by up to this many workers, at most 64.
+pub fn closed<R: Threads + Sync>(
+    rt: &R,
+    alloc: Global,
+    frequent: &Frequent,
+    workers: u32,
+) -> Result<CountedSets, AllocError>
     ensures baskets { IfOk result (λ closed. AreClosed frequent.now closed) }
     ensures lists { IfOk result (λ closed. IsConsistent frequent.now.sets → closed ≡ closed_in frequent.now.sets) }
 {
     let sets = frequent.sets();
-    let marks = covered(alloc, sets, Supersets::SameCount)?;
+    let marks = covered(rt, alloc, sets, Supersets::SameCount, workers)?;
     sets.unmarked(alloc, &marks)
 }
 
-/// The frequent sets of which no proper superset is frequent, in report order.
-pub fn maximal(alloc: Global, frequent: &Frequent) -> Result<CountedSets, AllocError>
+/// The frequent sets of which no proper superset is frequent, in report order, by up to this
+/// many workers, at most 64.
+pub fn maximal<R: Threads + Sync>(
+    rt: &R,
+    alloc: Global,
+    frequent: &Frequent,
+    workers: u32,
+) -> Result<CountedSets, AllocError>
     ensures baskets { IfOk result (λ maximal. AreMaximal frequent.now maximal) }
     ensures lists { IfOk result (λ maximal. IsConsistent frequent.now.sets → maximal ≡ maximal_in frequent.now.sets) }
 {
     let sets = frequent.sets();
-    let marks = covered(alloc, sets, Supersets::All)?;
+    let marks = covered(rt, alloc, sets, Supersets::All, workers)?;
     sets.unmarked(alloc, &marks)
 }

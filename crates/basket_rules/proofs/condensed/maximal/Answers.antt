@@ -8,7 +8,7 @@ use Rattle.basket_rules.proofs.theory.Condensed.{maximal_of_baskets}
 use Rattle.basket_rules.proofs.condensed.maximal.Goals as goal
 
 pub returns-clause-lists : goal.returns-clause-lists
-returns-clause-lists c =
+returns-clause-lists g c =
     let listing = c.args.frequent.now in
     let list = c.sets-sets.result.now in
     IfOk-weaker c.unmarked.result (AreUnmarked list c.deref.result.now) (λ kept. IsConsistent listing.sets → kept ≡ maximal_in listing.sets)
@@ -16,6 +16,6 @@ returns-clause-lists c =
     (subst (λ (marks : List Bool). AreUnmarked list marks kept) c.deref.ensures.value so)) c.unmarked.ensures
 
 pub returns-clause-baskets : goal.returns-clause-baskets
-returns-clause-baskets c =
+returns-clause-baskets g c =
     let listing = c.args.frequent.now in
-    IfOk-weaker c.unmarked.result (λ kept. IsConsistent listing.sets → kept ≡ maximal_in listing.sets) (AreMaximal listing) (maximal_of_baskets listing) (returns-clause-lists c)
+    IfOk-weaker c.unmarked.result (λ kept. IsConsistent listing.sets → kept ≡ maximal_in listing.sets) (AreMaximal listing) (maximal_of_baskets listing) (returns-clause-lists g c)
