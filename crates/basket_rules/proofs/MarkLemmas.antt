@@ -2,7 +2,6 @@
 use Rattle.std.proofs.Common.{◌≡◌, ℕ, ◌<◌, ◌≤◌, Bool, true, false, not, eqb, ◌&&◌, List, length, get_or, sym, ap, ◌∙◌, subst, inl, inr, arith}
 use Rattle.std.specs.List.{list_all}
 use Rattle.std.proofs.lemmas.Bool.{cases_Bool, and_parts, and_from, eqb-true, eq-eqb, true≢false, false_from_ne_true}
-use Rattle.basket_core.specs.Listing.{Listing}
 use Rattle.basket_sets.specs.declared.counted.Counted.{Counted}
 use Rattle.basket_sets.specs.Itemset.{contains, with_item, without}
 use Rattle.basket_sets.proofs.theory.Members.{Contains-from_Member}
@@ -118,20 +117,12 @@ module _ (list : List Counted) (consistent : IsConsistent list) where
 
 -- ---- all sets
 
-all_closed : (list : List Counted) (marks : List Bool) (kept : List Counted) → AreMarks list SameCount (IsBetween 0 (length list)) marks
+pub all_closed : (list : List Counted) (marks : List Bool) (kept : List Counted) → AreMarks list SameCount (IsBetween 0 (length list)) marks
     → AreUnmarked list marks kept → IsConsistent list → kept ≡ closed_in list
 all_closed list marks kept marked so consistent = so (is_closed_in list) (λ k d below.
     ap (is_closed_in list) (sym (entry_is list k d below)) ∙ closed_at list consistent k (get_or marks k false) below (marked.each k below))
 
-all_maximal : (list : List Counted) (marks : List Bool) (kept : List Counted) → AreMarks list All (IsBetween 0 (length list)) marks
+pub all_maximal : (list : List Counted) (marks : List Bool) (kept : List Counted) → AreMarks list All (IsBetween 0 (length list)) marks
     → AreUnmarked list marks kept → IsConsistent list → kept ≡ maximal_in list
 all_maximal list marks kept marked so consistent = so (is_maximal_in list) (λ k d below.
     ap (is_maximal_in list) (sym (entry_is list k d below)) ∙ maximal_at list consistent k (get_or marks k false) below (marked.each k below))
-
-pub are_closed : (listing : Listing) (list : List Counted) (marks : List Bool) (kept : List Counted) → list ≡ listing.sets
-    → AreMarks list SameCount (IsBetween 0 (length list)) marks → AreUnmarked list marks kept → IsConsistent listing.sets → kept ≡ closed_in listing.sets
-are_closed listing list marks kept e marked so = subst (λ l. IsConsistent l → kept ≡ closed_in l) e (all_closed list marks kept marked so)
-
-pub are_maximal : (listing : Listing) (list : List Counted) (marks : List Bool) (kept : List Counted) → list ≡ listing.sets
-    → AreMarks list All (IsBetween 0 (length list)) marks → AreUnmarked list marks kept → IsConsistent listing.sets → kept ≡ maximal_in listing.sets
-are_maximal listing list marks kept e marked so = subst (λ l. IsConsistent l → kept ≡ maximal_in l) e (all_maximal list marks kept marked so)

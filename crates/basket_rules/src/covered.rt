@@ -48,8 +48,24 @@ struct Covering<'a> {
 const LEAST: usize = 8_192;
 
 /// Marks the sets of the list of which some superset with one item more is in the list, and
-/// matters. About this many workers, at most 64, go over some supersets each.
-pub fn covered<R: Threads + Sync>(
+/// matters.
+pub fn covered(
+    alloc: Global,
+    sets: &CountedSets,
+    supersets: Supersets,
+) -> Result<Vec<bool>, AllocError>
+    ensures { IfOk result (λ marks. AreMarks sets.now supersets (IsBetween 0 (length sets.now)) marks.items) }
+{
+    let covering = Covering {
+        alloc,
+        sets,
+        supersets,
+    };
+    covered_between(covering, 0, sets.len())
+}
+
+/// The same by about this many workers, at most 64, each of which goes over some supersets.
+pub fn covered_shared<R: Threads + Sync>(
     rt: &R,
     alloc: Global,
     sets: &CountedSets,
@@ -63,13 +79,13 @@ pub fn covered<R: Threads + Sync>(
         sets,
         supersets,
     };
-    covered_shared(rt, covering, 0, sets.len(), workers.clamp(1, 64).ilog2())
+    covered_range(rt, covering, 0, sets.len(), workers.clamp(1, 64).ilog2())
 }
 
 /// Goes over the supersets from a place up to another. They are halved this many times, and a
 /// thread goes over each of the pieces.
 #[cycle(halves)]
-fn covered_shared<R: Threads + Sync>(
+fn covered_range<R: Threads + Sync>(
     rt: &R,
     covering: Covering<'_>,
     from: usize,
@@ -81,17 +97,17 @@ fn covered_shared<R: Threads + Sync>(
     ensures { IfOk result (λ marks. AreMarks covering.entry.sets.now covering.entry.supersets (IsBetween from end) marks.items) }
 {
     if times == 0 || end - from < LEAST {
-        return covered_by(covering, from, end);
+        return covered_between(covering, from, end);
     }
     let middle = from + (end - from) / 2;
-    let (marks, others) = covered_halves(rt, covering, from, middle, end, times);
+    let (marks, others) = both_halves(rt, covering, from, middle, end, times);
     let mut marks = marks?;
     add_marks(&mut marks, &others?);
     Ok(marks)
 }
 
 #[cycle(halves)]
-fn covered_halves<R: Threads + Sync>(
+fn both_halves<R: Threads + Sync>(
     rt: &R,
     covering: Covering<'_>,
     from: usize,
@@ -116,7 +132,7 @@ fn covered_halves<R: Threads + Sync>(
             requires { IsSync R.row × (0 < times) × (middle ≤ end) × (end ≤ length sets.now) }
             ensures { IfOk result (λ marks. AreMarks sets.entry.now supersets (IsBetween middle end) marks.items) }
         {
-            covered_shared(
+            covered_range(
                 rt,
                 Covering {
                     alloc,
@@ -132,7 +148,7 @@ fn covered_halves<R: Threads + Sync>(
             requires { IsSync R.row × (0 < times) × (from ≤ middle) × (middle ≤ length sets.now) }
             ensures { IfOk result (λ marks. AreMarks sets.entry.now supersets (IsBetween from middle) marks.items) }
         {
-            covered_shared(
+            covered_range(
                 rt,
                 Covering {
                     alloc,
@@ -162,7 +178,7 @@ fn add_marks(marks: &mut [bool], others: &[bool])
 }
 
 /// Goes over the supersets from a place up to another, those of one size together.
-fn covered_by(covering: Covering<'_>, from: usize, end: usize) -> Result<Vec<bool>, AllocError>
+fn covered_between(covering: Covering<'_>, from: usize, end: usize) -> Result<Vec<bool>, AllocError>
     requires ordered { from ≤ end }
     requires within { end ≤ length covering.sets.now }
     ensures { IfOk result (λ marks. AreMarks covering.entry.sets.now covering.entry.supersets (IsBetween from end) marks.items) }

@@ -15,18 +15,13 @@ fn answers<R: Threads + Sync>(rt: &R, alloc: Global) -> anyhow::Result<String> {
     let plan = Plan::of(Ask::Sets, Minimum::Count(2));
     let (frequent, _) = mine(rt, alloc, &database, &plan, &Open)?;
     let mut lines = String::new(alloc);
-    add_rules(rt, alloc, &frequent, &mut lines)?;
+    add_rules(alloc, &frequent, &mut lines)?;
     add_sets(alloc, &frequent, &mut lines)?;
     Ok(lines)
 }
 
-fn add_rules<R: Threads + Sync>(
-    rt: &R,
-    alloc: Global,
-    frequent: &Frequent,
-    lines: &mut String,
-) -> anyhow::Result<()> {
-    let closed = closed(rt, alloc, frequent, 1)?.len();
+fn add_rules(alloc: Global, frequent: &Frequent, lines: &mut String) -> anyhow::Result<()> {
+    let closed = closed(alloc, frequent)?.len();
     writeln!(
         lines,
         "{closed} of {} sets are closed",

@@ -4,8 +4,8 @@ use Rattle.std.proofs.lemmas.List.{take_all, take-append-le}
 use Rattle.basket_rules.specs.Covered.{AreMarks, IsBetween}
 use Rattle.basket_rules.proofs.covered.+halves.Goals as goal
 
-pub covered_shared-returns : goal.covered_shared-returns
-covered_shared-returns g t c =
+pub covered_range-returns : goal.covered_range-returns
+covered_range-returns g t c =
     let list = c.args.covering.sets.now in
     let supersets = c.args.covering.supersets in
     let from = c.args.from in
@@ -13,8 +13,8 @@ covered_shared-returns g t c =
     let middle = from + (end - from) / 2 in
     let vec = c.in_ok-marks.marks in
     let new = c.add_marks.new.marks in
-    let first : AreMarks list supersets (IsBetween from middle) vec.items = subst (λ r. IfOk r (λ marks. AreMarks list supersets (IsBetween from middle) marks.items)) c.in_ok-marks.was c.covered_halves-marks.ensures.marks in
-    let later : AreMarks list supersets (IsBetween middle end) c.in_ok-others.field-0.items = subst (λ r. IfOk r (λ marks. AreMarks list supersets (IsBetween middle end) marks.items)) c.in_ok-others.was c.covered_halves-marks.ensures.others in
+    let first : AreMarks list supersets (IsBetween from middle) vec.items = subst (λ r. IfOk r (λ marks. AreMarks list supersets (IsBetween from middle) marks.items)) c.in_ok-marks.was c.both_halves-marks.ensures.marks in
+    let later : AreMarks list supersets (IsBetween middle end) c.in_ok-others.field-0.items = subst (λ r. IfOk r (λ marks. AreMarks list supersets (IsBetween middle end) marks.items)) c.in_ok-others.was c.both_halves-marks.ensures.others in
     let all : AreMarks list supersets (IsBetween from end) new = c.add_marks.ensures list supersets from middle end
     (subst (AreMarks list supersets (IsBetween from middle)) (sym c.deref_mut.ensures.value) first) (subst (AreMarks list supersets (IsBetween middle end)) (sym c.deref.ensures.value) later) in
     let before = first.long in

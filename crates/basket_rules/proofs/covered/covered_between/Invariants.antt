@@ -1,6 +1,6 @@
 use Rattle.std.proofs.Common.{◌-◌, ◌≤◌}
 use Rattle.basket_rules.specs.Covered.{AreMarks, IsBetween}
-use Rattle.basket_rules.proofs.covered.covered_by.Given as goal
+use Rattle.basket_rules.proofs.covered.covered_between.Given as goal
 
 abbrev pub invariant-loop-start : goal.invariant-loop-start
 invariant-loop-start l = record {

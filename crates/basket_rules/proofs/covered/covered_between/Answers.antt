@@ -1,7 +1,7 @@
 use Rattle.std.proofs.Common.{◌≡◌, ◌++◌, ◌∙◌, length, drop, take, sym, subst, arith}
 use Rattle.std.proofs.lemmas.List.{take_all, take-append-le}
 use Rattle.basket_rules.specs.Covered.{AreMarks, IsBetween}
-use Rattle.basket_rules.proofs.covered.covered_by.Goals as goal
+use Rattle.basket_rules.proofs.covered.covered_between.Goals as goal
 
 pub loop-start-preserved : goal.loop-start-preserved
 loop-start-preserved c =
