@@ -1,4 +1,5 @@
 //! Each miner beside the plain one.
+use super::gates::Watch;
 use super::*;
 use basket_checks::plain_sets;
 
@@ -32,7 +33,7 @@ fn assert_plain<R: Threads + Sync + Abort>(
                 .with_miner(miner)
                 .with_workers(workers)
                 .with_pieces(pieces);
-            let (mined, work) = mine(&NoRandomBytes(rt), alloc, &database, &plan, &Open)?;
+            let (mined, work) = mine(rt, alloc, &database, &plan, &Watch::Nothing)?;
             let sets = mined.sets().unpacked(alloc)?;
             assert!(rt;
                 sets == plain,
@@ -81,7 +82,7 @@ fn each_miner_counts_its_work(rt: HostRuntime) -> Result<(), Fail> {
             let mut sums = (0u64, 0u64, 0u64);
             for &(_, miner) in MINERS {
                 let plan = plan.with_miner(miner);
-                let (_, work) = mine(&NoRandomBytes(&rt), alloc, &database, &plan, &Open)?;
+                let (_, work) = mine(&rt, alloc, &database, &plan, &Watch::Nothing)?;
                 sums.0 = sums.0.saturating_add(work.candidates);
                 sums.1 = sums.1.saturating_add(work.joins);
                 sums.2 = sums.2.saturating_add(work.trees);
