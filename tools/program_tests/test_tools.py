@@ -120,6 +120,26 @@ class Tools(unittest.TestCase):
         )
         self.assertEqual((report.passed, report.failed), (2, 0))
 
+    def test_numbers_of_axioms_that_a_page_has_not_are_told(self) -> None:
+        report = Report()
+        lines = (
+            "== basket_cli",
+            "axioms libc: libc::close, libc::read, ... (31 of the 393 declared)",
+            "axioms os: os::load, os::store (11 of the 20 declared)",
+            "rt: basket_cli proved",
+        )
+        for line in lines:
+            report.take(f"{line}\n")
+        rows = (
+            ("31 functions of `libc` and 11 of `os`", ""),
+            ("30 functions of `libc` and 11 of `os`", "basket_cli rests on 31 of libc"),
+            ("", "basket_cli rests on 11 of os, 31 of libc"),
+        )
+        for page, wanted in rows:
+            with self.subTest(page=page):
+                self.assertEqual(report.untold("basket_cli", page), wanted)
+        self.assertEqual(report.untold("basket_look", ""), "")
+
     def test_a_report_over_standard_input_or_a_file_is_checked_by_other_code(
         self,
     ) -> None:
