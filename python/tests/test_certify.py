@@ -175,7 +175,8 @@ def test_odd_baskets_are_read_or_refused_as_the_program_reads_or_refuses_them() 
     for letters, layout in layouts * 100:
         content = "".join(chance.choices(letters, k=chance.randint(0, 30))).encode()
         content += b"\xff" * (chance.random() < 0.05)
-        question = {"ask": chance.choice(ASKS[:4]), "minimum": "2", **layout}
+        question: Question = {"minimum": "2", **layout}
+        question["ask"] = chance.choice(ASKS[:4])
         try:
             report = run(words_of(question), content)
         except InputError:
