@@ -4,7 +4,7 @@ PREFIX ?= $(HOME)/.local
 PROGRAM := crates/basket_cli/out/basket_cli
 STAGES := crates/basket_bench/out/basket_bench
 YARDSTICK := bench/out/yardstick
-TESTS := crates/basket_checks/% crates/mine_checks/% crates/basket_runs/%
+TESTS := crates/basket_checks/% crates/mine_checks/% crates/mine_runs/% crates/basket_runs/%
 SOURCES := crates.txt $(filter-out $(TESTS),$(shell find crates -name out -prune -o -type f \( -name '*.rt' -o -name '*.antt' \) -print))
 PLACE := $(DESTDIR)$(PREFIX)
 

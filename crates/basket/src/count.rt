@@ -9,7 +9,7 @@ ghost use Rattle.mine_sets.specs.Asked.{asked_of};
 
 use crate::workers::counting_workers;
 use basket_core::{Counted, CountedSets, Itemset, Sink, Source};
-use basket_csv::Names;
+use basket_names::Names;
 use basket_outcome::{Contents, PreparedReport, RunFault, read_asked, style_of};
 use basket_parts::CombinedCounts;
 use basket_plan::CountPlan;

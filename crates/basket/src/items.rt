@@ -9,8 +9,9 @@ ghost use Rattle.basket.specs.Engine.{MakesReport};
 
 use crate::workers::plan_for;
 use basket_core::{Source, add_counts};
-use basket_csv::{Dialect, Names, count_baskets};
+use basket_csv::{Dialect, count_baskets};
 use basket_mining::cutting;
+use basket_names::Names;
 use basket_outcome::{PreparedReport, RunFault};
 use basket_plan::{Ask, Form, Plan};
 use basket_read::{ItemCounts, count_fimi_shared};

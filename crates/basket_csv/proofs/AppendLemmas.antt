@@ -7,15 +7,15 @@ use Rattle.std.proofs.lemmas.List.Sums.{fold-append}
 use Rattle.basket_csv.specs.declared.pairs.Pairs.{Pairs}
 use Rattle.basket_csv.specs.Csv.{gather, names_of_pairs, pairs_of}
 use Rattle.basket_csv.specs.Named.{are_named}
-use Rattle.basket_csv.specs.Names.{are_among, in_order, is_among, number_in, with_name}
+use Rattle.basket_names.specs.Names.{are_among, in_order, is_among, number_in, with_name}
 use Rattle.basket_csv.specs.Pairs.{HasPairs, HasPartPairs, added_at, numbers_of}
 use Rattle.basket_csv.specs.Part.{InParts, Rows}
 use Rattle.basket_csv.proofs.GroupLemmas.{gathered_apart, groups_more, id_stays, ids_of, ids_with, with_group}
 use Rattle.basket_csv.proofs.LawLemmas.{Group, Pair}
 use Rattle.basket_csv.proofs.NamedLemmas.{pairs_are_numbered}
-use Rattle.basket_csv.proofs.NamesLemmas.{among_all, among_with}
+use Rattle.basket_names.proofs.theory.Names.{among_all, among_with}
 use Rattle.basket_csv.proofs.PairLemmas.{baskets_of, groups_stay, pairs_both}
-use Rattle.basket_csv.proofs.TogetherLemmas.{add_in_order, numbers_at, numbers_below}
+use Rattle.basket_names.proofs.theory.Together.{add_in_order, numbers_at, numbers_below}
 
 -- each name of a group is among those of all groups
 names_at : (names : List (List ℕ)) (groups : List Group) (at : ℕ) → at < length groups → are_named names (baskets_of groups) ≡ true → are_among names (get_or groups at ([], [])).1 ≡ true

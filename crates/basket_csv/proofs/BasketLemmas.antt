@@ -16,8 +16,8 @@ use Rattle.basket_csv.specs.Baskets.{HasRead}
 use Rattle.basket_csv.specs.RecordCollector.{Start}
 use Rattle.basket_csv.specs.Csv.{is_text, fields_before, names_in, weight_of, weight_fault, basket_fault, all_names, basket_of, baskets_in}
 use Rattle.basket_read.specs.GatheredBaskets.{HasGathered}
-use Rattle.basket_csv.specs.Names.{with_name, in_order, number_in, is_among, are_among}
-use Rattle.basket_csv.proofs.NamesLemmas.{numbers_stay, all_among}
+use Rattle.basket_names.specs.Names.{with_name, in_order, number_in, is_among, are_among}
+use Rattle.basket_names.proofs.theory.Names.{numbers_stay, all_among}
 
 -- ---- one record more
 

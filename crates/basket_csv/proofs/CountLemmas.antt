@@ -8,9 +8,9 @@ use Rattle.basket_csv.specs.declared.counts.Counts.{Counts}
 use Rattle.basket_csv.specs.RecordCollector.{Start}
 use Rattle.basket_csv.specs.Counts.{HasCounts, count_of, line_of, lines_from}
 use Rattle.basket_csv.specs.Csv.{names_of, names_in, all_names}
-use Rattle.basket_csv.specs.Names.{with_name, in_order, number_in, is_among, are_among}
+use Rattle.basket_names.specs.Names.{with_name, in_order, number_in, is_among, are_among}
 use Rattle.basket_csv.proofs.BasketLemmas.{names_more, read_among}
-use Rattle.basket_csv.proofs.NamesLemmas.{numbers_stay}
+use Rattle.basket_names.proofs.theory.Names.{numbers_stay}
 
 -- ---- one record more
 

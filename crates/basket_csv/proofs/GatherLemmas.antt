@@ -20,7 +20,7 @@ use Rattle.basket_csv.specs.declared.part.RecordSize.{RecordSize}
 use Rattle.basket_csv.specs.declared.renumbered.RenumberedRecords.{RenumberedRecords}
 use Rattle.basket_csv.specs.Csv.{all_names, basket_of, field_in, names_in, positive, weight_of}
 use Rattle.basket_csv.specs.Field.{trimmed}
-use Rattle.basket_csv.specs.Names.{number_in}
+use Rattle.basket_names.specs.Names.{number_in}
 use Rattle.basket_csv.specs.Part.{InParts, Rows, size_of}
 use Rattle.basket_csv.specs.Renumbered.{AreRenumbered}
 

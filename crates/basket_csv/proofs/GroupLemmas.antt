@@ -6,10 +6,10 @@ use Rattle.std.proofs.lemmas.Bool.{both_ways, or_parts}
 use Rattle.std.proofs.lemmas.List.{map-append}
 use Rattle.std.proofs.lemmas.List.Sums.{fold-append}
 use Rattle.basket_csv.specs.Csv.{gather, with_pair}
-use Rattle.basket_csv.specs.Names.{is_among, number_in, with_name}
+use Rattle.basket_names.specs.Names.{is_among, number_in, with_name}
 use Rattle.basket_csv.specs.Pairs.{added_at, numbers_of}
 use Rattle.basket_csv.proofs.LawLemmas.{Distinct, Group, Pair, distinct_with, equal, other_way}
-use Rattle.basket_csv.proofs.NamesLemmas.{among_more, among_with, consed, equal_bytes, number_in_all, number_stays}
+use Rattle.basket_names.proofs.theory.Names.{among_more, among_with, consed, equal_bytes, number_in_all, number_stays}
 
 abbrev pub ids_of : List Group → List (List ℕ)
 ids_of groups = map (λ group. group.0) groups

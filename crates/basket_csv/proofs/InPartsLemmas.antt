@@ -7,12 +7,12 @@ use Rattle.std.proofs.lemmas.List.Sums.{fold-append}
 use Rattle.basket_csv.specs.declared.renumbered.RenumberedRecords.{RenumberedRecords}
 use Rattle.basket_csv.specs.declared.part.Part.{Part}
 use Rattle.basket_csv.specs.Csv.{names_in, weight_of, all_names}
-use Rattle.basket_csv.specs.Names.{with_name, in_order, number_in, are_among}
+use Rattle.basket_names.specs.Names.{with_name, in_order, number_in, are_among}
 use Rattle.basket_csv.specs.Part.{HasPart, InParts, Rows, size, size_of}
 use Rattle.basket_csv.specs.Renumbered.{AreRenumbered}
 use Rattle.basket_csv.proofs.BasketLemmas.{all_names_more, names_more, read_among}
-use Rattle.basket_csv.proofs.NamesLemmas.{numbers_stay, all_among}
-use Rattle.basket_csv.proofs.TogetherLemmas.{add_in_order, among_more_names, numbers_at, numbers_below}
+use Rattle.basket_names.proofs.theory.Names.{numbers_stay, all_among}
+use Rattle.basket_names.proofs.theory.Together.{add_in_order, among_more_names, numbers_at, numbers_below}
 
 module _ {A : Type 0} (has : A → Rows → Type 0) where
   -- one part more

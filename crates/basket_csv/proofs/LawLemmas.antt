@@ -9,8 +9,8 @@ use Rattle.std.proofs.lemmas.List.Sums.{fold-append}
 use Rattle.std.proofs.lemmas.Slice.Eq.{bytes_eq-Decides}
 use Rattle.basket_csv.specs.Csv.{with_pair, gather}
 use Rattle.basket_csv.specs.Laws.{names_with}
-use Rattle.basket_csv.specs.Names.{with_name, in_order, is_among}
-use Rattle.basket_csv.proofs.NamesLemmas.{among_all, consed, among_with, equal_bytes}
+use Rattle.basket_names.specs.Names.{with_name, in_order, is_among}
+use Rattle.basket_names.proofs.theory.Names.{among_all, consed, among_with, equal_bytes}
 
 abbrev pub Pair : Type 0
 Pair = List ℕ × List ℕ

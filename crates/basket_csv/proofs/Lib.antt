@@ -1,7 +1,4 @@
 mod OnLiterals
-mod NamesLemmas
-mod KeyLemmas
-mod RecentLemmas
 mod FieldLemmas
 mod LastLemmas
 mod MarkLemmas
@@ -16,7 +13,6 @@ mod LawLemmas
 mod GroupLemmas
 mod PairLemmas
 mod NamedLemmas
-mod TogetherLemmas
 mod InPartsLemmas
 mod GatherLemmas
 mod HalfLemmas

@@ -14,10 +14,10 @@ use Rattle.basket_read.specs.Fimi.{basket_of_numbers}
 use Rattle.basket_csv.specs.Csv.{names_in, weight_of, all_names, gather, names_of_pairs}
 use Rattle.basket_csv.specs.Laws.{names_with}
 use Rattle.basket_csv.specs.Named.{NamedBasket, are_named, has_all, named_weight_at, named_baskets, named_pairs, numbered, numbered_set, SupportIsByNames, NamedSupportsAddUp, BasketsAreNumbered, PairsAreNumbered, BasketSupportIsByNames, PairSupportIsByNames}
-use Rattle.basket_csv.specs.Names.{in_order, number_in, is_among, are_among}
+use Rattle.basket_names.specs.Names.{in_order, number_in, is_among, are_among}
 use Rattle.basket_csv.proofs.BasketLemmas.{read_among}
 use Rattle.basket_csv.proofs.LawLemmas.{by_id}
-use Rattle.basket_csv.proofs.NamesLemmas.{all_among, at_any}
+use Rattle.basket_names.proofs.theory.Names.{all_among, at_any}
 
 -- ---- names of equal numbers are equal
 

@@ -14,7 +14,7 @@ use Rattle.basket_read.specs.Fimi.{basket_of_numbers, is_nil}
 use Rattle.basket_csv.specs.declared.pairs.Pairs.{Pairs}
 use Rattle.basket_csv.specs.Csv.{field_in, is_text, pair_fault, pair_of, pairs_of, with_pair, gather, names_of_pairs}
 use Rattle.basket_csv.specs.Field.{trimmed}
-use Rattle.basket_csv.specs.Names.{with_name, in_order, number_in, are_among}
+use Rattle.basket_names.specs.Names.{with_name, in_order, number_in, are_among}
 use Rattle.basket_csv.specs.Row.{IsKnownPair}
 use Rattle.basket_csv.specs.Named.{NamedBasket, are_named}
 use Rattle.basket_csv.specs.Pairs.{HasPairs, added_at, numbers_of}
@@ -22,7 +22,7 @@ use Rattle.basket_csv.proofs.GroupLemmas.{groups_more, ids_more, one_pair, with_
 use Rattle.basket_csv.proofs.LawLemmas.{Group}
 use Rattle.basket_csv.proofs.NamedLemmas.{pairs_are_numbered}
 use Rattle.basket_csv.proofs.RowLemmas.{known_some}
-use Rattle.basket_csv.proofs.NamesLemmas.{numbers_stay, number_stays}
+use Rattle.basket_names.proofs.theory.Names.{numbers_stay, number_stays}
 
 -- ---- numbers that were added to a group
 

@@ -9,9 +9,9 @@ use Rattle.basket_read.specs.declared.fault.ReadFault.{ReadFault}
 use Rattle.basket_read.specs.declared.fault.ReadFault.TheVariants.{NotText}
 use Rattle.basket_read.specs.Fimi.{is_nil}
 use Rattle.basket_csv.specs.Field.{trimmed}
-use Rattle.basket_csv.specs.Names.{with_name, number_in, IsKnown, is_among}
+use Rattle.basket_names.specs.Names.{with_name, number_in, IsKnown, is_among}
 use Rattle.basket_csv.specs.Row.{IsKnownField}
-use Rattle.basket_csv.proofs.NamesLemmas.{among_with, number_in_all}
+use Rattle.basket_names.proofs.theory.Names.{among_with, number_in_all}
 use Rattle.basket_csv.specs.Csv.{field_in, is_text, names_of}
 
 -- ---- the field at a place

@@ -14,7 +14,7 @@ use Rattle.basket_csv.specs.declared.part.Part.{Part}
 use Rattle.basket_csv.specs.declared.pairs.Pairs.{Pairs}
 use Rattle.basket_csv.specs.RecordCollector.{Start}
 use Rattle.basket_csv.specs.Csv.{all_names, basket_of, baskets_in, baskets_said, pairs_of, with_names}
-use Rattle.basket_csv.specs.Names.{in_order, with_name}
+use Rattle.basket_names.specs.Names.{in_order, with_name}
 use Rattle.basket_csv.specs.Pairs.{HasPairs, HasPartPairs}
 use Rattle.basket_csv.specs.Part.{HasPart, InParts, Rows}
 use Rattle.basket_csv.specs.Shared.{HasRows}

@@ -7,7 +7,7 @@ use Rattle.basket_csv.specs.declared.baskets.Baskets.{Baskets}
 use Rattle.basket_csv.specs.RecordCollector.{Start}
 use Rattle.basket_csv.specs.Csv.{Named, all_names, baskets_in}
 use Rattle.basket_read.specs.GatheredBaskets.{AreGathered, HasGathered}
-use Rattle.basket_csv.specs.Names.{in_order}
+use Rattle.basket_names.specs.Names.{in_order}
 
 -- the names and the baskets are those of these records
 pub record HasRead (baskets : Baskets) (start : Start) (rows : List (List (List ℕ))) : Type 0 where

@@ -10,7 +10,7 @@ use Rattle.basket_csv.specs.declared.counts.Counts.{Counts}
 use Rattle.basket_csv.specs.RecordCollector.{Start}
 use Rattle.basket_csv.specs.Csv.{field_in, is_text, first_number, names_of, all_names, bytes_say}
 use Rattle.basket_csv.specs.Field.{trimmed}
-use Rattle.basket_csv.specs.Names.{in_order, number_in}
+use Rattle.basket_names.specs.Names.{in_order, number_in}
 
 -- the count of a record: the number that its first field writes, from 0 to the greatest weight of a database
 abbrev pub count_of : List (List ℕ) → Option ℕ

@@ -9,7 +9,7 @@ use Rattle.basket_read.specs.declared.fault.ReadFault.{ReadFault}
 use Rattle.basket_read.specs.declared.fault.ReadFault.TheVariants.{TooLong, NotText, ShortRecord, Weight}
 use Rattle.basket_read.specs.Fimi.{is_nil, or_else, basket_of_numbers, if_light, MOST_NUMBER, MOST_BYTES}
 use Rattle.basket_csv.specs.Field.{trimmed}
-use Rattle.basket_csv.specs.Names.{in_order, number_in}
+use Rattle.basket_names.specs.Names.{in_order, number_in}
 use Rattle.basket_csv.specs.Records.{records_of}
 
 -- ---- records

@@ -2,7 +2,7 @@
 use Rattle.std.specs.Prelude.{◌≡◌, ℕ, List, map, filter}
 use Rattle.std.specs.Str.{bytes_eq}
 use Rattle.basket_csv.specs.Csv.{gather}
-use Rattle.basket_csv.specs.Names.{in_order}
+use Rattle.basket_names.specs.Names.{in_order}
 
 -- the names of an id in some pairs, in their order
 abbrev pub names_with : List (List ℕ × List ℕ) → List ℕ → List (List ℕ)

@@ -1,7 +1,4 @@
 pub mod Field
-pub mod Names
-pub mod Key
-pub mod Recent
 pub mod Records
 pub mod Csv
 pub mod Parts

@@ -6,7 +6,7 @@ use Rattle.basket_sets.specs.Itemset.{rising}
 use Rattle.basket_sets.specs.Support.{support_of}
 use Rattle.basket_read.specs.Fimi.{basket_of_numbers}
 use Rattle.basket_csv.specs.Csv.{names_in, weight_of, all_names, baskets_in, gather, names_of_pairs, baskets_of_pairs}
-use Rattle.basket_csv.specs.Names.{are_among, in_order, number_in}
+use Rattle.basket_names.specs.Names.{are_among, in_order, number_in}
 
 -- some names and a weight
 abbrev pub NamedBasket : Type 0

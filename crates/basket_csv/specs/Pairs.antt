@@ -2,7 +2,7 @@
 use Rattle.std.specs.Prelude.{◌≡◌, ℕ, zero, suc, List, [], ◌∷◌, ◌++◌, map}
 use Rattle.basket_csv.specs.declared.pairs.Pairs.{Pairs}
 use Rattle.basket_csv.specs.Csv.{gather, names_of_pairs, pairs_of}
-use Rattle.basket_csv.specs.Names.{number_in}
+use Rattle.basket_names.specs.Names.{number_in}
 use Rattle.basket_csv.specs.Part.{Rows}
 
 -- lists of numbers with more numbers, in the list at a place or in a new last one

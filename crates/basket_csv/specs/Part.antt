@@ -3,7 +3,7 @@ use Rattle.std.specs.Prelude.{◌≡◌, ℕ, Bool, List, [], ◌∷◌, ◌++�
 use Rattle.basket_csv.specs.declared.part.Part.{Part}
 use Rattle.basket_csv.specs.declared.part.RecordSize.{RecordSize}
 use Rattle.basket_csv.specs.Csv.{names_in, weight_of, all_names}
-use Rattle.basket_csv.specs.Names.{in_order, number_in}
+use Rattle.basket_names.specs.Names.{in_order, number_in}
 
 -- records, each a list of fields
 abbrev pub Rows : Type 0

@@ -8,7 +8,7 @@ use Rattle.basket_read.specs.Fimi.{if_light}
 use Rattle.basket_read.specs.GatheredBaskets.{Gathers}
 use Rattle.basket_csv.specs.declared.renumbered.RenumberedRecords.{RenumberedRecords}
 use Rattle.basket_csv.specs.Csv.{all_names, basket_of}
-use Rattle.basket_csv.specs.Names.{are_among, number_in}
+use Rattle.basket_names.specs.Names.{are_among, number_in}
 use Rattle.basket_csv.specs.Part.{InParts, Rows, size_of}
 
 -- each number stands for that of a name of these records among some names

@@ -2,7 +2,7 @@
 use Rattle.std.specs.Prelude.{◌≡◌, ◌<◌, ℕ, List, length}
 use Rattle.basket_csv.specs.Csv.{field_in}
 use Rattle.basket_csv.specs.Field.{trimmed}
-use Rattle.basket_csv.specs.Names.{IsKnown}
+use Rattle.basket_names.specs.Names.{IsKnown}
 
 -- a field is a known name as it is, and this is the name's number
 pub record IsKnownField (names : List (List ℕ)) (field : List ℕ) (number : ℕ) : Type 0 where

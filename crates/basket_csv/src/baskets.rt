@@ -5,14 +5,13 @@ ghost use Rattle.basket_read.specs.Fault.{ReturnsFault};
 ghost use Rattle.basket_read.specs.declared.fault.ReadFault.TheVariants.{Read};
 ghost use Rattle.basket_csv.specs.RecordCollector.{Start};
 ghost use Rattle.basket_csv.specs.Csv.{Named, is_text, weight_of, weight_written, names_in, fields_before, basket_fault, baskets_said};
-ghost use Rattle.basket_csv.specs.Names.{number_in, with_name};
+ghost use Rattle.basket_names.specs.Names.{number_in, with_name};
 ghost use Rattle.basket_csv.specs.Baskets.{AreNamedCounts, HasRead};
 
 use crate::collector::{RecordCollector, TextCollector};
 use crate::field::trim;
-use crate::names::{Names, Numbering};
 use crate::row::{number_names, text_at};
-use crate::seed::Seed;
+use basket_names::{Names, Numbering, Seed};
 use basket_read::{GatheredBaskets, ItemCounts, ReadFault};
 use basket_sets::parse_number;
 use csv::ByteRecord;

@@ -11,9 +11,8 @@ ghost use Rattle.basket_csv.specs.Records.{MOST_RECORDS, records_of, records_lef
 ghost use Rattle.basket_csv.specs.Parts.{IsWhole};
 
 use crate::dialect::Dialect;
-use crate::names::Names;
 use crate::records::Records;
-use crate::seed::Seed;
+use basket_names::{Names, Seed};
 use basket_read::{MAX_BYTES, ReadFault};
 use csv::ByteRecord;
 use std::alloc::Global;

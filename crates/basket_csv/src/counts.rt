@@ -5,9 +5,8 @@ ghost use Rattle.basket_csv.specs.Counts.{HasCounts, NamedCounts, set_fault, cou
 
 use crate::collector::{RecordCollector, TextCollector};
 use crate::field::trim;
-use crate::names::{Names, Numbering};
 use crate::row::{number_names, text_at};
-use crate::seed::Seed;
+use basket_names::{Names, Numbering, Seed};
 use basket_read::{CountedLine, ReadFault};
 use basket_sets::{Itemset, parse_number};
 use csv::ByteRecord;

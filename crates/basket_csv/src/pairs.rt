@@ -12,11 +12,9 @@ ghost use Rattle.basket_csv.specs.Pairs.{HasPairs, HasPartPairs, added_at};
 
 use crate::collector::{PartCollector, RecordCollector, TextCollector};
 use crate::field::{is_name, trim};
-use crate::ids::Ids;
-use crate::names::{Names, Numbering};
 use crate::renumbered::rename;
 use crate::row::{is_text_from, known_number, text_at};
-use crate::seed::Seed;
+use basket_names::{Ids, Names, Numbering, Seed};
 use basket_read::{GatheredBaskets, ReadFault};
 use basket_sets::{Database, INLINE_ITEMS};
 use csv::ByteRecord;

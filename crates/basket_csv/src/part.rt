@@ -6,8 +6,7 @@ ghost use Rattle.basket_csv.specs.Part.{HasPart, size};
 
 use crate::baskets::number_basket;
 use crate::collector::{PartCollector, RecordCollector};
-use crate::names::Numbering;
-use crate::seed::Seed;
+use basket_names::{Numbering, Seed};
 use basket_read::ReadFault;
 use csv::ByteRecord;
 use std::alloc::{AllocError, Global};

@@ -7,12 +7,12 @@ ghost use Rattle.basket_read.specs.Fault.{ReturnsBy};
 ghost use Rattle.basket_read.specs.Fimi.{if_light};
 ghost use Rattle.basket_read.specs.GatheredBaskets.{AreGathered, Gathers, HasGathered};
 ghost use Rattle.basket_csv.specs.Csv.{all_names, basket_of};
-ghost use Rattle.basket_csv.specs.Names.{with_name};
+ghost use Rattle.basket_names.specs.Names.{with_name};
 ghost use Rattle.basket_csv.specs.Part.{HasPart, InParts, Rows};
 ghost use Rattle.basket_csv.specs.Renumbered.{AreRenumbered, GathersParts, HaveRows};
 
-use crate::names::Numbering;
 use crate::part::{NumberedRecords, Part};
+use basket_names::Numbering;
 use basket_read::{GatheredBaskets, ItemCounts, ReadFault};
 use basket_sets::Database;
 use std::alloc::{AllocError, Global};

@@ -1,14 +1,13 @@
 //! The texts and the names in a record.
-ghost use Rattle.std.specs.Prelude.{◌≡◌, ◌≤◌, drop, map, fold, MatchOption, IfOk, IfErr, IfSome, true, false, ℕ};
+ghost use Rattle.std.specs.Prelude.{◌≡◌, drop, map, fold, MatchOption, IfOk, IfErr, IfSome, true, false};
 ghost use Rattle.std.specs.Str.{is_utf8};
 ghost use Rattle.csv.specs.Records.{fields_of};
 ghost use Rattle.basket_csv.specs.Csv.{field_in, is_text, names_of};
-ghost use Rattle.basket_csv.specs.Names.{number_in, with_name};
+ghost use Rattle.basket_names.specs.Names.{number_in, with_name};
 ghost use Rattle.basket_csv.specs.Row.{IsKnownField};
 
 use crate::field::{is_name, text_of, trim};
-use crate::key::Key;
-use crate::names::Numbering;
+use basket_names::Numbering;
 use basket_read::ReadFault;
 use csv::ByteRecord;
 
@@ -32,7 +31,7 @@ pub fn known_number(row: &ByteRecord, place: usize, names: &Numbering) -> Option
 {
     let field = row.get(place)?;
     if is_name(field) {
-        names.recent_number(&Key::of(field), field)
+        names.known(field)
     } else {
         None
     }

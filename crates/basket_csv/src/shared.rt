@@ -17,7 +17,7 @@ ghost use Rattle.basket_csv.specs.Shared.{AreRight, HasRows, IsReadPart};
 use crate::collector::{PartCollector, add_all};
 use crate::dialect::Dialect;
 use crate::parts::end_of_part;
-use crate::seed::Seed;
+use basket_names::Seed;
 use basket_read::ReadFault;
 use std::alloc::{AllocError, Global};
 use std::thread::{Threads, join};

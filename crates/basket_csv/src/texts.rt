@@ -9,11 +9,11 @@ ghost use Rattle.basket_csv.specs.Pairs.{HasPairs};
 
 use crate::baskets::Baskets;
 use crate::collector::{TextCollector, say};
-use crate::names::{Names, Numbering};
 use crate::pairs::Pairs;
 use crate::parts::{parts_of, parts_of_pairs};
 use crate::renumbered::{gathered_shared, renumbered};
 use crate::shared::{Reading, read_all};
+use basket_names::{Names, Numbering};
 use basket_read::{ItemCounts, ReadFault};
 use basket_sets::Database;
 use std::thread::Threads;

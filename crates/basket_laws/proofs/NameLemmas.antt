@@ -9,7 +9,7 @@ use Rattle.std.proofs.lemmas.List.Folds.{list_all-append, list_any-append}
 use Rattle.std.proofs.lemmas.List.Sums.{fold-append}
 use Rattle.std.proofs.lemmas.Slice.Eq.{bytes_eq-Decides}
 use Rattle.basket_csv.specs.Csv.{all_names, basket_of, baskets_in, names_in}
-use Rattle.basket_csv.specs.Names.{in_order, with_name}
+use Rattle.basket_names.specs.Names.{in_order, with_name}
 use Rattle.basket_laws.specs.Names.{NamedPartsAreParts, all_records, named_parts, names_of_parts}
 use Rattle.basket_laws.specs.Parts.{whole_of}
 

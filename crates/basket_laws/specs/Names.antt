@@ -5,7 +5,7 @@ use Rattle.basket_outcome.specs.declared.contents.Contents.TheVariants as conten
 use Rattle.basket_outcome.specs.Outcome.{outcome, outcome_for}
 use Rattle.basket_csv.specs.Counts.{named_counts_of}
 use Rattle.basket_csv.specs.Csv.{all_names, baskets_in}
-use Rattle.basket_csv.specs.Names.{in_order}
+use Rattle.basket_names.specs.Names.{in_order}
 use Rattle.basket_plan.specs.declared.layout.Form.TheVariants.{CsvCounts}
 use Rattle.basket_plan.specs.Plan.{Question}
 use Rattle.basket_read.specs.declared.counted_line.CountedLine.{CountedLine}

@@ -5,7 +5,8 @@ ghost use Rattle.basket_outcome.specs.Contents.{asked_in, named_sets_of};
 
 use basket_core::{Itemset, Source};
 use basket_counts::read_sets;
-use basket_csv::{Dialect, Names, read_named_counts};
+use basket_csv::{Dialect, read_named_counts};
+use basket_names::Names;
 use basket_plan::Layout;
 use basket_read::{CountedLine, ReadFault};
 use std::alloc::{AllocError, Global};

@@ -10,7 +10,8 @@ ghost use Rattle.basket_report.specs.Style.{wording_of};
 
 use basket_core::{Database, Source};
 use basket_counts::read_counts;
-use basket_csv::{Dialect, Names, read_baskets, read_named_counts, read_single};
+use basket_csv::{Dialect, read_baskets, read_named_counts, read_single};
+use basket_names::Names;
 use basket_parts::CombinedCounts;
 use basket_plan::{Form, Layout};
 use basket_read::{ReadFault, read_fimi_shared};

@@ -9,7 +9,7 @@ ghost use Rattle.basket_outcome.specs.Outcome.{report_of_listing};
 use crate::contents::style_of;
 use crate::prepared::PreparedReport;
 use basket_core::Frequent;
-use basket_csv::Names;
+use basket_names::Names;
 use basket_parts::CombinedCounts;
 use basket_plan::{Ask, Plan};
 use basket_read::ReadFault;

@@ -14,7 +14,7 @@ ghost use Rattle.basket_outcome.specs.Prepared.{prepared_text};
 use basket_core::{CountedSets, Failed, Frequent, MemSink, Sink};
 use basket_plan::Ask;
 use basket_report::{SetLines, Style, rules_report, sets_report, write_texts};
-use basket_rules::{closed, maximal};
+use basket_rules::{closed_shared, maximal_shared};
 use std::alloc::{AllocError, Global};
 use std::thread::Threads;
 
@@ -67,11 +67,11 @@ impl PreparedReport {
             }
             Ask::Sets => PreparedReport::of_sets(alloc, frequent.into_sets(), style, workers),
             Ask::Closed => {
-                let sets = closed(alloc, &frequent)?;
+                let sets = closed_shared(rt, alloc, &frequent, workers)?;
                 PreparedReport::of_sets(alloc, sets, style, workers)
             }
             Ask::Maximal => {
-                let sets = maximal(alloc, &frequent)?;
+                let sets = maximal_shared(rt, alloc, &frequent, workers)?;
                 PreparedReport::of_sets(alloc, sets, style, workers)
             }
             Ask::Rules(confidence) => {

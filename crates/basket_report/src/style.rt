@@ -1,4 +1,4 @@
-use basket_csv::Names;
+use basket_names::Names;
 
 /// How a report writes items.
 #[derive(Clone, Copy, Debug)]

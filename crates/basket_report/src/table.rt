@@ -8,7 +8,7 @@ ghost use Rattle.basket_report.specs.Table.{HasFields, HasText, names_of, rule_r
 
 use crate::ratios::Ratios;
 use crate::texts::put_number;
-use basket_csv::Names;
+use basket_names::Names;
 use basket_rules::{RuleCounts, Sides};
 use csv::{Writer, WriterBuilder};
 use std::alloc::{AllocError, Global};

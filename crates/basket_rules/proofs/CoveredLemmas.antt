@@ -1,6 +1,6 @@
 -- Marking sets, one subset after another.
-use Rattle.std.proofs.Common.{IsTrue, ◌≡◌, ◌≢◌, ℕ, zero, suc, ◌+◌, ◌<◌, ◌≤◌, ◌⊎◌, Bool, true, false, cond, eqb, eq-eqb, ltb, List, [], ◌∷◌, length, get_or, set, refl, sym, ap, ◌∙◌, subst, inl, inr, arith, get_or-set_other, get_or-set_same}
-use Rattle.std.proofs.lemmas.Bool.{cases_lt, cases_eq, true≢false}
+use Rattle.std.proofs.Common.{IsTrue, ◌≡◌, ◌≢◌, ℕ, zero, suc, ◌+◌, ◌<◌, ◌≤◌, ◌⊎◌, Bool, true, false, cond, ◌||◌, eqb, eq-eqb, ltb, List, [], ◌∷◌, length, get_or, set, refl, sym, ap, ◌∙◌, subst, inl, inr, arith, get_or-set_other, get_or-set_same}
+use Rattle.std.proofs.lemmas.Bool.{cases_Bool, cases_lt, cases_eq, or_left, or_right, true≢false}
 use Rattle.std.proofs.lemmas.List.{length-set}
 use Rattle.basket_lists.specs.Without.{ArePlacesWithout, IsLongerBy}
 use Rattle.basket_order.specs.declared.place_table.TheConstants.{NOWHERE}
@@ -8,7 +8,7 @@ use Rattle.basket_sets.specs.declared.counted.Counted.{Counted}
 use Rattle.basket_sets.specs.Itemset.{IsRising, with_item, without}
 use Rattle.basket_sets.proofs.theory.Rising.{Member-from_has, first_below, has_place, rest_rises}
 use Rattle.basket_rules.specs.declared.covered.Supersets.{Supersets}
-use Rattle.basket_rules.specs.Covered.{AreMarks, IsBefore, IsMark, Matters, WasSeen}
+use Rattle.basket_rules.specs.Covered.{AreMarks, IsBetween, IsMark, Matters, WasSeen}
 use Rattle.basket_rules.specs.Listed.{set_at, count_at}
 use Rattle.basket_rules.specs.Search.{IsMissing}
 use Rattle.basket_rules.specs.Subset.{IsWithout}
@@ -59,16 +59,14 @@ found_below list number place found all few within said =
 abbrev pub SeesOneMore : (ℕ → ℕ → Type 0) → (ℕ → ℕ → Type 0) → ℕ → ℕ → Type 0
 SeesOneMore seen more number item = (above place : ℕ) → more above place → seen above place ⊎ ((above ≡ number) × (place ≡ item))
 
-pub sees_one_more : (number items : ℕ) → SeesOneMore (WasSeen number items) (WasSeen number (items + 1)) number items
-sees_one_more number items above place (inl before) = inl (inl before)
-sees_one_more number items above place (inr h) = elim (cases_lt place items) [
-  | inl less ↦ inl (inr (h.0, less))
+pub sees_one_more : (from number items : ℕ) → SeesOneMore (WasSeen from number items) (WasSeen from number (items + 1)) number items
+sees_one_more from number items above place (after, inl before) = inl (after, inl before)
+sees_one_more from number items above place (after, inr h) = elim (cases_lt place items) [
+  | inl less ↦ inl (after, inr (h.0, less))
   | inr more ↦ inr (h.0, (let k = h.1 in omega arith))
 ]
 
 module _ (list : List Counted) (supersets : Supersets) where
-  -- nothing
-
   -- the same in other words
   seen_alike : (seen other : ℕ → ℕ → Type 0) (marks : List Bool)
       → ((above place : ℕ) → above < length list → place < length (set_at list above) → other above place → seen above place)
@@ -81,20 +79,42 @@ module _ (list : List Counted) (supersets : Supersets) where
     };
   }
 
-  pub first_item : (number : ℕ) (marks : List Bool) → AreMarks list supersets (IsBefore number) marks → AreMarks list supersets (WasSeen number 0) marks
-  first_item number marks = seen_alike (IsBefore number) (WasSeen number 0) marks alike
+  pub first_item : (from number : ℕ) (marks : List Bool) → AreMarks list supersets (IsBetween from number) marks → AreMarks list supersets (WasSeen from number 0) marks
+  first_item from number marks = seen_alike (IsBetween from number) (WasSeen from number 0) marks alike
     where
-      alike : (above place : ℕ) → above < length list → place < length (set_at list above) → WasSeen number 0 above place → above < number
-      alike above place listed within (inl before) = before
-      alike above place listed within (inr h) = absurd (let k = h.1 in omega arith)
+      alike : (above place : ℕ) → above < length list → place < length (set_at list above) → WasSeen from number 0 above place → IsBetween from number above place
+      alike above place listed within (after, inl before) = (after, before)
+      alike above place listed within (after, inr h) = absurd (let k = h.1 in omega arith)
 
-  pub all_items : (number items : ℕ) (marks : List Bool) → length (set_at list number) ≤ items → AreMarks list supersets (WasSeen number items) marks → AreMarks list supersets (IsBefore (number + 1)) marks
-  all_items number items marks whole = seen_alike (WasSeen number items) (IsBefore (number + 1)) marks (λ above place listed within before.
+  pub all_items : (from number items : ℕ) (marks : List Bool) → length (set_at list number) ≤ items → AreMarks list supersets (WasSeen from number items) marks → AreMarks list supersets (IsBetween from (number + 1)) marks
+  all_items from number items marks whole = seen_alike (WasSeen from number items) (IsBetween from (number + 1)) marks (λ above place listed within (after, before).
       elim (cases_lt above number) [
-        | inl less ↦ inl less
+        | inl less ↦ (after, inl less)
         | inr more ↦ (let here : above ≡ number = omega (arith, before, more) in
-            let long = ap (λ n. length (set_at list n)) here in inr (here, omega (arith, within, long, whole)))
+            let long = ap (λ n. length (set_at list n)) here in (after, inr (here, omega (arith, within, long, whole))))
       ])
+
+  -- marks of two ranges, put together
+  pub both_ranges : (from middle end : ℕ) (marks others all : List Bool) → length all ≡ length marks
+      → ((number : ℕ) → number < length marks → get_or all number false ≡ get_or others number false || get_or marks number false)
+      → AreMarks list supersets (IsBetween from middle) marks → AreMarks list supersets (IsBetween middle end) others → AreMarks list supersets (IsBetween from end) all
+  both_ranges from middle end marks others all long each first later = record {
+    long = long ∙ first.long;
+    each = λ number below.
+        let here = first.each number below in
+        let there = later.each number below in
+        let is = each number (omega (arith, below, first.long)) in
+        subst (IsMark list supersets (IsBetween from end) number) (sym is) (record {
+          some = λ told. elim (cases_Bool (get_or others number false)) [
+            | inl marked ↦ there.some marked
+            | inr unmarked ↦ here.some (sym (ap (λ b. b || get_or marks number false) unmarked) ∙ told)
+          ];
+          each = λ sorted above place seen is matters. elim (cases_lt above middle) [
+            | inl less ↦ or_right (get_or others number false) _ (here.each sorted above place (seen.0, less) is matters)
+            | inr more ↦ or_left _ _ (there.each sorted above place (more, seen.1) is matters)
+          ];
+        });
+  }
 
 -- ---- one set without one of its items
 

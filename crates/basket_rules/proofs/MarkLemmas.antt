@@ -2,7 +2,6 @@
 use Rattle.std.proofs.Common.{◌≡◌, ℕ, ◌<◌, ◌≤◌, Bool, true, false, not, eqb, ◌&&◌, List, length, get_or, sym, ap, ◌∙◌, subst, inl, inr, arith}
 use Rattle.std.specs.List.{list_all}
 use Rattle.std.proofs.lemmas.Bool.{cases_Bool, and_parts, and_from, eqb-true, eq-eqb, true≢false, false_from_ne_true}
-use Rattle.basket_core.specs.Listing.{Listing}
 use Rattle.basket_sets.specs.declared.counted.Counted.{Counted}
 use Rattle.basket_sets.specs.Itemset.{contains, with_item, without}
 use Rattle.basket_sets.proofs.theory.Members.{Contains-from_Member}
@@ -12,7 +11,7 @@ use Rattle.basket_rules.specs.Listed.{set_at, count_at}
 use Rattle.basket_rules.specs.Subset.{IsWithout}
 use Rattle.basket_rules.specs.declared.covered.Supersets.{Supersets}
 use Rattle.basket_rules.specs.declared.covered.Supersets.TheVariants.{All, SameCount}
-use Rattle.basket_rules.specs.Covered.{AreMarks, HasSuperset, IsBefore, IsMark}
+use Rattle.basket_rules.specs.Covered.{AreMarks, HasSuperset, IsBetween, IsMark}
 use Rattle.basket_rules.specs.Condensed.{is_proper_superset, is_closed_in, is_maximal_in, closed_in, maximal_in}
 use Rattle.basket_lists.specs.CountedSets.{AreUnmarked}
 use Rattle.basket_rules.proofs.SubsetLemmas.{not_true, true_not, contains_without, without_lacks, placed, item_more, contains_less, contains_with_item}
@@ -77,7 +76,7 @@ module _ (list : List Counted) (consistent : IsConsistent list) where
         no_higher = omega (arith, same, back.enough);
       }
 
-  closed_at : (k : ℕ) (mark : Bool) → k < length list → IsMark list SameCount (IsBefore (length list)) k mark → is_closed_in list (entry list k) ≡ not mark
+  closed_at : (k : ℕ) (mark : Bool) → k < length list → IsMark list SameCount (IsBetween 0 (length list)) k mark → is_closed_in list (entry list k) ≡ not mark
   closed_at k mark below m = same_test _ _ into back
     where
       into : is_closed_in list (entry list k) ≡ true → not mark ≡ true
@@ -97,9 +96,9 @@ module _ (list : List Counted) (consistent : IsConsistent list) where
           let same = eqb-true (count_at list j) (count_at list k) tests.1 in
           let low = o.no_lower in
           let high = o.no_higher in
-          true≢false (sym (m.each consistent.in_order o.above o.place o.without.listed o.without (omega (arith, same, low, high))) ∙ true_not mark h))))
+          true≢false (sym (m.each consistent.in_order o.above o.place (omega arith, o.without.listed) o.without (omega (arith, same, low, high))) ∙ true_not mark h))))
 
-  maximal_at : (k : ℕ) (mark : Bool) → k < length list → IsMark list All (IsBefore (length list)) k mark → is_maximal_in list (entry list k) ≡ not mark
+  maximal_at : (k : ℕ) (mark : Bool) → k < length list → IsMark list All (IsBetween 0 (length list)) k mark → is_maximal_in list (entry list k) ≡ not mark
   maximal_at k mark below m = same_test _ _ into back
     where
       into : is_maximal_in list (entry list k) ≡ true → not mark ≡ true
@@ -114,24 +113,16 @@ module _ (list : List Counted) (consistent : IsConsistent list) where
       back : not mark ≡ true → is_maximal_in list (entry list k) ≡ true
       back h = all_entries list (λ o. not (is_proper_superset o.set (set_at list k))) (λ j there. not_true _ (false_from_ne_true _ (λ e.
           let o = one_more k j below there e in
-          true≢false (sym (m.each consistent.in_order o.above o.place o.without.listed o.without tt) ∙ true_not mark h))))
+          true≢false (sym (m.each consistent.in_order o.above o.place (omega arith, o.without.listed) o.without tt) ∙ true_not mark h))))
 
 -- ---- all sets
 
-all_closed : (list : List Counted) (marks : List Bool) (kept : List Counted) → AreMarks list SameCount (IsBefore (length list)) marks
+pub all_closed : (list : List Counted) (marks : List Bool) (kept : List Counted) → AreMarks list SameCount (IsBetween 0 (length list)) marks
     → AreUnmarked list marks kept → IsConsistent list → kept ≡ closed_in list
 all_closed list marks kept marked so consistent = so (is_closed_in list) (λ k d below.
     ap (is_closed_in list) (sym (entry_is list k d below)) ∙ closed_at list consistent k (get_or marks k false) below (marked.each k below))
 
-all_maximal : (list : List Counted) (marks : List Bool) (kept : List Counted) → AreMarks list All (IsBefore (length list)) marks
+pub all_maximal : (list : List Counted) (marks : List Bool) (kept : List Counted) → AreMarks list All (IsBetween 0 (length list)) marks
     → AreUnmarked list marks kept → IsConsistent list → kept ≡ maximal_in list
 all_maximal list marks kept marked so consistent = so (is_maximal_in list) (λ k d below.
     ap (is_maximal_in list) (sym (entry_is list k d below)) ∙ maximal_at list consistent k (get_or marks k false) below (marked.each k below))
-
-pub are_closed : (listing : Listing) (list : List Counted) (marks : List Bool) (kept : List Counted) → list ≡ listing.sets
-    → AreMarks list SameCount (IsBefore (length list)) marks → AreUnmarked list marks kept → IsConsistent listing.sets → kept ≡ closed_in listing.sets
-are_closed listing list marks kept e marked so = subst (λ l. IsConsistent l → kept ≡ closed_in l) e (all_closed list marks kept marked so)
-
-pub are_maximal : (listing : Listing) (list : List Counted) (marks : List Bool) (kept : List Counted) → list ≡ listing.sets
-    → AreMarks list All (IsBefore (length list)) marks → AreUnmarked list marks kept → IsConsistent listing.sets → kept ≡ maximal_in listing.sets
-are_maximal listing list marks kept e marked so = subst (λ l. IsConsistent l → kept ≡ maximal_in l) e (all_maximal list marks kept marked so)

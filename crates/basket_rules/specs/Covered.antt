@@ -1,5 +1,5 @@
 -- Which sets of a list have a superset there with one item more.
-use Rattle.std.specs.Prelude.{◌≡◌, ◌<◌, ◌⊎◌, ℕ, Bool, IsTrue, false, List, length, slice_index_or}
+use Rattle.std.specs.Prelude.{◌≡◌, ◌<◌, ◌≤◌, ◌⊎◌, ℕ, Bool, IsTrue, false, List, length, slice_index_or}
 use Rattle.basket_sets.specs.declared.counted.Counted.{Counted}
 use Rattle.basket_rules.specs.declared.covered.Supersets.{Supersets}
 use Rattle.basket_rules.specs.declared.covered.Supersets.TheVariants.{All, SameCount}
@@ -18,13 +18,13 @@ pub record HasSuperset (list : List Counted) (supersets : Supersets) (number : �
   pub without : IsWithout list above place number
   pub matters : Matters supersets (count_at list number) (count_at list above)
 
--- the sets before a place were gone over, with all their items
-abbrev pub IsBefore : ℕ → ℕ → ℕ → Type 0
-IsBefore end above place = above < end
+-- the sets from a place up to another were gone over, with all their items
+abbrev pub IsBetween : ℕ → ℕ → ℕ → ℕ → Type 0
+IsBetween from end above place = (from ≤ above) × (above < end)
 
 -- so were, of the set at a place, the items before another place
-abbrev pub WasSeen : ℕ → ℕ → ℕ → ℕ → Type 0
-WasSeen number items above place = (above < number) ⊎ ((above ≡ number) × (place < items))
+abbrev pub WasSeen : ℕ → ℕ → ℕ → ℕ → ℕ → Type 0
+WasSeen from number items above place = (from ≤ above) × ((above < number) ⊎ ((above ≡ number) × (place < items)))
 
 -- a set is marked only if such a superset is there, and if one was gone over
 pub record IsMark (list : List Counted) (supersets : Supersets) (seen : ℕ → ℕ → Type 0) (number : ℕ) (mark : Bool) : Type 0 where

@@ -1,11 +1,13 @@
 //! Which sets of a list have a superset in it with one item more.
-ghost use Rattle.std.specs.Prelude.{◌≡◌, ◌≤◌, ◌<◌, ◌+◌, IfOk, IfSome, IfNone, IsTrue, ◌↔◌, ◌⊎◌, length};
+ghost use Rattle.std.specs.Prelude.{◌≡◌, ◌≤◌, ◌<◌, ◌+◌, IfOk, IfSome, IfNone, IsTrue, ◌↔◌, ◌⊎◌, ℕ, List, length};
+ghost use Rattle.std.specs.Thread.{IsSync};
 ghost use Rattle.basket_lists.specs.Without.{ArePlacesWithout};
 ghost use Rattle.basket_lists.specs.declared.known.TheConstants.{MOST_ITEMS};
-ghost use Rattle.basket_rules.specs.Covered.{AreMarks, IsBefore, Matters, WasSeen};
+ghost use Rattle.basket_rules.specs.Covered.{AreMarks, IsBetween, Matters};
 ghost use Rattle.basket_rules.specs.Listed.{set_at};
 ghost use Rattle.basket_rules.specs.Search.{IsMissing};
 ghost use Rattle.basket_sets.specs.Itemset.{without};
+ghost use Rattle.basket_sets.specs.declared.counted.Counted.{Counted};
 
 use crate::listed::items_at;
 use crate::search::find_near;
@@ -13,6 +15,7 @@ use basket_core::CountedSets;
 use basket_lists::MOST_ITEMS;
 use basket_order::{NOWHERE, PlaceTable};
 use std::alloc::{AllocError, Global};
+use std::thread::{Threads, join};
 
 /// Which supersets matter.
 #[derive(Clone, Copy, Debug)]
@@ -33,79 +36,227 @@ impl Supersets {
     }
 }
 
+/// The sets of a list, and which of their supersets matter.
+#[derive(Clone, Copy)]
+struct Covering<'a> {
+    alloc: Global,
+    sets: &'a CountedSets,
+    supersets: Supersets,
+}
+
+/// Fewer supersets are not worth a thread.
+const LEAST: usize = 8_192;
+
 /// Marks the sets of the list of which some superset with one item more is in the list, and
-/// matters. The sets of one size are processed together.
+/// matters.
 pub fn covered(
     alloc: Global,
     sets: &CountedSets,
     supersets: Supersets,
 ) -> Result<Vec<bool>, AllocError>
-    ensures { IfOk result (λ marks. AreMarks sets.now supersets (IsBefore (length sets.now)) marks.items) }
+    ensures { IfOk result (λ marks. AreMarks sets.now supersets (IsBetween 0 (length sets.now)) marks.items) }
 {
-    let mut marks = vec![in alloc; false; sets.len()]?;
-    let mut before = 0;
-    let mut start = 0;
-    while start < sets.len() {
-        let below = sets.places(alloc, before, start)?;
-        let end = end_of_size(sets, start);
-        mark_below(sets, supersets, &below, start, end, &mut marks);
-        before = start;
-        start = end;
+    let covering = Covering {
+        alloc,
+        sets,
+        supersets,
+    };
+    covered_between(covering, 0, sets.len())
+}
+
+/// The same by about this many workers, at most 64, each of which goes over some supersets.
+pub fn covered_shared<R: Threads + Sync>(
+    rt: &R,
+    alloc: Global,
+    sets: &CountedSets,
+    supersets: Supersets,
+    workers: u32,
+) -> Result<Vec<bool>, AllocError>
+    ensures { IfOk result (λ marks. AreMarks sets.now supersets (IsBetween 0 (length sets.now)) marks.items) }
+{
+    let covering = Covering {
+        alloc,
+        sets,
+        supersets,
+    };
+    covered_range(rt, covering, 0, sets.len(), workers.clamp(1, 64).ilog2())
+}
+
+/// Goes over the supersets from a place up to another. They are halved this many times, and a
+/// thread goes over each of the pieces.
+#[cycle(halves)]
+fn covered_range<R: Threads + Sync>(
+    rt: &R,
+    covering: Covering<'_>,
+    from: usize,
+    end: usize,
+    times: u32,
+) -> Result<Vec<bool>, AllocError>
+    requires ordered { from ≤ end }
+    requires within { end ≤ length covering.sets.now }
+    ensures { IfOk result (λ marks. AreMarks covering.entry.sets.now covering.entry.supersets (IsBetween from end) marks.items) }
+{
+    if times == 0 || end - from < LEAST {
+        return covered_between(covering, from, end);
+    }
+    let middle = from + (end - from) / 2;
+    let (marks, others) = both_halves(rt, covering, from, middle, end, times);
+    let mut marks = marks?;
+    add_marks(&mut marks, &others?);
+    Ok(marks)
+}
+
+#[cycle(halves)]
+fn both_halves<R: Threads + Sync>(
+    rt: &R,
+    covering: Covering<'_>,
+    from: usize,
+    middle: usize,
+    end: usize,
+    times: u32,
+) -> (Result<Vec<bool>, AllocError>, Result<Vec<bool>, AllocError>)
+    requires times { 0 < times }
+    requires ordered { (from ≤ middle) × (middle ≤ end) }
+    requires within { end ≤ length covering.sets.now }
+    ensures marks { IfOk result.0 (λ marks. AreMarks covering.entry.sets.now covering.entry.supersets (IsBetween from middle) marks.items) }
+    ensures others { IfOk result.1 (λ marks. AreMarks covering.entry.sets.now covering.entry.supersets (IsBetween middle end) marks.items) }
+{
+    let Covering {
+        alloc,
+        sets,
+        supersets,
+    } = covering;
+    let (others, marks) = join(
+        rt,
+        || -> Result<Vec<bool>, AllocError>
+            requires { IsSync R.row × (0 < times) × (middle ≤ end) × (end ≤ length sets.now) }
+            ensures { IfOk result (λ marks. AreMarks sets.entry.now supersets (IsBetween middle end) marks.items) }
+        {
+            covered_range(
+                rt,
+                Covering {
+                    alloc,
+                    sets,
+                    supersets,
+                },
+                middle,
+                end,
+                times - 1,
+            )
+        },
+        || -> Result<Vec<bool>, AllocError>
+            requires { IsSync R.row × (0 < times) × (from ≤ middle) × (middle ≤ length sets.now) }
+            ensures { IfOk result (λ marks. AreMarks sets.entry.now supersets (IsBetween from middle) marks.items) }
+        {
+            covered_range(
+                rt,
+                Covering {
+                    alloc,
+                    sets,
+                    supersets,
+                },
+                from,
+                middle,
+                times - 1,
+            )
+        },
+    );
+    (marks, others)
+}
+
+/// Marks what others are marks of too.
+fn add_marks(marks: &mut [bool], others: &[bool])
+    requires { length others.now ≡ length marks.old }
+    ensures { (list : List Counted) (supersets : Supersets) (from middle end : ℕ) → AreMarks list supersets (IsBetween from middle) marks.old
+        → AreMarks list supersets (IsBetween middle end) others.now → AreMarks list supersets (IsBetween from end) marks.new }
+{
+    for number in 0..marks.len() {
+        if others[number] {
+            marks[number] = true;
+        }
+    }
+}
+
+/// Goes over the supersets from a place up to another, those of one size together.
+fn covered_between(covering: Covering<'_>, from: usize, end: usize) -> Result<Vec<bool>, AllocError>
+    requires ordered { from ≤ end }
+    requires within { end ≤ length covering.sets.now }
+    ensures { IfOk result (λ marks. AreMarks covering.entry.sets.now covering.entry.supersets (IsBetween from end) marks.items) }
+{
+    let sets = covering.sets;
+    let mut marks = vec![in covering.alloc; false; sets.len()]?;
+    let mut start = from;
+    while start < end {
+        let size = sets.size(start);
+        let first = start_of_size(sets, size.saturating_sub(1));
+        let last = start_of_size(sets, size);
+        let below = sets.places(covering.alloc, first, last)?;
+        let next = start_of_size(sets, size.saturating_add(1)).clamp(start + 1, end);
+        mark_below(covering, &below, start, next, &mut marks);
+        start = next;
     }
     Ok(marks)
 }
 
-/// Where the sets end that begin at `start` and have as many items as the first of them.
-fn end_of_size(sets: &CountedSets, start: usize) -> usize
-    requires { start < length sets.now }
-    ensures after { start < result }
-    ensures within { result ≤ length sets.now }
+/// Where the sets begin that have at least this many items, in a list in report order.
+fn start_of_size(sets: &CountedSets, size: usize) -> usize
+    ensures { result ≤ length sets.now }
 {
-    let count = sets.len();
-    let size = sets.size(start);
-    let mut end = start + 1;
-    while end < count && sets.size(end) == size {
-        end += 1;
+    let mut start = 0;
+    let mut end = sets.len();
+    while start < end {
+        let middle = start + (end - start) / 2;
+        if sets.size(middle) < size {
+            start = middle + 1;
+        } else {
+            end = middle;
+        }
     }
-    end
+    start
 }
 
 /// Marks the sets that are those from `start` up to `end` without one of their items.
 fn mark_below(
-    sets: &CountedSets,
-    supersets: Supersets,
+    covering: Covering<'_>,
     below: &PlaceTable,
     start: usize,
     end: usize,
     marks: &mut [bool],
 )
     requires ordered { start ≤ end }
-    requires within { end ≤ length sets.now }
-    requires before { AreMarks sets.now supersets (IsBefore start) marks.old }
-    ensures { AreMarks sets.now supersets (IsBefore end) marks.new }
+    requires within { end ≤ length covering.sets.now }
+    requires long { length marks.old ≡ length covering.sets.now }
+    ensures { (from : ℕ) → AreMarks covering.entry.sets.now covering.entry.supersets (IsBetween from start) marks.old
+        → AreMarks covering.entry.sets.now covering.entry.supersets (IsBetween from end) marks.new }
 {
     let mut found = [NOWHERE; MOST_ITEMS];
     let mut hint = 0;
     for number in start..end {
-        sets.places_without(below, number, &mut found);
-        mark_subsets(sets, supersets, &found, number, &mut hint, marks);
+        covering.sets.places_without(below, number, &mut found);
+        mark_subsets(covering, &found, number, &mut hint, marks);
     }
 }
 
 /// Marks the sets that are one set without one of its items.
 fn mark_subsets(
-    sets: &CountedSets,
-    supersets: Supersets,
+    covering: Covering<'_>,
     found: &[u32; MOST_ITEMS],
     number: usize,
     hint: &mut usize,
     marks: &mut [bool],
 )
-    requires listed { number < length sets.now }
-    requires found { ArePlacesWithout sets.now (set_at sets.now number) MOST_ITEMS found.now }
-    requires before { AreMarks sets.now supersets (IsBefore number) marks.old }
-    ensures { AreMarks sets.now supersets (IsBefore (number + 1)) marks.new }
+    requires listed { number < length covering.sets.now }
+    requires found { ArePlacesWithout covering.sets.now (set_at covering.sets.now number) MOST_ITEMS found.now }
+    requires long { length marks.old ≡ length covering.sets.now }
+    ensures long { length marks.new ≡ length marks.old }
+    ensures marked { (from : ℕ) → AreMarks covering.entry.sets.now covering.entry.supersets (IsBetween from number) marks.old
+        → AreMarks covering.entry.sets.now covering.entry.supersets (IsBetween from (number + 1)) marks.new }
 {
+    let Covering {
+        sets,
+        supersets,
+        ..
+    } = covering;
     let count = sets.count(number);
     for place in 0..sets.size(number) {
         if let Some(at) = find_below(sets, found, number, place, hint) {

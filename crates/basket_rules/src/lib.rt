@@ -17,7 +17,7 @@ mod supports;
 pub mod worked;
 
 pub use association::{Rule, met_rules, rules, rules_with};
-pub use condensed::{closed, maximal};
+pub use condensed::{closed, closed_shared, maximal, maximal_shared};
 pub use confident::ConfidentRule;
 pub use consequents::Sides;
 pub use rule_counts::RuleCounts;

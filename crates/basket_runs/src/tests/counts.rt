@@ -76,16 +76,16 @@ fn a_set_without_a_count_is_told_by_its_place(rt: HostRuntime) -> Result<(), Fai
 }
 
 /// Counts the sets. Out of memory is a failure of its own.
-fn counted<R: Threads + Sync, S: Source, T: Source>(
+fn counted<R: Threads + Sync>(
     rt: &R,
     alloc: Global,
     plan: &CountPlan,
-    sets: &mut S,
-    reader: &mut T,
+    sets: &mut MemSource<'_>,
+    reader: &mut MemSource<'_>,
     writer: &mut MemSink,
 ) -> Result<Result<(), RunFault>, Fail>
-    requires sets { S.has_failed sets.old ≡ false }
-    requires reader { T.has_failed reader.old ≡ false }
+    requires sets { ⟦<MemSource as Source>⟧.has_failed sets.old ≡ false }
+    requires reader { ⟦<MemSource as Source>⟧.has_failed reader.old ≡ false }
     requires writer { ⟦<MemSink as Sink>⟧.has_failed writer.old ≡ false }
 {
     match run_count(&NoRandomBytes(rt), alloc, plan, sets, reader, writer) {

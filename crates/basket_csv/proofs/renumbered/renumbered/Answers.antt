@@ -1,6 +1,6 @@
 use Rattle.std.proofs.Common.{fold, map, refl, ap, ◌∙◌}
 use Rattle.std.specs.Vec.Iter.{into_iter_items}
-use Rattle.basket_csv.specs.Names.{number_in, with_name}
+use Rattle.basket_names.specs.Names.{number_in, with_name}
 use Rattle.basket_csv.proofs.InPartsLemmas.{renumbers_more}
 use Rattle.basket_csv.proofs.renumbered.renumbered.Goals as goal
 

@@ -1,7 +1,7 @@
 use Rattle.std.proofs.Common.{◌≡◌, [], eqb, length, get_or, ap, ◌∙◌}
 use Rattle.csv.specs.Records.{fields_of}
 use Rattle.basket_csv.specs.Field.{trimmed}
-use Rattle.basket_csv.specs.Names.{with_name, number_in}
+use Rattle.basket_names.specs.Names.{with_name, number_in}
 use Rattle.basket_csv.proofs.RowLemmas.{known_name, nil_test, no_name, one_name}
 use Rattle.basket_csv.proofs.row.number_names.Goals as goal
 use Rattle.basket_csv.proofs.row.number_names.Goals.{then-not-is_empty+in_ok-number+in_ok-push-2, else-not-is_empty}

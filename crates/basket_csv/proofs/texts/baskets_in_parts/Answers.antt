@@ -27,7 +27,7 @@ returns-in_err-counts-clause-said g c =
     let rows = after_header header (records_of separator c.args.bytes.now) in
     let names = c.renumbered.new.known in
     let parts = subst (λ l. InParts (AreRenumbered weighted names) l rows) (sym c.deref.ensures.value) (c.in_ok-parts-2.ensures.parts weighted rows (basket_parts weighted _ rows c.in_ok-parts.ensures.parts)) in
-    let are = names_together c.args.known c.in_ok-names.names names (all_names weighted rows) c.in_ok-names.ensures.names (c.in_ok-parts-2.ensures.names weighted rows (basket_parts weighted _ rows c.in_ok-parts.ensures.parts)) in
+    let are = names_together c.args.known c.in_ok-names.names names (all_names weighted rows) c.in_ok-names.ensures (c.in_ok-parts-2.ensures.names weighted rows (basket_parts weighted _ rows c.in_ok-parts.ensures.parts)) in
     let says = said_of_all separator header (basket_fault weighted) (baskets_said weighted c.args.known) c.args.bytes.now c.requires c.in_ok-parts.ensures.fault in
     let p = err_from_is_err_and c.from_residual-in_err-counts.result c.from_residual-in_err-counts.ensures.1 in
     rw (p.1, p.2) (λ other. says ∙ said_heavy weighted c.args.known names rows are c.in_err-counts.field-0.0 (c.in_err-counts.ensures weighted names rows parts other))
@@ -49,7 +49,7 @@ returns-clause-said g c =
     let rows = after_header header (records_of separator c.args.bytes.now) in
     let names = c.renumbered.new.known in
     let parts = subst (λ l. InParts (AreRenumbered weighted names) l rows) (sym c.deref.ensures.value) (c.in_ok-parts-2.ensures.parts weighted rows (basket_parts weighted _ rows c.in_ok-parts.ensures.parts)) in
-    let are = names_together c.args.known c.in_ok-names.names names (all_names weighted rows) c.in_ok-names.ensures.names (c.in_ok-parts-2.ensures.names weighted rows (basket_parts weighted _ rows c.in_ok-parts.ensures.parts)) in
+    let are = names_together c.args.known c.in_ok-names.names names (all_names weighted rows) c.in_ok-names.ensures (c.in_ok-parts-2.ensures.names weighted rows (basket_parts weighted _ rows c.in_ok-parts.ensures.parts)) in
     let says = said_of_all separator header (basket_fault weighted) (baskets_said weighted c.args.known) c.args.bytes.now c.requires c.in_ok-parts.ensures.fault in
     let (baskets, said, gathered) = said_found weighted c.args.known names rows are c.args.reading.counting c.in_ok-counts.counts (c.in_ok-counts.ensures weighted names rows parts) in
     (baskets, says ∙ said ∙ ap (λ ns. Ok (baskets, ns)) (sym c.in_ok-into_names.ensures), gathered)

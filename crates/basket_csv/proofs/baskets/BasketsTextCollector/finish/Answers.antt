@@ -1,7 +1,7 @@
 use Rattle.std.proofs.Common.{◌++◌, Ok, sym, ap, ◌∙◌}
 use Rattle.std.proofs.lemmas.Result.{err_from_is_err_and}
 use Rattle.basket_csv.specs.Csv.{baskets_in, all_names, with_names}
-use Rattle.basket_csv.specs.Names.{in_order}
+use Rattle.basket_names.specs.Names.{in_order}
 use Rattle.basket_csv.proofs.baskets.BasketsTextCollector.finish.Goals as goal
 
 pub returns-in_err-counts-clause-said : goal.returns-in_err-counts-clause-said

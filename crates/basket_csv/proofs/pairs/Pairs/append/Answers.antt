@@ -1,6 +1,6 @@
 use Rattle.std.proofs.Common.{◌<◌, ◌≤◌, ◌∙◌, [], ap, fold, get_or, length, map, refl, sym, arith}
 use Rattle.std.proofs.lemmas.List.{get_or-map, length-map}
-use Rattle.basket_csv.specs.Names.{number_in, with_name}
+use Rattle.basket_names.specs.Names.{number_in, with_name}
 use Rattle.basket_csv.proofs.AppendLemmas.{as_many, id_within, items_below, joins_all, joins_first, joins_more, joins_none}
 use Rattle.basket_csv.proofs.pairs.Pairs.append.Goals as goal
 

@@ -1,0 +1,3 @@
+pub mod theory
+mod KeyLemmas
+mod RecentLemmas

@@ -1,0 +1,3 @@
+-- The theory of names, which the proofs of every crate may cite.
+pub mod Names
+pub mod Together

@@ -1,0 +1,3 @@
+pub mod Names
+pub mod Key
+pub mod Recent

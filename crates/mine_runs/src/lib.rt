@@ -1,0 +1,5 @@
+//! Tests of mining by several workers.
+#![tactic(auto)]
+
+#[cfg(test)]
+mod tests;
