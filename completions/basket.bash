@@ -1,22 +1,38 @@
-# Completion of basket for bash.
+# Completion of basket for bash. Where it offers nothing, bash offers files.
 _basket() {
     local word=${COMP_WORDS[COMP_CWORD]} before=${COMP_WORDS[COMP_CWORD - 1]} values=
+    COMPREPLY=()
+    # The = of --form=fimi is a word of its own here.
+    [ "$before" = = ] && before=${COMP_WORDS[COMP_CWORD - 2]}
+    [ "$word" = = ] && word=
     case $before in
     --form) values="fimi baskets single counts csv-counts" ;;
     --sep) values="comma semicolon tab pipe" ;;
     --miner) values="apriori eclat eclat-diff eclat-bits fpgrowth" ;;
-    --min | --conf | --sets | --limit | --workers | --pieces) return ;;
+    --min | --conf | --limit | --workers | --pieces)
+        compopt +o default 2> /dev/null
+        return
+        ;;
+    --sets) return ;;
     *)
-        case ${COMP_WORDS[1]} in
-        items | sets | closed | maximal | rules)
-            values="--min --form --sep --header --weight --miner --limit --workers --pieces --help"
+        case $COMP_CWORD:${COMP_WORDS[1]} in
+        1:*) values="items sets closed maximal rules count look help --help --version" ;;
+        2:help) values="items sets closed maximal rules count look" ;;
+        *:help)
+            compopt +o default 2> /dev/null
+            return
+            ;;
+        *)
+            # The file of the baskets.
+            [[ $word != -* ]] && return
+            case ${COMP_WORDS[1]} in
+            look) values="--help" ;;
+            count) values="--sets --form --sep --header --weight --workers --pieces --help" ;;
+            *) values="--min --form --sep --header --weight --miner --limit --workers --pieces --help" ;;
+            esac
             [ "${COMP_WORDS[1]}" = rules ] && values="$values --conf"
             ;;
-        look) values="--help" ;;
-        count) values="--sets --form --sep --header --weight --workers --pieces --help" ;;
-        help) values="items sets closed maximal rules count look" ;;
         esac
-        [ "$COMP_CWORD" = 1 ] && values="items sets closed maximal rules count look help --help --version"
         ;;
     esac
     mapfile -t COMPREPLY < <(compgen -W "$values" -- "$word")

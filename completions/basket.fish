@@ -11,18 +11,20 @@ complete -c basket -n __fish_use_subcommand -a closed -d 'the frequent sets of w
 complete -c basket -n __fish_use_subcommand -a maximal -d 'the frequent sets of which no larger set is frequent'
 complete -c basket -n __fish_use_subcommand -a rules -d 'the rules that hold often enough'
 complete -c basket -n __fish_use_subcommand -a help -d 'the help of a command'
-complete -c basket -n '__fish_seen_subcommand_from help' -x -a "$words"
+complete -c basket -n '__fish_seen_subcommand_from help' -f
+complete -c basket -n "__fish_seen_subcommand_from help; and not __fish_seen_subcommand_from $words" -a "$words"
 complete -c basket -n __fish_use_subcommand -a count -d 'the counts of sets that you give'
 complete -c basket -n __fish_use_subcommand -a look -d 'what a file is, and the command that mines it'
-set -l after "__fish_seen_subcommand_from $reports"
+set -l alone "not __fish_seen_subcommand_from help; and __fish_seen_subcommand_from"
+set -l after "$alone $reports"
 complete -c basket -n $after -l min -x -d 'the least count of a set'
-complete -c basket -n '__fish_seen_subcommand_from rules' -l conf -x -d 'the least confidence of a rule'
+complete -c basket -n "$alone rules" -l conf -x -d 'the least confidence of a rule'
 complete -c basket -n $after -l miner -x -a 'apriori eclat eclat-diff eclat-bits fpgrowth' -d 'the algorithm'
 complete -c basket -n $after -l limit -x -d 'how many sets there may be'
-complete -c basket -n '__fish_seen_subcommand_from count' -l sets -r -d 'the file of the sets to count'
-complete -c basket -n "__fish_seen_subcommand_from $commands" -l form -x -a 'fimi baskets single counts csv-counts' -d 'how the input is written'
-complete -c basket -n "__fish_seen_subcommand_from $commands" -l sep -x -a 'comma semicolon tab pipe' -d 'what separates the fields of CSV'
-complete -c basket -n "__fish_seen_subcommand_from $commands" -l header -d 'skip the first record of CSV'
-complete -c basket -n "__fish_seen_subcommand_from $commands" -l weight -d 'the first field of each record is a weight'
-complete -c basket -n "__fish_seen_subcommand_from $commands" -l workers -x -d 'how many threads share the work'
-complete -c basket -n "__fish_seen_subcommand_from $commands" -l pieces -x -d 'how many pieces the work is cut into'
+complete -c basket -n "$alone count" -l sets -r -d 'the file of the sets to count'
+complete -c basket -n "$alone $commands" -l form -x -a 'fimi baskets single counts csv-counts' -d 'how the input is written'
+complete -c basket -n "$alone $commands" -l sep -x -a 'comma semicolon tab pipe' -d 'what separates the fields of CSV'
+complete -c basket -n "$alone $commands" -l header -d 'skip the first record of CSV'
+complete -c basket -n "$alone $commands" -l weight -d 'the first field of each record is a weight'
+complete -c basket -n "$alone $commands" -l workers -x -d 'how many threads share the work'
+complete -c basket -n "$alone $commands" -l pieces -x -d 'how many pieces the work is cut into'

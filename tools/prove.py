@@ -31,6 +31,8 @@ PROVED = re.compile(r"rt: (\w+)(: its tests are)?( is kept: .*| proved)$")
 FAILED = re.compile(r"rt: (.+) NOT PROVED")
 # Lines of a crate that failed on what is well in it.
 WELL = re.compile(r"\w+ \S+: (proved$|modules loaded)|by-macro: ")
+# The C functions of a library, and atomic words, on whose contracts a proof rests.
+AXIOMS = re.compile(r"axioms (\w+): .*\((\d+) of the \d+ declared\)$")
 # Its last line.
 COUNTED = re.compile(r"(\d+) passed, (\d+) failed\n")
 
@@ -83,6 +85,8 @@ class Report:
         self.loose: list[str] = []
         self.proved: list[str] = []
         self.kept: list[str] = []
+        # For each crate how many axioms of each library it rests on.
+        self.axioms: dict[str, dict[str, int]] = {}
         self.passed, self.failed = 0, 1
         self._of_crate: list[str] | None = None
 
@@ -103,6 +107,9 @@ class Report:
             self.loose.append(line)
             if counted := COUNTED.fullmatch(line):
                 self.passed, self.failed = int(counted[1]), int(counted[2])
+        elif found := AXIOMS.match(line):
+            crate = self._of_crate[0].removeprefix("== ").strip()
+            self.axioms.setdefault(crate, {})[found[1]] = int(found[2])
         elif not WELL.match(line):
             self._of_crate.append(line)
         return None
@@ -110,6 +117,14 @@ class Report:
     def text(self) -> str:
         """What the checker said of what failed, and its last lines."""
         return "".join([*self.faults, *(self._of_crate or []), *self.loose])
+
+    def untold(self, crate: str, page: str) -> str:
+        """What a page, which has numbers as "31 functions of `libc`", should say of a crate's axioms and doesn't."""
+        told = re.findall(r"(\d+) (?:functions )?of `(\w+)`", page)
+        found = self.axioms.get(crate, {}).items()
+        right = [(str(number), library) for library, number in found]
+        lost = [f"{number} of {library}" for number, library in {*right} - {*told}]
+        return f"{crate} rests on {', '.join(sorted(lost))}" if lost else ""
 
     def share(self) -> str:
         whole = len(self.proved) + len(self.kept)

@@ -35,6 +35,8 @@ BESIDE = ("basket_bench",)
 PYTHON = "/usr/bin/python3"
 FOLDERS = ("python", "tools", "bench", "page")
 STRICT = ("--strict", "--config-file=python/pyproject.toml")
+# The page that says on how many statements about C the program's proof rests.
+AXIOMS = Path("docs/THEOREM.md")
 CHECKS = (("black", "--check", *FOLDERS), ("mypy", *STRICT, *FOLDERS))
 
 
@@ -61,7 +63,10 @@ def proved(program: Path) -> Sum:
 
         report = prove(names, Path(tree), begin)
         tests = [it.result() for it in over]
-    return added([Sum(report.passed, report.failed, report.share()), *tests])
+    said = report.share()
+    if lost := report.untold(kit.PROGRAM, AXIOMS.read_text(encoding="utf-8")):
+        said += f"; {AXIOMS} has other numbers: {lost}"
+    return added([Sum(report.passed, report.failed, said), *tests])
 
 
 def over_program(tree: Path, program: Path) -> Sum:

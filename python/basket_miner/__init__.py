@@ -50,6 +50,9 @@ the report is wrong. Some have advice as a note, which a traceback shows below t
 message; `TooManySets.limit` and `InputError.line` are the numbers that the message has.
 """
 
+import importlib
+from typing import TYPE_CHECKING
+
 from ._baskets import Baskets
 from ._data import baskets
 from ._ending import to_thread
@@ -101,3 +104,14 @@ __all__ = [
     "tidy",
     "to_thread",
 ]
+
+_MODULES = ("cluster", "frequent_patterns", "plot", "preprocessing")
+
+# A type checker would take every name for one that is here.
+if not TYPE_CHECKING:
+
+    def __getattr__(name):
+        """A module, imported once it is asked for: some need more packages."""
+        if name in _MODULES:
+            return importlib.import_module(f"{__name__}.{name}")
+        raise AttributeError(f"module {__name__!r} has no attribute {name!r}")

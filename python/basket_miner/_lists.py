@@ -15,6 +15,7 @@ from ._errors import DataError
 from ._numbering import is_missing
 
 _TABLE_HINT = "; a table is given as a pandas.DataFrame"
+_COLUMN_HINT = "; give the frame, with basket= and item="
 _MATRIX_HINT = (
     "a table of these is given as a pandas.DataFrame, with a row for each basket and a column for "
     "each item"
@@ -50,9 +51,8 @@ def each(baskets: Any) -> Iterator[Iterable[Hashable]]:
         raise _no_items(fault) from fault
     for basket in found:
         if isinstance(basket, (str, bytes, bytearray, Mapping)):
-            raise DataError(
-                f"a basket is an iterable of items, not {basket!r}{_TABLE_HINT}"
-            )
+            hint = _COLUMN_HINT if isinstance(baskets, pd.Series) else _TABLE_HINT
+            raise DataError(f"a basket is an iterable of items, not {basket!r}{hint}")
         if isinstance(basket, pd.DataFrame):
             raise DataError(
                 "a basket is an iterable of items, not a DataFrame; frames of several parts of the baskets are "

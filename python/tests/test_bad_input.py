@@ -191,6 +191,7 @@ class Exchanged(Columns):
         ("a path is a str", b"shop.dat"),
         ("a file is given by its path", io.StringIO("1 2")),
         ("lists, by .agg", ROWS.groupby("receipt")["product"]),
+        ("not 'tea'; give the frame, with basket= and item=", ROWS["product"]),
     ],
 )
 def test_what_is_no_iterable_of_baskets_is_refused(said: str, data: object) -> None:

@@ -6,13 +6,14 @@ import io
 import random
 import re
 import sys
+from collections import Counter
 from collections.abc import Iterator
 from pathlib import Path
 from typing import Any
 
 import pytest
 
-from basket_miner import WrongReport, certify
+from basket_miner import InputError, WrongReport, certify
 from basket_miner.__main__ import main
 from basket_miner._program import run
 
@@ -160,6 +161,33 @@ def test_of_baskets_that_the_program_refuses_no_report_is_right(
 ) -> None:
     with pytest.raises(ValueError):
         certify(b"", content, ask="sets", minimum="1", form=form)
+
+
+def test_odd_baskets_are_read_or_refused_as_the_program_reads_or_refuses_them() -> None:
+    chance = random.Random(9)
+    layouts: list[tuple[str, Question]] = [
+        ("1234  0x \t\r\n\n-", {}),
+        ('abä ",,;\t\r\n\n1', {"form": "baskets"}),
+        ('abä ",,;\t\r\n\n2', {"form": "single", "header": True}),
+        ('123,,ab\n\n"\r', {"form": "baskets", "weighted": True}),
+    ]
+    ended = Counter[str]()
+    for letters, layout in layouts * 100:
+        content = "".join(chance.choices(letters, k=chance.randint(0, 30))).encode()
+        content += b"\xff" * (chance.random() < 0.05)
+        question: Question = {"minimum": "2", **layout}
+        question["ask"] = chance.choice(ASKS[:4])
+        try:
+            report = run(words_of(question), content)
+        except InputError:
+            with pytest.raises(ValueError) as caught:
+                certify(b"", content, **question)
+            assert not isinstance(caught.value, WrongReport)
+            ended["refused"] += 1
+        else:
+            certify(report, content, **question)
+            ended["read"] += 1
+    assert min(ended.values()) > 50
 
 
 def test_words_that_make_no_question_are_refused() -> None:

@@ -11,7 +11,7 @@ import re
 import shutil
 import subprocess
 import sys
-from collections.abc import Callable, Iterator
+from collections.abc import Iterator
 from dataclasses import dataclass
 from fractions import Fraction
 from pathlib import Path
@@ -72,15 +72,33 @@ def place(tmp_path_factory: pytest.TempPathFactory) -> Iterator[Path]:
         yield folder
 
 
+class Sections:
+    """What the blocks of each section have named: at first what the first section names."""
+
+    def __init__(self) -> None:
+        self._started: dict[str, Any] = {"__name__": "guide"}
+        for block in blocks():
+            if block.section == blocks()[0].section:
+                printed_by(block, self._started)
+        self._names: dict[str, dict[str, Any]] = {}
+        self._ran: set[int] = set()
+
+    def printed(self, block: Block) -> str:
+        """What a block prints after those before it in its section, which another process may have tested."""
+        names = self._names.setdefault(block.section, dict(self._started))
+        for other in blocks():
+            is_before = other.section == block.section and other.line < block.line
+            is_of_kind = other.needed in ("", block.needed) and other.language != "r"
+            if is_before and is_of_kind and other.line not in self._ran:
+                self._ran.add(other.line)
+                printed_by(other, names)
+        self._ran.add(block.line)
+        return printed_by(block, names)
+
+
 @pytest.fixture(scope="module")
-def names_in(place: Path) -> Callable[[str], dict[str, Any]]:
-    """What the blocks of a section have named so far: at first what the first section names."""
-    started: dict[str, Any] = {"__name__": "guide"}
-    for block in blocks():
-        if block.section == blocks()[0].section:
-            printed_by(block, started)
-    sections: dict[str, dict[str, Any]] = {}
-    return lambda section: sections.setdefault(section, dict(started))
+def sections(place: Path) -> Sections:
+    return Sections()
 
 
 def printed_by(block: Block, names: dict[str, Any]) -> str:
@@ -98,8 +116,7 @@ def printed_by(block: Block, names: dict[str, Any]) -> str:
 @pytest.mark.parametrize("block", blocks(), ids=lambda block: f"line {block.line}")
 def test_a_block_prints_what_the_guide_shows(
     block: Block,
-    place: Path,
-    names_in: Callable[[str], dict[str, Any]],
+    sections: Sections,
     request: pytest.FixtureRequest,
     monkeypatch: pytest.MonkeyPatch,
 ) -> None:
@@ -111,7 +128,7 @@ def test_a_block_prints_what_the_guide_shows(
         pytest.skip(f"{block.needed} is not here")
     if block.language == "r" and shutil.which("Rscript") is None:
         pytest.skip("R is not here")
-    assert printed_by(block, names_in(block.section)) == (block.printed or "")
+    assert sections.printed(block) == (block.printed or "")
 
 
 def test_the_pictures_that_the_guide_shows_are_there() -> None:

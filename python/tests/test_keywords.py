@@ -2,7 +2,10 @@
 
 import inspect
 import pydoc
+import subprocess
+import sys
 from collections.abc import Callable
+from pathlib import Path
 from typing import Any
 
 import pytest
@@ -10,6 +13,7 @@ import pytest
 import basket_miner as miner
 from basket_miner import cluster, plot
 
+PACKAGE = Path(__file__).parents[1]
 FRAME: Any = {"basket": None, "item": None, "weight": None, "missing": "refuse"}
 FILE: Any = {"form": None, "sep": None, "header": False, "weighted": False}
 RUN: Any = {"workers": 1, "exact": False, "progress": False, "timeout": None}
@@ -89,3 +93,19 @@ def test_the_parts_of_the_package_are_found_as_before() -> None:
         *("Parts", "closed", "maximal", "prepare", "report", "rules", "sets")
     ]
     assert all(hasattr(cluster, name) for name in cluster.__all__)
+
+
+def test_modules_that_need_more_packages_are_there_once_they_are_asked_for() -> None:
+    code = """
+import sys, basket_miner
+assert not {"dask", "matplotlib"} & {*sys.modules}
+for name in ("cluster", "frequent_patterns", "plot", "preprocessing"):
+    assert getattr(basket_miner, name).__name__ == f"basket_miner.{name}"
+try:
+    basket_miner.plots
+except AttributeError as fault:
+    assert str(fault) == "module 'basket_miner' has no attribute 'plots'"
+else:
+    assert False
+"""
+    subprocess.run([sys.executable, "-c", code], check=True, cwd=PACKAGE)

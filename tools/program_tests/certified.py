@@ -3,8 +3,10 @@
 import functools
 import importlib.util
 import sys
+from itertools import chain
 from pathlib import Path
 from types import ModuleType
+from typing import NamedTuple
 
 FILE = Path(__file__).parents[2] / "python/basket_miner/certify.py"
 # Baskets and a report of so many bytes together are checked in a second or two.
@@ -22,6 +24,13 @@ OTHERS = ("--miner", "--workers", "--pieces", "--limit")
 Question = tuple[tuple[str, str | bool], ...]
 
 
+class Asked(NamedTuple):
+    """What words ask, and the name of the baskets' file, which is `-` for standard input."""
+
+    question: Question
+    name: str
+
+
 @functools.cache
 def checker() -> ModuleType:
     """The module that checks, without the package that it is in, which needs pandas."""
@@ -33,10 +42,16 @@ def checker() -> ModuleType:
     return module
 
 
-def question_of(words: list[str]) -> Question | None:
-    """What the words ask of the baskets on standard input, if it is that."""
+def split(word: str) -> list[str]:
+    """An option and its value, if they are one word."""
+    return word.split("=", 1) if word.startswith("--") else [word]
+
+
+def asked_by(words: list[str]) -> Asked | None:
+    """What the words ask of baskets, if it is that."""
     found: dict[str, str | bool] = {"ask": words[0] if words else ""}
-    given = iter(words[1:])
+    name = "-"
+    given = chain.from_iterable(map(split, words[1:]))
     for word in given:
         if word in FLAGS:
             found[FLAGS[word]] = True
@@ -44,11 +59,13 @@ def question_of(words: list[str]) -> Question | None:
             found[VALUES[word]] = next(given)
         elif word in OTHERS:
             next(given)
-        else:
+        elif word.startswith("--"):
             return None
+        else:
+            name = word
     is_known = found["ask"] in checker().ASKS
     has_baskets = found.get("form", "fimi") in checker().FORMS
-    return tuple(found.items()) if is_known and has_baskets else None
+    return Asked(tuple(found.items()), name) if is_known and has_baskets else None
 
 
 @functools.lru_cache(maxsize=100)
@@ -56,8 +73,23 @@ def certify(question: Question, baskets: bytes, report: bytes) -> None:
     checker().certify(report, baskets, **dict(question))
 
 
-def check(words: list[str], baskets: bytes, report: bytes) -> None:
-    """Raises `ValueError` if a report is wrong that can be checked quickly."""
+def check(words: list[str], given: bytes, report: bytes, place: str | Path) -> None:
+    """Raises `ValueError` if a report is wrong that can be checked quickly.
+
+    Args:
+        words: of the command line.
+        given: standard input.
+        report: what the program wrote.
+        place: the folder in which it ran.
+    """
+    if not (asked := asked_by(words)):
+        return
+    if asked.name in ("-", "/dev/stdin"):
+        baskets = given
+    elif (file := Path(place, asked.name)).is_file():
+        baskets = file.read_bytes()
+    else:
+        # A pipe is read once.
+        return
     if len(baskets) + len(report) <= MOST_BYTES:
-        if question := question_of(words):
-            certify(question, baskets, report)
+        certify(asked.question, baskets, report)

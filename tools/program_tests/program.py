@@ -39,7 +39,7 @@ def run(
         check=False,
     )
     if ended.returncode == 0:
-        certified.check(words, given, ended.stdout)
+        certified.check(words, given, ended.stdout, ".")
     return Run(ended.stdout, ended.stderr.decode(), ended.returncode)
 
 
@@ -62,7 +62,7 @@ def run_between(words: list[str], given: str, taken: str) -> Run:
 
 
 def run_at_terminal(words: list[str], given: bytes, place: str | Path = ".") -> Run:
-    """Runs the program in a folder, with a terminal as its standard error."""
+    """Runs the program in a folder, with a terminal as its standard error, and has its report checked."""
     above, below = pty.openpty()
     with subprocess.Popen(
         [PROGRAM, *words],
@@ -83,6 +83,8 @@ def run_at_terminal(words: list[str], given: bytes, place: str | Path = ".") -> 
             break
         said += piece
     os.close(above)
+    if process.returncode == 0:
+        certified.check(words, given, out, place)
     # A terminal ends a line with a carriage return too.
     return Run(out, said.decode().replace("\r\n", "\n"), process.returncode)
 

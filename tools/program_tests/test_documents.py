@@ -170,7 +170,7 @@ class Documents(unittest.TestCase):
                     with self.subTest(name=name, word=word):
                         self.assertRegex(text, rf"(?<![\w-]){word}(?![\w-])")
 
-    def test_completion_for_bash_offers_commands_options_and_values(self) -> None:
+    def test_completion_for_bash_offers_commands_options_values_and_files(self) -> None:
         rows = (
             ("basket it", "items"),
             ("basket rules --co", "--conf"),
@@ -178,18 +178,28 @@ class Documents(unittest.TestCase):
             ("basket count --set", "--sets"),
             ("basket count --form c", "counts csv-counts"),
             ("basket count --mi", ""),
+            ("basket sets --form =", "fimi baskets single counts csv-counts"),
+            ("basket sets --form = bask", "baskets"),
+            ("basket help ma", "maximal"),
+            ("basket help sets ''", ""),
+            # Where nothing is offered, bash offers files.
+            ("basket sets --min 2 ''", ""),
+            ("basket sets --min 2 examples/re", ""),
+            ("basket look ''", ""),
         )
         for line, wanted in rows:
-            words = line.split()
             script = (
                 f"source {ROOT}/completions/basket.bash; COMP_WORDS=({line}); "
-                f"COMP_CWORD={len(words) - 1}; _basket; echo ${{COMPREPLY[*]}}"
+                "COMP_CWORD=$((${#COMP_WORDS[@]} - 1)); _basket; "
+                "echo ${COMPREPLY[*]}; complete -p basket"
             )
             with self.subTest(line=line):
                 said = subprocess.run(
                     ["bash", "-c", script], capture_output=True, check=True
-                ).stdout
-                self.assertEqual(said.decode().strip(), wanted)
+                ).stdout.decode()
+                offered, _, how = said.partition("\n")
+                self.assertEqual(offered.strip(), wanted)
+                self.assertIn("-o default", how)
 
     def test_the_program_of_the_library_page_is_the_one_that_is_tested(self) -> None:
         shown_there = re.findall(r"(?s)```rust\n(.*?)```", text_of("docs/LIBRARY.md"))

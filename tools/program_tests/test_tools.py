@@ -9,6 +9,8 @@ from edits import TRIED, Edit
 from package import links_of
 from prove import Report
 
+from .certified import check
+
 # As `rt ci` prints it.
 CHECKED = """\
 == basket_stream
@@ -117,3 +119,42 @@ class Tools(unittest.TestCase):
             (report.proved, report.kept), (["basket_runs"], ["basket_order"])
         )
         self.assertEqual((report.passed, report.failed), (2, 0))
+
+    def test_numbers_of_axioms_that_a_page_has_not_are_told(self) -> None:
+        report = Report()
+        lines = (
+            "== basket_cli",
+            "axioms libc: libc::close, libc::read, ... (31 of the 393 declared)",
+            "axioms os: os::load, os::store (11 of the 20 declared)",
+            "rt: basket_cli proved",
+        )
+        for line in lines:
+            report.take(f"{line}\n")
+        rows = (
+            ("31 functions of `libc` and 11 of `os`", ""),
+            ("30 functions of `libc` and 11 of `os`", "basket_cli rests on 31 of libc"),
+            ("", "basket_cli rests on 11 of os, 31 of libc"),
+        )
+        for page, wanted in rows:
+            with self.subTest(page=page):
+                self.assertEqual(report.untold("basket_cli", page), wanted)
+        self.assertEqual(report.untold("basket_look", ""), "")
+
+    def test_a_report_over_standard_input_or_a_file_is_checked_by_other_code(
+        self,
+    ) -> None:
+        shop, named = b"1 2\n1\n", b"tea;jam\ntea\n"
+        # Words, standard input, the file, and the report.
+        rows = (
+            ("sets --min 2", shop, b"", b"1 (2)\n"),
+            ("sets --min=2 --workers=4 -", shop, b"", b"1 (2)\n"),
+            ("items --min 2 shop", b"", shop, b"1 (2)\n"),
+            ("items --form=baskets --sep=; --min=2 shop", b"", named, b"2;tea\n"),
+        )
+        for words, given, content, report in rows:
+            with self.subTest(words=words), tempfile.TemporaryDirectory() as folder:
+                Path(folder, "shop").write_bytes(content)
+                check(words.split(), given, report, folder)
+                wrong = report.replace(b"2", b"3")
+                with self.assertRaises(ValueError):
+                    check(words.split(), given, wrong, folder)
