@@ -63,10 +63,10 @@ def proved(program: Path) -> Sum:
 
         report = prove(names, Path(tree), begin)
         tests = [it.result() for it in over]
-    said = report.share()
+    said, failed = report.share(), report.failed
     if lost := report.untold(kit.PROGRAM, AXIOMS.read_text(encoding="utf-8")):
-        said += f"; {AXIOMS} has other numbers: {lost}"
-    return added([Sum(report.passed, report.failed, said), *tests])
+        said, failed = f"{said}; {AXIOMS} has other numbers: {lost}", failed + 1
+    return added([Sum(report.passed, failed, said), *tests])
 
 
 def over_program(tree: Path, program: Path) -> Sum:
