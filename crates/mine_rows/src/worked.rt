@@ -1,6 +1,7 @@
 //! Worked examples of the definitions, proved by computing them, and of rows.
 ghost use Rattle.std.specs.Prelude.{◌≡◌, ◌*◌, [], ◌∷◌, ℕ, IfOk, replicate};
 ghost use Rattle.mine_rows.specs.Bits.{shared_bits, words_of};
+ghost use Rattle.mine_rows.specs.Cover.{lacking};
 ghost use Rattle.mine_rows.specs.Planes.{bits_of};
 
 use crate::row::Row;
@@ -18,6 +19,14 @@ pub fn words_share_bits()
 pub fn rows_have_bits()
     ensures row { words_of 70 (0 ∷ 2 ∷ 63 ∷ 64 ∷ []) ≡ 9223372036854775813 ∷ 1 ∷ [] }
     ensures planes { bits_of (1 ∷ 2 ∷ 3 ∷ []) ≡ 0 ∷ 1 ∷ [] }
+{}
+
+/// Beside all of nine places, a cover of seven lacks 4 and 6. So does what it has in common with
+/// another, beside that one; and beside the cover of seven this lacks 1, 2 and 5.
+pub fn differences_of_covers()
+    ensures first { lacking (0 ∷ 1 ∷ 2 ∷ 3 ∷ 4 ∷ 5 ∷ 6 ∷ 7 ∷ 8 ∷ []) (0 ∷ 1 ∷ 2 ∷ 3 ∷ 5 ∷ 7 ∷ 8 ∷ []) ≡ 4 ∷ 6 ∷ [] }
+    ensures joined { lacking (0 ∷ 3 ∷ 4 ∷ 6 ∷ 7 ∷ 8 ∷ []) (0 ∷ 3 ∷ 7 ∷ 8 ∷ []) ≡ 4 ∷ 6 ∷ [] }
+    ensures swapped { lacking (0 ∷ 1 ∷ 2 ∷ 3 ∷ 5 ∷ 7 ∷ 8 ∷ []) (0 ∷ 3 ∷ 7 ∷ 8 ∷ []) ≡ 1 ∷ 2 ∷ 5 ∷ [] }
 {}
 
 /// Over the weights 1, 2 and 3 the cover of all places counts 6, and that of the first and the last
