@@ -44,29 +44,39 @@ fn plan(minimum: &str) -> Result<Plan, Fail> {
     }
 }
 
-/// Runs what the words ask for. Out of memory is a failure of its own, after which nothing may be
-/// written.
+/// What a run came to, and what was written.
+type Ran = (Result<(), RunFault>, Vec<u8>);
+
+/// What a run came to. Out of memory is a failure of its own, after which nothing may be written.
+fn ran(result: Result<(), RunFault>, written: Vec<u8>) -> Result<Ran, Fail> {
+    match result {
+        Err(
+            RunFault::Sets(ReadFault::Memory)
+            | RunFault::Input(ReadFault::Memory)
+            | RunFault::Mine(MineFault::Memory),
+        ) => match written.is_empty() {
+            true => Err(Fail::from(AllocError)),
+            false => Err(Fail::new("bytes were written")),
+        },
+        result => Ok((result, written)),
+    }
+}
+
+/// Runs what the words ask for.
 fn run_words<R: Threads + Sync>(
     rt: &R,
     alloc: Global,
     words: &[&str],
-    reader: &mut MemSource<'_>,
-    writer: &mut MemSink,
-) -> Result<Result<(), RunFault>, Fail>
-    requires reader { ⟦<MemSource as Source>⟧.has_failed reader.old ≡ false }
-    requires writer { ⟦<MemSink as Sink>⟧.has_failed writer.old ≡ false }
+    mut reader: MemSource<'_>,
+    mut writer: MemSink,
+) -> Result<Ran, Fail>
+    requires reader { ⟦<MemSource as Source>⟧.has_failed reader ≡ false }
+    requires writer { ⟦<MemSink as Sink>⟧.has_failed writer ≡ false }
 {
     let Invocation { task, .. } = invocation_of(alloc, words)?;
     let Task::Report(plan) = task else {
         return Err(Fail::new("the words ask for no report"));
     };
-    match run(&NoRandomBytes(rt), alloc, &plan, reader, writer) {
-        Err(RunFault::Input(ReadFault::Memory) | RunFault::Mine(MineFault::Memory)) => {
-            match writer.bytes().is_empty() {
-                true => Err(Fail::from(AllocError)),
-                false => Err(Fail::new("bytes were written")),
-            }
-        }
-        result => Ok(result),
-    }
+    let result = run(&NoRandomBytes(rt), alloc, &plan, &mut reader, &mut writer);
+    ran(result, writer.into_bytes())
 }

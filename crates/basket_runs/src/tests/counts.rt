@@ -15,12 +15,15 @@ fn counts_are_the_same_however_bytes_are_given_and_baskets_shared(
     for step in [1, 7, 65_536] {
         for workers in [1, 4] {
             let plan = CountPlan::of(Layout::of(Form::Fimi)).with_workers(workers);
-            let mut sets = MemSource::new(SETS, step, None);
-            let mut reader = MemSource::new(NINE_BASKETS, step, None);
-            let mut writer = MemSink::new(rt.alloc(), 100, step, false)?;
-            let result = counted(&rt, rt.alloc(), &plan, &mut sets, &mut reader, &mut writer)?;
-            assert_eq!(rt; result, Ok(()), "by {step} and {workers} workers");
-            assert_eq!(rt; writer.bytes(), COUNTS, "by {step} and {workers} workers");
+            let sets = MemSource::new(SETS, step, None);
+            let reader = MemSource::new(NINE_BASKETS, step, None);
+            let writer = MemSink::new(rt.alloc(), 100, step, false)?;
+            let (result, text) = counted(&rt, rt.alloc(), &plan, sets, reader, writer)?;
+            assert_eq!(rt;
+                (result, text.as_slice()),
+                (Ok(()), COUNTS),
+                "by {step} and {workers} workers"
+            );
         }
     }
     Ok(())
@@ -30,12 +33,11 @@ fn counts_are_the_same_however_bytes_are_given_and_baskets_shared(
 fn counts_of_concatenated_parts_are_added_up(rt: HostRuntime) -> Result<(), Fail> {
     let parts = b"(4)\n1 2 (2)\n9 4294967295 (0)\n3 (1)\n3 (5)\n1 2 (2)\n(5)\n9 4294967295 (0)\n";
     let plan = CountPlan::of(Layout::of(Form::Counts));
-    let mut sets = MemSource::new(SETS, 100, None);
-    let mut reader = MemSource::new(parts, 100, None);
-    let mut writer = MemSink::new(rt.alloc(), 100, 100, false)?;
-    let result = counted(&rt, rt.alloc(), &plan, &mut sets, &mut reader, &mut writer)?;
-    assert_eq!(rt; result, Ok(()));
-    assert_eq!(rt; writer.bytes(), COUNTS);
+    let sets = MemSource::new(SETS, 100, None);
+    let reader = MemSource::new(parts, 100, None);
+    let writer = MemSink::new(rt.alloc(), 100, 100, false)?;
+    let (result, text) = counted(&rt, rt.alloc(), &plan, sets, reader, writer)?;
+    assert_eq!(rt; (result, text.as_slice()), (Ok(()), COUNTS));
     Ok(())
 }
 
@@ -51,13 +53,14 @@ fn each_reader_that_fails_is_told_and_nothing_is_written(rt: HostRuntime) -> Res
             CountPlan::of(Layout::of(Form::Fimi)),
             CountPlan::of(Layout::of(Form::Counts)),
         ] {
-            let mut sets = MemSource::new(SETS, 1, before_sets);
-            let mut reader = MemSource::new(b"1 2 3", 1, before_input);
-            let mut writer = MemSink::new(rt.alloc(), 100, 100, false)?;
-            let result = counted(&rt, rt.alloc(), &plan, &mut sets, &mut reader, &mut writer)?;
-            assert_eq!(rt; result, Err(fault));
-            assert_eq!(rt; writer.bytes(), b"".as_slice());
-            assert_eq!(rt; status_of(&fault), 4);
+            let sets = MemSource::new(SETS, 1, before_sets);
+            let reader = MemSource::new(b"1 2 3", 1, before_input);
+            let writer = MemSink::new(rt.alloc(), 100, 100, false)?;
+            let (result, text) = counted(&rt, rt.alloc(), &plan, sets, reader, writer)?;
+            assert_eq!(rt;
+                (result, text.as_slice(), status_of(&fault)),
+                (Err(fault), b"".as_slice(), 4)
+            );
         }
     }
     Ok(())
@@ -66,34 +69,37 @@ fn each_reader_that_fails_is_told_and_nothing_is_written(rt: HostRuntime) -> Res
 #[test]
 fn a_set_without_a_count_is_told_by_its_place(rt: HostRuntime) -> Result<(), Fail> {
     let plan = CountPlan::of(Layout::of(Form::Counts));
-    let mut sets = MemSource::new(SETS, 100, None);
-    let mut reader = MemSource::new(b"(9)\n1 2 (4)\n", 100, None);
-    let mut writer = MemSink::new(rt.alloc(), 100, 100, false)?;
-    let result = counted(&rt, rt.alloc(), &plan, &mut sets, &mut reader, &mut writer)?;
-    assert_eq!(rt; result, Err(RunFault::Uncounted { nth: 2 }));
-    assert_eq!(rt; writer.bytes(), b"".as_slice());
+    let sets = MemSource::new(SETS, 100, None);
+    let reader = MemSource::new(b"(9)\n1 2 (4)\n", 100, None);
+    let writer = MemSink::new(rt.alloc(), 100, 100, false)?;
+    let (result, text) = counted(&rt, rt.alloc(), &plan, sets, reader, writer)?;
+    assert_eq!(rt;
+        (result, text.as_slice()),
+        (Err(RunFault::Uncounted { nth: 2 }), b"".as_slice())
+    );
     Ok(())
 }
 
-/// Counts the sets. Out of memory is a failure of its own.
+/// Counts the sets.
 fn counted<R: Threads + Sync>(
     rt: &R,
     alloc: Global,
     plan: &CountPlan,
-    sets: &mut MemSource<'_>,
-    reader: &mut MemSource<'_>,
-    writer: &mut MemSink,
-) -> Result<Result<(), RunFault>, Fail>
-    requires sets { ⟦<MemSource as Source>⟧.has_failed sets.old ≡ false }
-    requires reader { ⟦<MemSource as Source>⟧.has_failed reader.old ≡ false }
-    requires writer { ⟦<MemSink as Sink>⟧.has_failed writer.old ≡ false }
+    mut sets: MemSource<'_>,
+    mut reader: MemSource<'_>,
+    mut writer: MemSink,
+) -> Result<Ran, Fail>
+    requires sets { ⟦<MemSource as Source>⟧.has_failed sets ≡ false }
+    requires reader { ⟦<MemSource as Source>⟧.has_failed reader ≡ false }
+    requires writer { ⟦<MemSink as Sink>⟧.has_failed writer ≡ false }
 {
-    match run_count(&NoRandomBytes(rt), alloc, plan, sets, reader, writer) {
-        Err(
-            RunFault::Sets(ReadFault::Memory)
-            | RunFault::Input(ReadFault::Memory)
-            | RunFault::Mine(MineFault::Memory),
-        ) => Err(Fail::from(AllocError)),
-        result => Ok(result),
-    }
+    let result = run_count(
+        &NoRandomBytes(rt),
+        alloc,
+        plan,
+        &mut sets,
+        &mut reader,
+        &mut writer,
+    );
+    ran(result, writer.into_bytes())
 }

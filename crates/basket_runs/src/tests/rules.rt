@@ -18,32 +18,29 @@ fn lacking_one(alloc: Global) -> Result<Vec<u8>, AllocError> {
     Ok(text)
 }
 
+/// The rules at a confidence of 3/4 that so many workers write.
+fn rules_by<R: Threads + Sync>(
+    rt: &R,
+    alloc: Global,
+    text: &[u8],
+    workers: &str,
+) -> Result<Vec<u8>, Fail> {
+    let words = ["rules", "--min", "1", "--conf", "3/4", "--workers", workers];
+    let reader = MemSource::new(text, 65_536, None);
+    match run_words(rt, alloc, &words, reader, MemSink::unbounded(alloc))? {
+        (Ok(()), rules) => Ok(rules),
+        (Err(fault), _) => Err(Fail::from(fault)),
+    }
+}
+
 #[test]
 fn several_workers_write_the_rules_that_one_writes(rt: HostRuntime) -> Result<(), Fail> {
     let text = lacking_one(rt.alloc())?;
-    let mut one = MemSink::unbounded(rt.alloc());
-    let words = ["rules", "--min", "1", "--conf", "3/4", "--workers", "1"];
-    let ran = run_words(
-        &rt,
-        rt.alloc(),
-        &words,
-        &mut MemSource::new(&text, 65_536, None),
-        &mut one,
-    )?;
-    assert!(rt; ran.is_ok());
-    assert!(rt; one.bytes().len() > 1_000_000, "there are few rules");
+    let one = rules_by(&rt, rt.alloc(), &text, "1")?;
+    assert!(rt; one.len() > 1_000_000, "there are few rules");
     for workers in ["2", "3", "7"] {
-        let words = ["rules", "--min", "1", "--conf", "3/4", "--workers", workers];
-        let mut several = MemSink::unbounded(rt.alloc());
-        let ran = run_words(
-            &rt,
-            rt.alloc(),
-            &words,
-            &mut MemSource::new(&text, 65_536, None),
-            &mut several,
-        )?;
-        assert!(rt; ran.is_ok());
-        assert!(rt; several.bytes() == one.bytes(), "{workers} workers");
+        let several = rules_by(&rt, rt.alloc(), &text, workers)?;
+        assert!(rt; several == one, "{workers} workers");
     }
     Ok(())
 }

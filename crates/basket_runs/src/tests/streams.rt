@@ -27,14 +27,31 @@ fn a_report_is_the_same_however_its_bytes_are_given_and_taken(rt: HostRuntime) -
     ];
     for &(words, input, want) in cases {
         for step in [1, 7, 65_536] {
-            let mut reader = MemSource::new(input, step, None);
-            let mut writer = MemSink::new(rt.alloc(), 300, step, false)?;
-            let result = run_words(&rt, rt.alloc(), words, &mut reader, &mut writer)?;
-            assert_eq!(rt; result, Ok(()), "{words:?} by {step}");
-            assert_eq!(rt; writer.bytes(), want, "{words:?} by {step}");
+            let reader = MemSource::new(input, step, None);
+            let writer = MemSink::new(rt.alloc(), 300, step, false)?;
+            let (result, text) = run_words(&rt, rt.alloc(), words, reader, writer)?;
+            assert_eq!(rt;
+                (result, text.as_slice()),
+                (Ok(()), want),
+                "{words:?} by {step}"
+            );
         }
     }
     Ok(())
+}
+
+/// Runs `items` at a count of 1.
+fn items<R: Threads + Sync>(
+    rt: &R,
+    alloc: Global,
+    form: &str,
+    reader: MemSource<'_>,
+) -> Result<Ran, Fail>
+    requires { ⟦<MemSource as Source>⟧.has_failed reader ≡ false }
+{
+    let words = ["items", "--form", form, "--min", "1"];
+    let writer = MemSink::new(alloc, 100, 100, false)?;
+    run_words(rt, alloc, &words, reader, writer)
 }
 
 #[test]
@@ -49,18 +66,14 @@ fn a_fault_in_the_lines_before_a_failed_read_is_told(rt: HostRuntime) -> Result<
         (b"1 2\nx", 5, byte, 3),
     ];
     for &(input, reads, fault, status) in cases {
-        let mut reader = MemSource::new(input, 1, Some(reads));
-        let mut writer = MemSink::new(rt.alloc(), 100, 100, false)?;
-        let result = run_words(
-            &rt,
-            rt.alloc(),
-            &["items", "--min", "1"],
-            &mut reader,
-            &mut writer,
-        )?;
-        assert_eq!(rt; result, Err(RunFault::Input(fault)), "after {reads} reads");
-        assert_eq!(rt; writer.bytes(), b"".as_slice(), "after {reads} reads");
-        assert_eq!(rt; status_of(&RunFault::Input(fault)), status);
+        let reader = MemSource::new(input, 1, Some(reads));
+        let (result, text) = items(&rt, rt.alloc(), "fimi", reader)?;
+        let fault = RunFault::Input(fault);
+        assert_eq!(rt;
+            (result, text.as_slice(), status_of(&fault)),
+            (Err(fault), b"".as_slice(), status),
+            "after {reads} reads"
+        );
     }
     Ok(())
 }
@@ -68,12 +81,13 @@ fn a_fault_in_the_lines_before_a_failed_read_is_told(rt: HostRuntime) -> Result<
 #[test]
 fn a_failed_read_of_csv_is_all_that_is_told(rt: HostRuntime) -> Result<(), Fail> {
     for (form, input) in [("single", b"a\n".as_slice()), ("baskets", b"\xFF\n")] {
-        let mut reader = MemSource::new(input, 1, Some(2));
-        let mut writer = MemSink::new(rt.alloc(), 100, 100, false)?;
-        let words = ["items", "--form", form, "--min", "1"];
-        let result = run_words(&rt, rt.alloc(), &words, &mut reader, &mut writer)?;
-        assert_eq!(rt; result, Err(RunFault::Input(ReadFault::Read)), "{form}");
-        assert_eq!(rt; writer.bytes(), b"".as_slice(), "{form}");
+        let reader = MemSource::new(input, 1, Some(2));
+        let (result, text) = items(&rt, rt.alloc(), form, reader)?;
+        assert_eq!(rt;
+            (result, text.as_slice()),
+            (Err(RunFault::Input(ReadFault::Read)), b"".as_slice()),
+            "{form}"
+        );
     }
     Ok(())
 }
@@ -94,21 +108,25 @@ fn a_writer_that_fails_has_taken_a_front_of_the_report(rt: HostRuntime) -> Resul
         ("sets", 300, 100, true, write, THIRTEEN_SETS),
     ];
     for &(ask, room, piece, flush_fails, want, written) in cases {
-        let mut reader = MemSource::new(NINE_BASKETS, 100, None);
-        let mut writer = MemSink::new(rt.alloc(), room, piece, flush_fails)?;
-        let result = run_words(
-            &rt,
-            rt.alloc(),
-            &[ask, "--min", "2"],
-            &mut reader,
-            &mut writer,
-        )?;
-        assert_eq!(rt; result, want, "{ask} by {piece} into {room}");
-        assert_eq!(rt; writer.bytes(), written, "{ask} by {piece} into {room}");
+        let reader = MemSource::new(NINE_BASKETS, 100, None);
+        let writer = MemSink::new(rt.alloc(), room, piece, flush_fails)?;
+        let (result, text) = run_words(&rt, rt.alloc(), &[ask, "--min", "2"], reader, writer)?;
+        assert_eq!(rt;
+            (result, text.as_slice()),
+            (want, written),
+            "{ask} by {piece} into {room}"
+        );
     }
-    assert_eq!(rt; status_of(&RunFault::Write), 4);
+    Ok(())
+}
+
+#[test]
+fn a_writer_that_fails_ends_with_4(rt: HostRuntime) -> Result<(), Fail> {
     let text = RunFault::Write.to_string(rt.alloc())?;
-    assert_eq!(rt; text.as_str(), "cannot write the report");
+    assert_eq!(rt;
+        (text.as_str(), status_of(&RunFault::Write)),
+        ("cannot write the report", 4)
+    );
     Ok(())
 }
 
@@ -159,23 +177,29 @@ fn pairs(alloc: Global, sign: Option<u32>) -> Result<Vec<u8>, AllocError> {
     Ok(text)
 }
 
+/// Whether so many workers read what one reads.
+fn reads_alike<R: Threads + Sync>(rt: &R, alloc: Global, text: &[u8], workers: u32) -> bool {
+    let one = read_fimi(alloc, &mut MemSource::new(text, 10_000, None));
+    let mut reader = MemSource::new(text, 10_000, None);
+    match (
+        one,
+        read_fimi_shared(&NoRandomBytes(rt), alloc, &mut reader, workers),
+    ) {
+        (Ok(one), Ok(all)) => one.baskets() == all.baskets(),
+        (Err(one), Err(all)) => one == all,
+        _ => false,
+    }
+}
+
 #[test]
 fn workers_read_what_one_reads(rt: HostRuntime) -> Result<(), Fail> {
-    let alloc = rt.alloc();
     for sign in [None, Some(2), Some(67_000)] {
-        let text = pairs(alloc, sign)?;
-        let one = read_fimi(alloc, &mut MemSource::new(&text, 10_000, None));
+        let text = pairs(rt.alloc(), sign)?;
         for workers in [2, 3] {
-            let mut reader = MemSource::new(&text, 10_000, None);
-            let same = match (
-                &one,
-                &read_fimi_shared(&NoRandomBytes(&rt), alloc, &mut reader, workers),
-            ) {
-                (Ok(one), Ok(all)) => one.baskets() == all.baskets(),
-                (Err(one), Err(all)) => one == all,
-                _ => false,
-            };
-            assert!(rt; same, "a sign in {sign:?}, by {workers}");
+            assert!(rt;
+                reads_alike(&rt, rt.alloc(), &text, workers),
+                "a sign in {sign:?}, by {workers}"
+            );
         }
     }
     Ok(())

@@ -107,6 +107,19 @@ impl Meeting {
     }
 }
 
+/// How many sets are found where workers meet in a phase, which phases there were, and whether they
+/// met.
+fn found_meeting<R: Threads + Sync>(
+    rt: &R,
+    alloc: Global,
+    plan: &Plan,
+    phase: u32,
+) -> Result<(Option<usize>, u64, bool), Fail> {
+    let gate = Meeting::in_phase(phase);
+    let found = found_by_two(rt, alloc, NINE_BASKETS, plan, Watch::Meeting(&gate))?;
+    Ok((found, gate.phases.load(Ordering::SeqCst), gate.met()))
+}
+
 #[test]
 fn workers_meet_in_each_phase(rt: HostRuntime) -> Result<(), Fail> {
     for &(name, miner) in MINERS {
@@ -116,13 +129,13 @@ fn workers_meet_in_each_phase(rt: HostRuntime) -> Result<(), Fail> {
         };
         let plan = plan("2")?.with_miner(miner).with_pieces(2);
         for phase in 1..4 {
-            let gate = Meeting::in_phase(phase);
-            let found = found_by_two(&rt, rt.alloc(), NINE_BASKETS, &plan, Watch::Meeting(&gate))?;
-            assert_eq!(rt; found, Some(13), "{name} in phase {phase}");
-            assert_eq!(rt; gate.phases.load(Ordering::SeqCst), phases, "{name}");
-            if phases & (1 << phase) != 0 {
-                assert!(rt; gate.met(), "{name} in phase {phase}");
-            }
+            let has_phase = phases & (1 << phase) != 0;
+            let found = found_meeting(&rt, rt.alloc(), &plan, phase)?;
+            assert_eq!(rt;
+                found,
+                (Some(13), phases, has_phase),
+                "{name} in phase {phase}"
+            );
         }
     }
     Ok(())

@@ -25,22 +25,33 @@ fn two_workers_have_one_limit(rt: HostRuntime) -> Result<(), Fail> {
     Ok(())
 }
 
+/// How many sets are found while the first worker waits for 13 pieces, how many pieces were passed
+/// then, and whether it waited too long.
+fn found_after_thirteen<R: Threads + Sync>(
+    rt: &R,
+    alloc: Global,
+    miner: Miner,
+) -> Result<(Option<usize>, u64, bool), Fail> {
+    let plan = plan("2")?
+        .with_miner(miner)
+        .with_pieces(43)
+        .with_limit(1_100);
+    let gate = FirstLast::after(13);
+    let found = found_by_two(rt, alloc, FOUR_TENS, &plan, Watch::FirstLast(&gate))?;
+    Ok((found, gate.passed.load(Ordering::SeqCst), gate.is_late()))
+}
+
 /// While one worker is paused at the first piece, of one set, the other has 1,025 in twelve pieces
 /// and 512 in the next. Before it has reported these, the first may go on to one more piece, of
 /// 256.
 #[test]
 fn a_worker_stops_at_what_the_other_found(rt: HostRuntime) -> Result<(), Fail> {
     for (name, miner) in [("eclat", Miner::Eclat), ("fpgrowth", Miner::FpGrowth)] {
-        let plan = plan("2")?
-            .with_miner(miner)
-            .with_pieces(43)
-            .with_limit(1_100);
-        let gate = FirstLast::after(13);
-        let found = found_by_two(&rt, rt.alloc(), FOUR_TENS, &plan, Watch::FirstLast(&gate))?;
-        assert_eq!(rt; found, None, "{name}");
-        assert!(rt; !gate.is_late(), "{name} passed few pieces");
-        let passed = gate.passed.load(Ordering::SeqCst);
-        assert!(rt; passed <= 14, "{name} passed {passed} pieces");
+        let found = found_after_thirteen(&rt, rt.alloc(), miner)?;
+        assert!(rt;
+            matches!(found, (None, passed, false) if passed <= 14),
+            "{name}: {found:?}"
+        );
     }
     Ok(())
 }

@@ -2,6 +2,8 @@
 use super::gates::Watch;
 use super::*;
 use basket_checks::plain_sets;
+use basket_core::Counted;
+use basket_mining::Work;
 
 const MINIMUMS: &[&str] = &["1", "2", "3", "7", "22%", "2/9", "50%", "1/1"];
 
@@ -15,6 +17,30 @@ const INPUTS: &[&[u8]] = &[
     b"2x70000 80000 90000\n2x70000 90000 4000000000\n1 70000 4000000000\n1000000x1 80000\n",
 ];
 
+/// The sets that a miner finds, the weight of all baskets, and how much it did.
+fn found<R: Threads + Sync>(
+    rt: &R,
+    alloc: Global,
+    database: &Database,
+    plan: Plan,
+) -> Result<(Vec<Counted>, u64, Work), Fail> {
+    let (mined, work) = mine(rt, alloc, database, &plan, &Watch::Nothing)?;
+    Ok((mined.sets().unpacked(alloc)?, mined.total(), work))
+}
+
+/// Whether one worker and seven find these sets, and do as much work for them.
+fn both_find<R: Threads + Sync>(
+    rt: &R,
+    alloc: Global,
+    database: &Database,
+    plan: Plan,
+    plain: &[Counted],
+) -> Result<bool, Fail> {
+    let one = found(rt, alloc, database, plan.with_workers(1).with_pieces(16))?;
+    let seven = found(rt, alloc, database, plan.with_workers(7).with_pieces(3))?;
+    Ok(one == seven && one.0.as_slice() == plain && one.1 == database.total())
+}
+
 /// Asserts that each miner finds the plain miner's list, however many workers share it, and does as
 /// much work for it with any number of them.
 fn assert_plain<R: Threads + Sync + Abort>(
@@ -27,29 +53,10 @@ fn assert_plain<R: Threads + Sync + Abort>(
     let plan = plan(minimum)?;
     let plain = plain_sets(alloc, &database, plan.minimum())?;
     for &(name, miner) in MINERS {
-        let mut known = None;
-        for (workers, pieces) in [(1, 16), (7, 3)] {
-            let plan = plan
-                .with_miner(miner)
-                .with_workers(workers)
-                .with_pieces(pieces);
-            let (mined, work) = mine(rt, alloc, &database, &plan, &Watch::Nothing)?;
-            let sets = mined.sets().unpacked(alloc)?;
-            assert!(rt;
-                sets == plain,
-                "{name} by {workers} workers found {sets:?} at {minimum}, not {plain:?}"
-            );
-            assert_eq!(rt;
-                mined.total(),
-                database.total(),
-                "{name} by {workers} workers"
-            );
-            assert_eq!(rt;
-                work,
-                *known.get_or_insert(work),
-                "{name} by {workers} workers at {minimum}"
-            );
-        }
+        assert!(rt;
+            both_find(rt, alloc, &database, plan.with_miner(miner), &plain)?,
+            "{name} at {minimum} found others than {plain:?}, or did other work by seven workers"
+        );
     }
     Ok(())
 }
@@ -64,35 +71,39 @@ fn each_miner_finds_the_sets_of_the_plain_one(rt: HostRuntime) -> Result<(), Fai
     Ok(())
 }
 
-/// How much the miners do: candidates, joins and trees.
+/// How much the miners do together: candidates, joins and trees.
+fn works<R: Threads + Sync>(
+    rt: &R,
+    alloc: Global,
+    text: &[u8],
+    plan: Plan,
+) -> Result<(u64, u64, u64), Fail> {
+    let database = database(alloc, text)?;
+    let mut sums = (0u64, 0u64, 0u64);
+    for &(_, miner) in MINERS {
+        let (_, _, work) = found(rt, alloc, &database, plan.with_miner(miner))?;
+        sums.0 = sums.0.saturating_add(work.candidates);
+        sums.1 = sums.1.saturating_add(work.joins);
+        sums.2 = sums.2.saturating_add(work.trees);
+    }
+    Ok(sums)
+}
+
+/// Three of the five miners are Eclat's, so there are three times the joins of one.
 #[test]
 fn each_miner_counts_its_work(rt: HostRuntime) -> Result<(), Fail> {
     let alloc = rt.alloc();
     let forty = forty_items(alloc)?;
-    let cases: &[(&[u8], &str, u64, u64, u64)] = &[
-        (NINE_BASKETS, "2", 12, 12, 7),
-        (b"1\n1\n2\n2\n1 3\n2 3\n", "1", 3, 4, 5),
-        (&forty, "2", 780, 780, 40),
-        (b"", "1", 0, 0, 0),
+    let cases: &[(&[u8], &str, (u64, u64, u64))] = &[
+        (NINE_BASKETS, "2", (12, 36, 7)),
+        (b"1\n1\n2\n2\n1 3\n2 3\n", "1", (3, 12, 5)),
+        (&forty, "2", (780, 2_340, 40)),
+        (b"", "1", (0, 0, 0)),
     ];
-    for &(text, minimum, candidates, joins, trees) in cases {
-        let database = database(alloc, text)?;
+    for &(text, minimum, want) in cases {
         for workers in [1, 2, 7] {
-            let plan = plan(minimum)?.with_workers(workers);
-            let mut sums = (0u64, 0u64, 0u64);
-            for &(_, miner) in MINERS {
-                let plan = plan.with_miner(miner);
-                let (_, work) = mine(&rt, alloc, &database, &plan, &Watch::Nothing)?;
-                sums.0 = sums.0.saturating_add(work.candidates);
-                sums.1 = sums.1.saturating_add(work.joins);
-                sums.2 = sums.2.saturating_add(work.trees);
-            }
-            // Three of the five miners are Eclat's.
-            assert_eq!(rt;
-                sums,
-                (candidates, joins.saturating_mul(3), trees),
-                "by {workers} workers at {minimum}"
-            );
+            let sums = works(&rt, alloc, text, plan(minimum)?.with_workers(workers))?;
+            assert_eq!(rt; sums, want, "by {workers} workers at {minimum}");
         }
     }
     Ok(())
