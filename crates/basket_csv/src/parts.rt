@@ -25,8 +25,8 @@ pub fn parts_of(bytes: &[u8], workers: u32) -> usize
     (workers.min(64) as usize).min(bytes.len() / LEAST)
 }
 
-/// The same of pairs. If ids are mixed, most parts have most of them, and to put these together takes longer
-/// than the parts save.
+/// How many parts of some bytes with a pair in each record so many workers read. If ids are mixed,
+/// most parts have most of them, and to put these together takes longer than the parts save.
 pub fn parts_of_pairs(bytes: &[u8], separator: u8, workers: u32) -> usize
     ensures { 2 ≤ result → length bytes.now ≤ MOST_BYTES }
 {
