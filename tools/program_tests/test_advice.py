@@ -66,6 +66,14 @@ class Advice(unittest.TestCase):
                 "--conf takes a share, as 60% or 2/3; a number alone is no share: "
                 "write a % behind it",
             ),
+            *(
+                ([*SETS, option, "0"], f"{option} takes a number {bounds}")
+                for option, bounds in (
+                    ("--workers", "of threads from 1 to 64"),
+                    ("--pieces", "from 1 to 65536"),
+                    ("--limit", "from 1 to 4294967295"),
+                )
+            ),
             (["sets", "--support", "2"], "--min is the least support"),
             (
                 [*SETS, "--delimiter", ";"],

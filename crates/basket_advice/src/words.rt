@@ -26,9 +26,22 @@ pub fn words_advice(alloc: Global, text: &str, words: &[&str]) -> Result<String,
         "basket: bad value for --conf\n" => {
             hints.add(value_advice(alloc, "--conf", CONF_FORMS, words)?.as_str())?;
         }
-        _ => hints.add(unexpected(text, words))?,
+        _ => {
+            hints.add(number_advice(text))?;
+            hints.add(unexpected(text, words))?;
+        }
     }
     Ok(hints.into_text())
+}
+
+/// The bounds of a number. There may be none.
+fn number_advice(text: &str) -> &'static str {
+    match text {
+        "basket: bad value for --workers\n" => "--workers takes a number of threads from 1 to 64",
+        "basket: bad value for --pieces\n" => "--pieces takes a number from 1 to 65536",
+        "basket: bad value for --limit\n" => "--limit takes a number from 1 to 4294967295",
+        _ => "",
+    }
 }
 
 /// The forms that an option takes, and what is wrong with the value that it has.
