@@ -48,8 +48,8 @@ fn plan(minimum: &str) -> Result<Plan, Fail> {
 type Ran = (Result<(), RunFault>, Vec<u8>);
 
 /// What a run came to. Out of memory is a failure of its own, after which nothing may be written.
-fn ran(result: Result<(), RunFault>, written: Vec<u8>) -> Result<Ran, Fail> {
-    match result {
+fn ran(end: Result<(), RunFault>, written: Vec<u8>) -> Result<Ran, Fail> {
+    match end {
         Err(
             RunFault::Sets(ReadFault::Memory)
             | RunFault::Input(ReadFault::Memory)
@@ -58,25 +58,25 @@ fn ran(result: Result<(), RunFault>, written: Vec<u8>) -> Result<Ran, Fail> {
             true => Err(Fail::from(AllocError)),
             false => Err(Fail::new("bytes were written")),
         },
-        result => Ok((result, written)),
+        end => Ok((end, written)),
     }
 }
 
 /// Runs what the words ask for.
-fn run_words<R: Threads + Sync>(
+fn run_words<'a, R: Threads + Sync>(
     rt: &R,
     alloc: Global,
     words: &[&str],
-    mut reader: MemSource<'_>,
+    mut reader: MemSource<'a>,
     mut writer: MemSink,
 ) -> Result<Ran, Fail>
-    requires reader { ⟦<MemSource as Source>⟧.has_failed reader ≡ false }
+    requires reader { ⟦<MemSource<'a> as Source>⟧.has_failed reader ≡ false }
     requires writer { ⟦<MemSink as Sink>⟧.has_failed writer ≡ false }
 {
     let Invocation { task, .. } = invocation_of(alloc, words)?;
     let Task::Report(plan) = task else {
         return Err(Fail::new("the words ask for no report"));
     };
-    let result = run(&NoRandomBytes(rt), alloc, &plan, &mut reader, &mut writer);
-    ran(result, writer.into_bytes())
+    let end = run(&NoRandomBytes(rt), alloc, &plan, &mut reader, &mut writer);
+    ran(end, writer.into_bytes())
 }

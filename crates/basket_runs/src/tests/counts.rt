@@ -81,19 +81,19 @@ fn a_set_without_a_count_is_told_by_its_place(rt: HostRuntime) -> Result<(), Fai
 }
 
 /// Counts the sets.
-fn counted<R: Threads + Sync>(
+fn counted<'a, 'b, R: Threads + Sync>(
     rt: &R,
     alloc: Global,
     plan: &CountPlan,
-    mut sets: MemSource<'_>,
-    mut reader: MemSource<'_>,
+    mut sets: MemSource<'a>,
+    mut reader: MemSource<'b>,
     mut writer: MemSink,
 ) -> Result<Ran, Fail>
-    requires sets { ⟦<MemSource as Source>⟧.has_failed sets ≡ false }
-    requires reader { ⟦<MemSource as Source>⟧.has_failed reader ≡ false }
+    requires sets { ⟦<MemSource<'a> as Source>⟧.has_failed sets ≡ false }
+    requires reader { ⟦<MemSource<'b> as Source>⟧.has_failed reader ≡ false }
     requires writer { ⟦<MemSink as Sink>⟧.has_failed writer ≡ false }
 {
-    let result = run_count(
+    let end = run_count(
         &NoRandomBytes(rt),
         alloc,
         plan,
@@ -101,5 +101,5 @@ fn counted<R: Threads + Sync>(
         &mut reader,
         &mut writer,
     );
-    ran(result, writer.into_bytes())
+    ran(end, writer.into_bytes())
 }

@@ -41,13 +41,13 @@ fn a_report_is_the_same_however_its_bytes_are_given_and_taken(rt: HostRuntime) -
 }
 
 /// Runs `items` at a count of 1.
-fn items<R: Threads + Sync>(
+fn items<'a, R: Threads + Sync>(
     rt: &R,
     alloc: Global,
     form: &str,
-    reader: MemSource<'_>,
+    reader: MemSource<'a>,
 ) -> Result<Ran, Fail>
-    requires { ⟦<MemSource as Source>⟧.has_failed reader ≡ false }
+    requires { ⟦<MemSource<'a> as Source>⟧.has_failed reader ≡ false }
 {
     let words = ["items", "--form", form, "--min", "1"];
     let writer = MemSink::new(alloc, 100, 100, false)?;
