@@ -12,13 +12,13 @@ mod shard;
 mod stream;
 
 use crate::given::{NINE_BASKETS, Row, database};
-use basket_core::{Database, Itemset};
+use basket_core::{Itemset, Weighted};
 use std::alloc::{AllocError, Global};
 
 /// Whether the baskets are these, each with its weight.
-fn has(database: &Database, rows: &[Row]) -> bool {
-    database.len() == rows.len()
-        && database.baskets().iter().zip(rows).all(|(place, (items, weight))| {
+fn has(baskets: &[Weighted], rows: &[Row]) -> bool {
+    baskets.len() == rows.len()
+        && baskets.iter().zip(rows).all(|(place, (items, weight))| {
             place.basket.items() == *items && place.weight == *weight
         })
 }
