@@ -9,7 +9,13 @@ use basket_checks::{NINE_BASKETS, Row, database};
 use basket_core::{Coded, Minimum};
 use mine_limit::Tally;
 use std::alloc::Global;
+use std::process::Abort;
 use std::test::Fail;
+
+/// Asserts that a text is the one that is wanted.
+fn assert_text(rt: &impl Abort, found: &str, wanted: &str) {
+    assert_eq!(rt; found, wanted);
+}
 
 /// The baskets as ranks of the items that are in at least so many.
 fn coded(alloc: Global, baskets: &[(&[u32], u64)], least: u64) -> Result<Coded, Fail> {

@@ -2,7 +2,7 @@ ghost use Rattle.std.specs.Prelude.{◌≡◌, IfOk, length, nat_lt};
 ghost use Rattle.std.specs.List.{list_all};
 ghost use Rattle.basket_ranks.specs.Codes.{coding_of};
 
-use super::{NINE_BASKETS, Row, database, has};
+use super::{NINE_BASKETS, assert_text, database, text_of};
 use basket_core::{Coded, Codes, Database, Itemset, Minimum, count_items};
 use std::alloc::{AllocError, Global};
 use std::test::Fail;
@@ -51,35 +51,24 @@ fn ranked(alloc: Global, coded: &Coded) -> Result<(u32, [Option<u32>; 6]), Alloc
     Ok((coded.ranks(), items))
 }
 
-/// The nine baskets as ranks.
-fn nine_coded(alloc: Global) -> Result<Coded, Fail> {
+/// The ranks of the nine baskets and what they are of, and the baskets as ranks, as text.
+fn nine_coded(alloc: Global) -> Result<String, Fail> {
     let database = database(alloc, NINE_BASKETS)?;
-    Ok(coded_at(alloc, &database, Minimum::Count(2))?)
+    let coded = coded_at(alloc, &database, Minimum::Count(2))?;
+    let (ranks, items) = ranked(alloc, &coded)?;
+    let baskets = text_of(alloc, coded.baskets())?;
+    let minimum = coded.minimum();
+    Ok(format!(in alloc; "{ranks} {items:?} {} {minimum:?} {baskets}", coded.total())?)
 }
 
+/// Items 1 and 3 have one count, and so have 4 and 5.
 #[test]
 fn items_get_ranks_by_count_and_then_by_number(rt: HostRuntime) -> Result<(), Fail> {
-    let coded = nine_coded(rt.alloc())?;
-    // Items 1 and 3 have one count, and so have 4 and 5.
-    assert_eq!(rt;
-        (ranked(rt.alloc(), &coded)?, coded.total(), coded.minimum()),
-        (
-            (5, [Some(2), Some(1), Some(3), Some(4), Some(5), None]),
-            9,
-            Minimum::Count(2)
-        )
+    assert_text(
+        &rt,
+        nine_coded(rt.alloc())?.as_str(),
+        "5 [Some(2), Some(1), Some(3), Some(4), Some(5), None] 9 Count(2) \
+         0 1 4 (1)|0 3 (1)|0 2 (1)|0 1 3 (1)|1 2 (1)|0 2 (1)|1 2 (1)|0 1 2 4 (1)|0 1 2 (1)|",
     );
-    let want: &[Row] = &[
-        (&[0, 1, 4], 1),
-        (&[0, 3], 1),
-        (&[0, 2], 1),
-        (&[0, 1, 3], 1),
-        (&[1, 2], 1),
-        (&[0, 2], 1),
-        (&[1, 2], 1),
-        (&[0, 1, 2, 4], 1),
-        (&[0, 1, 2], 1),
-    ];
-    assert!(rt; has(coded.baskets(), want), "{:?}", coded.baskets());
     Ok(())
 }

@@ -13,11 +13,16 @@ fn depths(alloc: Global, coded: &Coded) -> Result<[bool; 4], AllocError> {
     ])
 }
 
+/// The depths of the nine baskets at a count of 2.
+fn nine_depths(alloc: Global) -> Result<[bool; 4], Fail> {
+    let database = database(alloc, NINE_BASKETS)?;
+    let coded = Coded::of(alloc, &database, Minimum::Count(2))?;
+    Ok(depths(alloc, &coded)?)
+}
+
 /// The items 2, 1 and 3 are the first ranks. At a count of 2 all three are together in two baskets, and no four are in so many.
 #[test]
 fn three_items_are_a_set_of_three_at_most(rt: HostRuntime) -> Result<(), Fail> {
-    let alloc = rt.alloc();
-    let coded = Coded::of(alloc, &database(alloc, NINE_BASKETS)?, Minimum::Count(2))?;
-    assert_eq!(rt; depths(alloc, &coded)?, [true, true, true, false]);
+    assert_eq!(rt; nine_depths(rt.alloc())?, [true, true, true, false]);
     Ok(())
 }

@@ -1,3 +1,4 @@
+use super::assert_text;
 use basket_core::Fraction;
 use std::alloc::{AllocError, Global};
 use std::fmt::Write;
@@ -26,9 +27,10 @@ fn a_fraction_is_printed_in_lowest_terms(rt: HostRuntime) -> Result<(), AllocErr
             3_377_699_720_527_872,
         ),
     ];
-    assert_eq!(rt;
+    assert_text(
+        &rt,
         text(rt.alloc(), &fractions)?.as_str(),
-        "9/4 1/1 0/1 7/10 1125899906842624/3 "
+        "9/4 1/1 0/1 7/10 1125899906842624/3 ",
     );
     Ok(())
 }

@@ -2,6 +2,7 @@
 ghost use Rattle.std.specs.Prelude.{◌≡◌, ◌≤◌, All, length};
 ghost use Rattle.mine_round.specs.Record.{unused};
 
+use super::assert_numbers;
 use super::seats::closed;
 use mine_round::{Outstanding, Round, RoundSeat};
 use std::alloc::{AllocError, Global};
@@ -48,11 +49,12 @@ fn claim_all(round: &Round, seat: &mut RoundSeat, claimed: &[AtomicU64])
     }
 }
 
-/// The first piece that was not claimed just once.
-fn not_once(claimed: &[AtomicU64]) -> Option<usize> {
-    claimed
+/// The first piece that was not claimed just once, or how many there are if each was.
+fn first_wrong(claimed: &[AtomicU64]) -> u64 {
+    let wrong = claimed
         .iter()
-        .position(|times| times.load(Ordering::SeqCst) != 1)
+        .position(|times| times.load(Ordering::SeqCst) != 1);
+    wrong.unwrap_or(claimed.len()) as u64
 }
 
 /// Has each of 64 seats claim on a thread of its own.
@@ -86,7 +88,8 @@ fn each_piece_goes_to_one_of_sixty_four_threads(rt: HostRuntime) -> Result<(), F
     let (round, mut seats) = Round::new(rt.alloc(), 65_536, 0, 64)?;
     claim_by_threads(&rt, &round, seats.as_mut_slice(), claimed.as_slice());
     let end = closed(round, seats)?;
-    assert_eq!(rt; (end, not_once(claimed.as_slice())), ((65_536, 0, 0), None));
+    assert_numbers(&rt, &end, &[65_536, 0, 0]);
+    assert_numbers(&rt, &[first_wrong(claimed.as_slice())], &[65_536]);
     Ok(())
 }
 
@@ -139,7 +142,8 @@ fn what_eight_threads_add_is_their_sum(rt: HostRuntime) -> Result<(), Fail> {
     let (round, mut seats) = Round::new(rt.alloc(), 0, 1, 8)?;
     add_by_threads(&rt, &round, seats.as_mut_slice(), &falls);
     let end = closed(round, seats)?;
-    assert_eq!(rt; (end, falls.load(Ordering::SeqCst)), ((0, 1, 800_000), 0));
+    assert_numbers(&rt, &end, &[0, 1, 800_000]);
+    assert_numbers(&rt, &[falls.load(Ordering::SeqCst)], &[0]);
     Ok(())
 }
 
@@ -191,10 +195,7 @@ fn work_by_threads<R: Threads + Sync>(
 
 /// How many seats are missing in a round from which one is withheld, how many come back, and how the round ends
 /// with all of them.
-fn closed_late(
-    round: Round,
-    mut seats: Vec<RoundSeat>,
-) -> Result<(u32, usize, (u32, usize, u64)), Fail>
+fn closed_late(round: Round, mut seats: Vec<RoundSeat>) -> Result<[u64; 5], Fail>
     requires { All (λ seat. seat.round ≡ round.id) seats.items }
 {
     let withheld = seats.pop().ok_or("no seat")?;
@@ -206,9 +207,10 @@ fn closed_late(
         mut seats,
         missing,
     } = outstanding;
-    let back = seats.len();
+    let back = seats.len() as u64;
     seats.push(withheld)?;
-    Ok((missing, back, closed(round, seats)?))
+    let [pieces, counters, first] = closed(round, seats)?;
+    Ok([u64::from(missing), back, pieces, counters, first])
 }
 
 #[test]
@@ -217,8 +219,8 @@ fn a_round_of_two_threads_is_closed_with_both_seats(rt: HostRuntime) -> Result<(
     let faults = AtomicU64::new(0);
     let (round, mut seats) = Round::new(rt.alloc(), 3, 1, 2)?;
     work_by_threads(&rt, &round, seats.as_mut_slice(), &claimed, &faults);
-    let end = closed_late(round, seats)?;
-    let faults = (faults.load(Ordering::SeqCst), not_once(&claimed));
-    assert_eq!(rt; (end, faults), ((1, 1, (3, 1, 12)), (0, None)));
+    assert_numbers(&rt, &closed_late(round, seats)?, &[1, 1, 3, 1, 12]);
+    let found = [faults.load(Ordering::SeqCst), first_wrong(&claimed)];
+    assert_numbers(&rt, &found, &[0, 3]);
     Ok(())
 }

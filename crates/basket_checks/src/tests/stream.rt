@@ -1,3 +1,4 @@
+use super::assert_text;
 use basket_core::{Failed, MemSink, MemSource, Sink, Source};
 use std::alloc::{AllocError, Global};
 
@@ -43,8 +44,11 @@ fn answer(sink: &mut MemSink, bytes: &[u8]) -> Option<Result<usize, Failed>> {
     }
 }
 
-/// How a sink with room for ten bytes answers to five writes, and the sink.
-fn filled(alloc: Global) -> Result<([Option<Result<usize, Failed>>; 5], MemSink), AllocError> {
+/// How a sink with room for ten bytes answers to five writes, whether it has failed then, and whether these bytes came.
+fn filled(
+    alloc: Global,
+    bytes: &[u8],
+) -> Result<([Option<Result<usize, Failed>>; 5], bool, bool), AllocError> {
     let mut sink = MemSink::new(alloc, 10, 4, true)?;
     let answers = [
         answer(&mut sink, b"0123"),
@@ -53,7 +57,7 @@ fn filled(alloc: Global) -> Result<([Option<Result<usize, Failed>>; 5], MemSink)
         answer(&mut sink, b""),
         answer(&mut sink, b"0"),
     ];
-    Ok((answers, sink))
+    Ok((answers, sink.failed(), sink.bytes() == bytes))
 }
 
 /// How a sink answers to a flush that fails, and whether it had failed before and has after it.
@@ -64,7 +68,7 @@ fn flushed(alloc: Global) -> Result<(bool, Result<(), Failed>, bool), AllocError
     Ok((before, answer, sink.failed()))
 }
 
-/// How a sink that takes no byte a write answers to two, and whether it had failed before and has after it.
+/// How a sink that takes no byte answers to two, and whether it had failed before and has after it.
 fn refused(alloc: Global) -> Result<(bool, Option<Result<usize, Failed>>, bool), AllocError> {
     let mut sink = MemSink::new(alloc, 10, 0, false)?;
     let before = sink.failed();
@@ -72,24 +76,21 @@ fn refused(alloc: Global) -> Result<(bool, Option<Result<usize, Failed>>, bool),
     Ok((before, answer, sink.failed()))
 }
 
+/// How the three sinks answer as text.
+fn answers(alloc: Global) -> Result<String, AllocError> {
+    let filled = filled(alloc, b"0123012012")?;
+    let flushed = flushed(alloc)?;
+    let refused = refused(alloc)?;
+    format!(in alloc; "{filled:?} {flushed:?} {refused:?}")
+}
+
 #[test]
 fn a_sink_takes_bytes_until_it_is_full_or_fails(rt: HostRuntime) -> Result<(), AllocError> {
-    assert_eq!(rt; flushed(rt.alloc())?, (false, Err(Failed), true));
-    assert_eq!(rt; refused(rt.alloc())?, (false, Some(Ok(0)), true));
-    let (answers, sink) = filled(rt.alloc())?;
-    assert_eq!(rt;
-        answers,
-        [
-            Some(Ok(4)),
-            Some(Ok(3)),
-            Some(Ok(3)),
-            Some(Ok(0)),
-            Some(Err(Failed))
-        ]
-    );
-    assert_eq!(rt;
-        (sink.failed(), sink.bytes()),
-        (true, b"0123012012".as_slice())
+    assert_text(
+        &rt,
+        answers(rt.alloc())?.as_str(),
+        "([Some(Ok(4)), Some(Ok(3)), Some(Ok(3)), Some(Ok(0)), Some(Err(Failed))], true, true) \
+         (false, Err(Failed), true) (false, Some(Ok(0)), true)",
     );
     Ok(())
 }

@@ -1,8 +1,8 @@
 //! Classes by Eclat with each kind of row and by FP-growth.
 ghost use Rattle.std.specs.Prelude.{◌≡◌, ◌<◌, false, length};
 
-use super::{Early, NINE_BASKETS, coded};
-use basket_core::{Coded, CountedSets};
+use super::{Early, NINE_BASKETS, assert_text, coded};
+use basket_core::{Coded, Counted, CountedSets};
 use mine_fp::{Forest, fp_class};
 use mine_limit::{Limit, MineFault, Tally};
 use mine_vertical::{BitRow, DiffList, Row as Kind, TidList, Vertical, eclat_class};
@@ -10,7 +10,7 @@ use std::alloc::{AllocError, Global};
 use std::fmt::Write;
 use std::test::Fail;
 
-#[derive(Clone, Copy, Debug)]
+#[derive(Clone, Copy)]
 enum By {
     Lists,
     Differences,
@@ -67,14 +67,19 @@ fn class<T: Tally>(
     }
 }
 
+/// Writes the sets.
+fn write_each(written: &mut String, sets: &[Counted]) -> Result<(), AllocError> {
+    for counted in sets {
+        write!(written, "{} ({}) ", counted.set, counted.count)?;
+    }
+    Ok(())
+}
+
 /// Writes the sets in report order.
 fn write_sets(written: &mut String, alloc: Global, found: CountedSets) -> Result<(), AllocError> {
     let mut sets = found.unpacked(alloc)?;
     sets.sort_unstable();
-    for counted in &sets {
-        write!(written, "{} ({}) ", counted.set, counted.count)?;
-    }
-    Ok(())
+    write_each(written, &sets)
 }
 
 /// Writes the classes in the order of their ranks, each with how many sets were reported until then, up to
@@ -97,31 +102,24 @@ fn write_classes(
     Ok(())
 }
 
+/// The classes of the nine baskets as text, with the fault of the one that is refused.
+fn nine_classes(alloc: Global, by: By, limit: u32) -> Result<String, Fail> {
+    let coded = coded(alloc, NINE_BASKETS, 2)?;
+    let mut written = String::new(alloc);
+    let fault = write_classes(&mut written, alloc, &coded, by, limit).err();
+    write!(written, "{fault:?}")?;
+    Ok(written)
+}
+
 #[test]
 fn classes_are_listed_rank_by_rank_up_to_the_limit(rt: HostRuntime) -> Result<(), Fail> {
-    let coded = coded(rt.alloc(), NINE_BASKETS, 2)?;
-    let rows = [
-        (
-            13,
-            "2 (7) 1|1 (6) 1 2 (4) 3|3 (6) 1 3 (4) 2 3 (4) 1 2 3 (2) 7|4 (2) 2 4 (2) 9|5 (2) 1 5 (2) 2 5 (2) 1 2 5 (2) 13|",
-            Ok(()),
-        ),
-        (
-            12,
-            "2 (7) 1|1 (6) 1 2 (4) 3|3 (6) 1 3 (4) 2 3 (4) 1 2 3 (2) 7|4 (2) 2 4 (2) 9|",
-            Err(MineFault::TooMany { limit: 12 }),
-        ),
-    ];
-    for (limit, want, outcome) in rows {
-        for by in WAYS {
-            let mut written = String::new(rt.alloc());
-            let found = write_classes(&mut written, rt.alloc(), &coded, by, limit);
-            assert_eq!(rt;
-                (written.as_str(), found),
-                (want, outcome),
-                "{by:?} at {limit}"
-            );
-        }
+    let all =
+        "2 (7) 1|1 (6) 1 2 (4) 3|3 (6) 1 3 (4) 2 3 (4) 1 2 3 (2) 7|4 (2) 2 4 (2) 9|5 (2) 1 5 (2) 2 5 (2) 1 2 5 (2) 13|None";
+    let few =
+        "2 (7) 1|1 (6) 1 2 (4) 3|3 (6) 1 3 (4) 2 3 (4) 1 2 3 (2) 7|4 (2) 2 4 (2) 9|Some(TooMany { limit: 12 })";
+    for by in WAYS {
+        assert_text(&rt, nine_classes(rt.alloc(), by, 13)?.as_str(), all);
+        assert_text(&rt, nine_classes(rt.alloc(), by, 12)?.as_str(), few);
     }
     Ok(())
 }
@@ -141,11 +139,7 @@ fn a_class_is_the_same_by_each_kind_of_row(rt: HostRuntime) -> Result<(), Fail> 
     let coded = coded(rt.alloc(), NINE_BASKETS, 2)?;
     for by in WAYS {
         let listed = last_class(rt.alloc(), &coded, by, 4)?;
-        assert_eq!(rt;
-            listed.as_str(),
-            "5 (2) 1 5 (2) 2 5 (2) 1 2 5 (2) ",
-            "{by:?}"
-        );
+        assert_text(&rt, listed.as_str(), "5 (2) 1 5 (2) 2 5 (2) 1 2 5 (2) ");
     }
     Ok(())
 }
@@ -156,27 +150,29 @@ fn long(alloc: Global) -> Result<Coded, Fail> {
     coded(alloc, &[(items.as_slice(), 1)], 1)
 }
 
+/// The faults of last classes: of the nine baskets at two limits, and of the long one.
+fn faults(alloc: Global, nine: &Coded, long: &Coded, by: By) -> [Option<MineFault>; 3] {
+    [
+        last_class(alloc, nine, by, 3).err(),
+        last_class(alloc, nine, by, 4).err(),
+        last_class(alloc, long, by, 1_000).err(),
+    ]
+}
+
 /// The last class of the nine baskets has four sets.
 #[test]
 fn a_class_alone_is_refused_below_its_length(rt: HostRuntime) -> Result<(), Fail> {
     let nine = coded(rt.alloc(), NINE_BASKETS, 2)?;
     let long = long(rt.alloc())?;
-    for by in WAYS {
-        let faults = [
-            last_class(rt.alloc(), &nine, by, 3).err(),
-            last_class(rt.alloc(), &nine, by, 4).err(),
-            last_class(rt.alloc(), &long, by, 1_000).err(),
-        ];
-        assert_eq!(rt;
-            faults,
-            [
-                Some(MineFault::TooMany { limit: 3 }),
-                None,
-                Some(MineFault::TooMany { limit: 1_000 })
-            ],
-            "{by:?}"
-        );
-    }
+    let found = [
+        faults(rt.alloc(), &nine, &long, By::Lists),
+        faults(rt.alloc(), &nine, &long, By::Differences),
+        faults(rt.alloc(), &nine, &long, By::Bits),
+        faults(rt.alloc(), &nine, &long, By::Trees),
+    ];
+    let three = Some(MineFault::TooMany { limit: 3 });
+    let thousand = Some(MineFault::TooMany { limit: 1_000 });
+    assert_eq!(rt; found, [[three, None, thousand]; 4]);
     Ok(())
 }
 
@@ -193,12 +189,13 @@ fn told_early(alloc: Global, coded: &Coded, by: By) -> (Option<MineFault>, u64) 
 #[test]
 fn eclat_and_growth_stop_where_the_tally_is_over(rt: HostRuntime) -> Result<(), Fail> {
     let coded = coded(rt.alloc(), NINE_BASKETS, 2)?;
-    for by in WAYS {
-        assert_eq!(rt;
-            told_early(rt.alloc(), &coded, by),
-            (Some(MineFault::TooMany { limit: 1_000 }), 1),
-            "{by:?}"
-        );
-    }
+    let found = [
+        told_early(rt.alloc(), &coded, By::Lists),
+        told_early(rt.alloc(), &coded, By::Differences),
+        told_early(rt.alloc(), &coded, By::Bits),
+        told_early(rt.alloc(), &coded, By::Trees),
+    ];
+    let over = (Some(MineFault::TooMany { limit: 1_000 }), 1);
+    assert_eq!(rt; found, [over; 4]);
     Ok(())
 }

@@ -1,5 +1,5 @@
 //! Trees of FP-growth.
-use super::{NINE_BASKETS, coded};
+use super::{NINE_BASKETS, assert_text, coded};
 use basket_core::Coded;
 use mine_fp::FpTree;
 use std::alloc::{AllocError, Global};
@@ -27,25 +27,26 @@ fn bases(alloc: Global, tree: &FpTree) -> Result<String, AllocError> {
     let mut text = String::new(alloc);
     for rank in 0..6 {
         let base = tree.base(alloc, rank)?;
-        write!(text, "{base:?}\n")?;
+        write!(text, "{base:?} ")?;
     }
     Ok(text)
 }
 
+/// What the tree of the nine baskets weighs, and its paths, as text.
+fn nine_bases(alloc: Global) -> Result<String, Fail> {
+    let coded = coded(alloc, NINE_BASKETS, 2)?;
+    let tree = tree(alloc, &coded)?;
+    let bases = bases(alloc, &tree)?;
+    Ok(format!(in alloc; "{} {bases}", tree.total())?)
+}
+
 #[test]
 fn a_tree_gives_the_paths_above_each_rank(rt: HostRuntime) -> Result<(), Fail> {
-    let coded = coded(rt.alloc(), NINE_BASKETS, 2)?;
-    let tree = tree(rt.alloc(), &coded)?;
-    assert_eq!(rt; tree.total(), 9);
-    assert_eq!(rt;
-        bases(rt.alloc(), &tree)?.as_str(),
-        "[([], 7)]
-[([0], 4), ([], 2)]
-[([0], 2), ([1], 2), ([0, 1], 2)]
-[([0], 1), ([0, 1], 1)]
-[([0, 1], 1), ([0, 1, 2], 1)]
-[]
-"
+    assert_text(
+        &rt,
+        nine_bases(rt.alloc())?.as_str(),
+        "9 [([], 7)] [([0], 4), ([], 2)] [([0], 2), ([1], 2), ([0, 1], 2)] \
+         [([0], 1), ([0, 1], 1)] [([0, 1], 1), ([0, 1, 2], 1)] [] ",
     );
     Ok(())
 }

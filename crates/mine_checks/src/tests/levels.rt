@@ -1,6 +1,6 @@
 ghost use Rattle.std.specs.Prelude.{◌≡◌, IfOk};
 
-use super::{NINE_BASKETS, coded};
+use super::{NINE_BASKETS, assert_text, coded};
 use basket_core::Coded;
 use mine_apriori::{Alone, Levels, apriori};
 use mine_limit::MineFault;
@@ -42,7 +42,7 @@ fn write_level<'a>(
     ensures { IfOk result (λ next. next.coding ≡ coded.now) }
 {
     write_sets(text, alloc, levels.asked())?;
-    write!(text, "{}\n", levels.counted())?;
+    write!(text, "{} ", levels.counted())?;
     answered(alloc, coded, levels)
 }
 
@@ -58,18 +58,22 @@ fn write_levels(text: &mut String, alloc: Global, coded: &Coded) -> Result<Optio
     }
 }
 
+/// The levels of the nine baskets as text.
+fn nine_levels(alloc: Global) -> Result<String, Fail> {
+    let coded = coded(alloc, NINE_BASKETS, 2)?;
+    let mut text = String::new(alloc);
+    let sets = write_levels(&mut text, alloc, &coded)?;
+    write!(text, "{sets:?}")?;
+    Ok(text)
+}
+
 /// Of the ranks 0 to 4, which are the items 2, 1, 3, 4 and 5.
 #[test]
 fn each_level_asks_the_candidates_of_its_size(rt: HostRuntime) -> Result<(), Fail> {
-    let coded = coded(rt.alloc(), NINE_BASKETS, 2)?;
-    let mut text = String::new(rt.alloc());
-    let sets = write_levels(&mut text, rt.alloc(), &coded)?;
-    assert_eq!(rt;
-        (text.as_str(), sets),
-        (
-            "0 1|0 2|0 3|0 4|1 2|1 3|1 4|2 3|2 4|3 4|10\n0 1 2|0 1 4|12\n",
-            Some(13)
-        )
+    assert_text(
+        &rt,
+        nine_levels(rt.alloc())?.as_str(),
+        "0 1|0 2|0 3|0 4|1 2|1 3|1 4|2 3|2 4|3 4|10 0 1 2|0 1 4|12 Some(13)",
     );
     Ok(())
 }
@@ -90,8 +94,12 @@ fn is_too_many(alloc: Global, coded: &Coded, limit: u32) -> bool {
 #[test]
 fn apriori_stops_at_the_first_level_above_the_limit(rt: HostRuntime) -> Result<(), Fail> {
     let coded = full(rt.alloc())?;
-    for limit in [39, 40, 819, 820] {
-        assert!(rt; is_too_many(rt.alloc(), &coded, limit), "at {limit}");
-    }
+    let stops = [
+        is_too_many(rt.alloc(), &coded, 39),
+        is_too_many(rt.alloc(), &coded, 40),
+        is_too_many(rt.alloc(), &coded, 819),
+        is_too_many(rt.alloc(), &coded, 820),
+    ];
+    assert_eq!(rt; stops, [true; 4]);
     Ok(())
 }

@@ -1,5 +1,5 @@
 //! Rules of a list that Apriori finds.
-use super::{Row, coded};
+use super::{Row, assert_text, coded};
 use basket_core::{Frequent, Share};
 use basket_rules::{Rule, rules, rules_with};
 use mine_apriori::apriori;
@@ -44,17 +44,22 @@ fn last_rules(alloc: Global, frequent: &Frequent) -> Result<String, Fail> {
     Ok(text(alloc, &found)?)
 }
 
+/// The rules of all sets, and those of the last, as text.
+fn found(alloc: Global) -> Result<String, Fail> {
+    let frequent = frequent(alloc)?;
+    let all = all_rules(alloc, &frequent)?;
+    let last = last_rules(alloc, &frequent)?;
+    Ok(format!(in alloc; "{all} {last}")?)
+}
+
 /// The last of the seven sets has all three items.
 #[test]
 fn rules_stand_union_after_union_and_by_their_right_sides(rt: HostRuntime) -> Result<(), Fail> {
-    let frequent = frequent(rt.alloc())?;
-    assert_eq!(rt;
-        all_rules(rt.alloc(), &frequent)?.as_str(),
-        "2 => 1 (3) 3/4 15/16|1 => 2 (3) 3/4 15/16|3 => 1 (3) 1/1 5/4|1 => 3 (3) 3/4 5/4|2 3 => 1 (2) 1/1 5/4|"
-    );
-    assert_eq!(rt;
-        last_rules(rt.alloc(), &frequent)?.as_str(),
-        "2 3 => 1 (2) 1/1 5/4|1 3 => 2 (2) 2/3 5/6|1 2 => 3 (2) 2/3 10/9|3 => 1 2 (2) 2/3 10/9|"
+    assert_text(
+        &rt,
+        found(rt.alloc())?.as_str(),
+        "2 => 1 (3) 3/4 15/16|1 => 2 (3) 3/4 15/16|3 => 1 (3) 1/1 5/4|1 => 3 (3) 3/4 5/4|2 3 => 1 (2) 1/1 5/4| \
+         2 3 => 1 (2) 1/1 5/4|1 3 => 2 (2) 2/3 5/6|1 2 => 3 (2) 2/3 10/9|3 => 1 2 (2) 2/3 10/9|",
     );
     Ok(())
 }
