@@ -12,15 +12,28 @@ mod shard;
 mod stream;
 
 use crate::given::{NINE_BASKETS, Row, database};
-use basket_core::{Database, Itemset};
+use basket_core::{Itemset, Weighted};
 use std::alloc::{AllocError, Global};
+use std::fmt::Write;
+use std::process::Abort;
 
-/// Whether the baskets are these, each with its weight.
-fn has(database: &Database, rows: &[Row]) -> bool {
-    database.len() == rows.len()
-        && database.baskets().iter().zip(rows).all(|(place, (items, weight))| {
-            place.basket.items() == *items && place.weight == *weight
-        })
+/// Asserts that a text is the one that is wanted.
+fn assert_text(rt: &impl Abort, found: &str, wanted: &str) {
+    assert_eq!(rt; found, wanted);
+}
+
+/// Asserts that numbers are those that are wanted.
+fn assert_numbers(rt: &impl Abort, found: &[u64], wanted: &[u64]) {
+    assert_eq!(rt; found, wanted);
+}
+
+/// The baskets as text, each with its weight.
+fn text_of(alloc: Global, baskets: &[Weighted]) -> Result<String, AllocError> {
+    let mut text = String::new(alloc);
+    for place in baskets {
+        write!(text, "{} ({})|", place.basket, place.weight)?;
+    }
+    Ok(text)
 }
 
 /// The sets of the numbers.

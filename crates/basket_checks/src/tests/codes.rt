@@ -2,14 +2,13 @@ ghost use Rattle.std.specs.Prelude.{◌≡◌, IfOk, length, nat_lt};
 ghost use Rattle.std.specs.List.{list_all};
 ghost use Rattle.basket_ranks.specs.Codes.{coding_of};
 
-use super::{NINE_BASKETS, database};
+use super::{NINE_BASKETS, assert_text, database, text_of};
 use basket_core::{Coded, Codes, Database, Itemset, Minimum, count_items};
 use std::alloc::{AllocError, Global};
-use std::process::Abort;
 use std::test::Fail;
 
 /// The baskets of the database as ranks.
-pub fn coded_at(alloc: Global, database: &Database, minimum: Minimum) -> Result<Coded, AllocError>
+fn coded_at(alloc: Global, database: &Database, minimum: Minimum) -> Result<Coded, AllocError>
     ensures { IfOk result (λ coded. coded ≡ coding_of database.now minimum) }
 {
     let counts = count_items(alloc, database.baskets())?;
@@ -34,59 +33,42 @@ fn decoded(alloc: Global, coded: &Coded, ranks: &[u32]) -> Result<Option<Itemset
     }
 }
 
-/// Whether the rank is that of the item.
-fn is_rank_of(alloc: Global, coded: &Coded, rank: u32, item: u32) -> Result<bool, AllocError> {
+/// The item of a rank, if it is a rank and is decoded to one item.
+fn item_of(alloc: Global, coded: &Coded, rank: u32) -> Result<Option<u32>, AllocError> {
     let set = decoded(alloc, coded, &[rank])?;
-    Ok(set.is_some_and(|set| set.items() == [item].as_slice()))
+    Ok(set.and_then(|set| match set.items() {
+        [item] => Some(*item),
+        _ => None,
+    }))
 }
 
-/// Asserts that these are the items by rank, and that no others have a rank.
-fn assert_ranks(
-    rt: &impl Abort,
-    alloc: Global,
-    coded: &Coded,
-    items: &[u32],
-) -> Result<(), AllocError> {
-    assert_eq!(rt; coded.ranks() as usize, items.len());
-    for (rank, item) in items.iter().enumerate() {
-        assert!(rt;
-            is_rank_of(alloc, coded, rank as u32, *item)?,
-            "{rank} isn't that of {item}"
-        );
+/// How many ranks there are, and the items of those from 0 to 5.
+fn ranked(alloc: Global, coded: &Coded) -> Result<(u32, [Option<u32>; 6]), AllocError> {
+    let mut items = [None; 6];
+    for rank in 0..6 {
+        items[rank] = item_of(alloc, coded, rank as u32)?;
     }
-    let next = decoded(alloc, coded, &[coded.ranks()])?;
-    assert!(rt; next.is_none(), "a rank more is that of {next:?}");
-    Ok(())
+    Ok((coded.ranks(), items))
 }
 
-/// Asserts that these are the coded baskets, each with its weight.
-fn assert_baskets(rt: &impl Abort, coded: &Coded, want: &[(&[u32], u64)]) {
-    assert_eq!(rt; coded.baskets().len(), want.len());
-    for (place, (ranks, weight)) in coded.baskets().iter().zip(want) {
-        assert_eq!(rt; place.basket.items(), *ranks);
-        assert_eq!(rt; place.weight, *weight);
-    }
+/// The ranks of the nine baskets and what they are of, and the baskets as ranks, as text.
+fn nine_coded(alloc: Global) -> Result<String, Fail> {
+    let database = database(alloc, NINE_BASKETS)?;
+    let coded = coded_at(alloc, &database, Minimum::Count(2))?;
+    let (ranks, items) = ranked(alloc, &coded)?;
+    let baskets = text_of(alloc, coded.baskets())?;
+    let minimum = coded.minimum();
+    Ok(format!(in alloc; "{ranks} {items:?} {} {minimum:?} {baskets}", coded.total())?)
 }
 
+/// Items 1 and 3 have one count, and so have 4 and 5.
 #[test]
 fn items_get_ranks_by_count_and_then_by_number(rt: HostRuntime) -> Result<(), Fail> {
-    let database = database(rt.alloc(), NINE_BASKETS)?;
-    let coded = coded_at(rt.alloc(), &database, Minimum::Count(2))?;
-    // Items 1 and 3 have one count, and so have 4 and 5.
-    assert_ranks(&rt, rt.alloc(), &coded, &[2, 1, 3, 4, 5])?;
-    let want: &[(&[u32], u64)] = &[
-        (&[0, 1, 4], 1),
-        (&[0, 3], 1),
-        (&[0, 2], 1),
-        (&[0, 1, 3], 1),
-        (&[1, 2], 1),
-        (&[0, 2], 1),
-        (&[1, 2], 1),
-        (&[0, 1, 2, 4], 1),
-        (&[0, 1, 2], 1),
-    ];
-    assert_baskets(&rt, &coded, want);
-    assert_eq!(rt; coded.total(), 9);
-    assert_eq!(rt; coded.minimum(), Minimum::Count(2));
+    assert_text(
+        &rt,
+        nine_coded(rt.alloc())?.as_str(),
+        "5 [Some(2), Some(1), Some(3), Some(4), Some(5), None] 9 Count(2) \
+         0 1 4 (1)|0 3 (1)|0 2 (1)|0 1 3 (1)|1 2 (1)|0 2 (1)|1 2 (1)|0 1 2 4 (1)|0 1 2 (1)|",
+    );
     Ok(())
 }

@@ -1,9 +1,16 @@
 use basket_core::{Itemset, report_order};
+use std::alloc::{AllocError, Global};
 use std::cmp::Ordering;
-use std::test::Fail;
+
+/// The order of two sets in a report.
+fn order(alloc: Global, a: &[u32], b: &[u32]) -> Result<Ordering, AllocError> {
+    let a = Itemset::from_items(alloc, a)?;
+    let b = Itemset::from_items(alloc, b)?;
+    Ok(report_order(&a, &b))
+}
 
 #[test]
-fn report_order_goes_by_size_and_then_by_items(rt: HostRuntime) -> Result<(), Fail> {
+fn report_order_goes_by_size_and_then_by_items(rt: HostRuntime) -> Result<(), AllocError> {
     let sets: &[(&[u32], &[u32], Ordering)] = &[
         (&[9], &[1, 2], Ordering::Less),
         (&[2, 10], &[10, 11], Ordering::Less),
@@ -11,9 +18,7 @@ fn report_order_goes_by_size_and_then_by_items(rt: HostRuntime) -> Result<(), Fa
         (&[1, 2], &[2, 1], Ordering::Equal),
     ];
     for &(a, b, want) in sets {
-        let a = Itemset::from_items(rt.alloc(), a)?;
-        let b = Itemset::from_items(rt.alloc(), b)?;
-        assert_eq!(rt; report_order(&a, &b), want, "of {a} and {b}");
+        assert_eq!(rt; order(rt.alloc(), a, b)?, want, "of {a:?} and {b:?}");
     }
     Ok(())
 }

@@ -2,7 +2,9 @@
 ghost use Rattle.std.specs.Prelude.{◌≡◌, ◌≤◌, All, length};
 ghost use Rattle.mine_round.specs.Record.{unused};
 
-use mine_round::{Outstanding, Round, RoundSeat, Totals};
+use super::assert_numbers;
+use super::seats::closed;
+use mine_round::{Outstanding, Round, RoundSeat};
 use std::alloc::{AllocError, Global};
 use std::sync::atomic::{AtomicU64, Ordering};
 use std::test::Fail;
@@ -47,6 +49,14 @@ fn claim_all(round: &Round, seat: &mut RoundSeat, claimed: &[AtomicU64])
     }
 }
 
+/// The first piece that was not claimed just once, or how many there are if each was.
+fn first_wrong(claimed: &[AtomicU64]) -> u64 {
+    let wrong = claimed
+        .iter()
+        .position(|times| times.load(Ordering::SeqCst) != 1);
+    wrong.unwrap_or(claimed.len()) as u64
+}
+
 /// Has each of 64 seats claim on a thread of its own.
 fn claim_by_threads<R: Threads + Sync>(
     rt: &R,
@@ -74,13 +84,12 @@ fn claim_by_threads<R: Threads + Sync>(
 
 #[test]
 fn each_piece_goes_to_one_of_sixty_four_threads(rt: HostRuntime) -> Result<(), Fail> {
-    let (round, mut seats) = Round::new(rt.alloc(), 65_536, 0, 64)?;
     let claimed = zeros(rt.alloc(), 65_536)?;
+    let (round, mut seats) = Round::new(rt.alloc(), 65_536, 0, 64)?;
     claim_by_threads(&rt, &round, seats.as_mut_slice(), claimed.as_slice());
-    assert_eq!(rt; round.close(seats)?.claimed, 65_536);
-    for (piece, times) in claimed.iter().enumerate() {
-        assert_eq!(rt; times.load(Ordering::SeqCst), 1, "of {piece}");
-    }
+    let end = closed(round, seats)?;
+    assert_numbers(&rt, &end, &[65_536, 0, 0]);
+    assert_numbers(&rt, &[first_wrong(claimed.as_slice())], &[65_536]);
     Ok(())
 }
 
@@ -129,14 +138,12 @@ fn add_by_threads<R: Threads + Sync>(
 
 #[test]
 fn what_eight_threads_add_is_their_sum(rt: HostRuntime) -> Result<(), Fail> {
-    let (round, mut seats) = Round::new(rt.alloc(), 0, 1, 8)?;
     let falls = AtomicU64::new(0);
+    let (round, mut seats) = Round::new(rt.alloc(), 0, 1, 8)?;
     add_by_threads(&rt, &round, seats.as_mut_slice(), &falls);
-    assert_eq!(rt;
-        round.close(seats)?.counters.as_slice(),
-        [800_000].as_slice()
-    );
-    assert_eq!(rt; falls.load(Ordering::SeqCst), 0);
+    let end = closed(round, seats)?;
+    assert_numbers(&rt, &end, &[0, 1, 800_000]);
+    assert_numbers(&rt, &[falls.load(Ordering::SeqCst)], &[0]);
     Ok(())
 }
 
@@ -186,65 +193,34 @@ fn work_by_threads<R: Threads + Sync>(
     );
 }
 
-/// What a round comes to that is closed with the seats that came back when one was withheld, and with that.
-fn closed_late(round: Round, mut seats: Vec<RoundSeat>) -> Result<Totals, Fail>
+/// How many seats are missing in a round from which one is withheld, how many come back, and how the round ends
+/// with all of them.
+fn closed_late(round: Round, mut seats: Vec<RoundSeat>) -> Result<[u64; 5], Fail>
     requires { All (λ seat. seat.round ≡ round.id) seats.items }
 {
     let withheld = seats.pop().ok_or("no seat")?;
-    let given = seats.len();
-    match round.close(seats) {
-        Ok(_) => Err(Fail::new("it was closed without a seat")),
-        Err(
-            Outstanding {
-                round,
-                mut seats,
-                missing,
-            },
-        ) => {
-            if missing != 1 || seats.len() != given {
-                return Err(Fail::new("seats did not come back"));
-            }
-            seats.push(withheld)?;
-            Ok(round.close(seats)?)
-        }
-    }
+    let Err(outstanding) = round.close(seats) else {
+        return Err(Fail::new("it was closed without a seat"));
+    };
+    let Outstanding {
+        round,
+        mut seats,
+        missing,
+    } = outstanding;
+    let back = seats.len() as u64;
+    seats.push(withheld)?;
+    let [pieces, counters, first] = closed(round, seats)?;
+    Ok([u64::from(missing), back, pieces, counters, first])
 }
 
 #[test]
 fn a_round_of_two_threads_is_closed_with_both_seats(rt: HostRuntime) -> Result<(), Fail> {
-    let (round, mut seats) = Round::new(rt.alloc(), 3, 1, 2)?;
-    let claimed = zeros(rt.alloc(), 3)?;
+    let claimed = [AtomicU64::new(0), AtomicU64::new(0), AtomicU64::new(0)];
     let faults = AtomicU64::new(0);
-    work_by_threads(
-        &rt,
-        &round,
-        seats.as_mut_slice(),
-        claimed.as_slice(),
-        &faults,
-    );
-    assert_eq!(rt; faults.load(Ordering::SeqCst), 0);
-    for times in &claimed {
-        assert_eq!(rt; times.load(Ordering::SeqCst), 1);
-    }
-    let totals = closed_late(round, seats)?;
-    assert_eq!(rt; totals.claimed, 3);
-    assert_eq!(rt; totals.counters.as_slice(), [12].as_slice());
-    Ok(())
-}
-
-#[test]
-fn seats_add_up_to_the_bound_of_each(rt: HostRuntime) -> Result<(), Fail> {
-    let (round, mut seats) = Round::new(rt.alloc(), 0, 1, 2)?;
-    let mut second = seats.pop().ok_or("no seat")?;
-    let mut first = seats.pop().ok_or("no seat")?;
-    assert_eq!(rt; round.add(&mut first, 0, (1 << 40) - 1), 0);
-    assert_eq!(rt; round.add(&mut first, 0, 1), 1_099_511_627_775);
-    assert_eq!(rt; round.add(&mut second, 0, 1 << 40), 1_099_511_627_776);
-    seats.push(first)?;
-    seats.push(second)?;
-    assert_eq!(rt;
-        round.close(seats)?.counters.as_slice(),
-        [2_199_023_255_552].as_slice()
-    );
+    let (round, mut seats) = Round::new(rt.alloc(), 3, 1, 2)?;
+    work_by_threads(&rt, &round, seats.as_mut_slice(), &claimed, &faults);
+    assert_numbers(&rt, &closed_late(round, seats)?, &[1, 1, 3, 1, 12]);
+    let found = [faults.load(Ordering::SeqCst), first_wrong(&claimed)];
+    assert_numbers(&rt, &found, &[0, 3]);
     Ok(())
 }

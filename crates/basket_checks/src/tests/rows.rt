@@ -1,3 +1,4 @@
+use super::assert_numbers;
 use mine_rows::{BitRow, DiffList, Row as CoverRow, TidList, Weights};
 use std::alloc::{AllocError, Global};
 use std::test::Fail;
@@ -17,8 +18,8 @@ fn joined_supports<R: CoverRow>(alloc: Global) -> Result<[u64; 3], AllocError> {
 
 #[test]
 fn joined_rows_count_the_sets_of_the_nine_baskets(rt: HostRuntime) -> Result<(), Fail> {
-    assert_eq!(rt; joined_supports::<TidList>(rt.alloc())?, [4, 4, 2]);
-    assert_eq!(rt; joined_supports::<DiffList>(rt.alloc())?, [4, 4, 2]);
-    assert_eq!(rt; joined_supports::<BitRow>(rt.alloc())?, [4, 4, 2]);
+    assert_numbers(&rt, &joined_supports::<TidList>(rt.alloc())?, &[4, 4, 2]);
+    assert_numbers(&rt, &joined_supports::<DiffList>(rt.alloc())?, &[4, 4, 2]);
+    assert_numbers(&rt, &joined_supports::<BitRow>(rt.alloc())?, &[4, 4, 2]);
     Ok(())
 }

@@ -1,71 +1,96 @@
+use super::assert_text;
 use basket_core::{Failed, MemSink, MemSource, Sink, Source};
-use std::process::Abort;
-use std::test::Fail;
+use std::alloc::{AllocError, Global};
 
-/// Reads until the end or a failure, and says how many bytes came in how many reads.
-fn read_through(rt: &impl Abort, mut source: MemSource<'_>) -> (usize, u64) {
+/// Reads until the end or a failure, and says how many bytes came in how many reads, and whether it failed.
+fn read_through(mut source: MemSource<'_>) -> (usize, u64, bool) {
     let mut buf = [0; 4];
     let mut read = 0usize;
     for reads in 0..1000 {
-        if source.failed() {
-            return (read, reads);
+        let count = if source.failed() {
+            0
+        } else {
+            source.read(&mut buf).unwrap_or(0)
+        };
+        if count == 0 {
+            return (read, reads, source.failed());
         }
-        match source.read(&mut buf) {
-            Ok(0) | Err(Failed) => {}
-            Ok(count) => {
-                read = read.saturating_add(count);
-                continue;
-            }
-        }
-        assert!(rt; source.failed() || read == 10);
-        return (read, reads);
+        read = read.saturating_add(count);
     }
-    (read, 1000)
+    (read, 1000, source.failed())
 }
 
 #[test]
 fn a_source_gives_its_bytes_until_it_fails(rt: HostRuntime) {
     let bytes = b"0123456789";
+    let found = [
+        read_through(MemSource::new(bytes, 100, None)),
+        read_through(MemSource::new(bytes, 1, None)),
+        read_through(MemSource::new(bytes, 3, Some(2))),
+        read_through(MemSource::new(bytes, 3, Some(0))),
+    ];
     assert_eq!(rt;
-        read_through(&rt, MemSource::new(bytes, 100, None)),
-        (10, 3)
-    );
-    assert_eq!(rt; read_through(&rt, MemSource::new(bytes, 1, None)), (10, 10));
-    assert_eq!(rt;
-        read_through(&rt, MemSource::new(bytes, 3, Some(2))),
-        (6, 2)
-    );
-    assert_eq!(rt;
-        read_through(&rt, MemSource::new(bytes, 3, Some(0))),
-        (0, 0)
+        found,
+        [(10, 3, false), (10, 10, false), (6, 2, true), (0, 0, true)]
     );
 }
 
-#[test]
-fn a_sink_takes_bytes_until_it_is_full_or_fails(rt: HostRuntime) -> Result<(), Fail> {
-    let mut sink = MemSink::new(rt.alloc(), 10, 4, true)?;
-    for (bytes, want) in [
-        (4, Ok(4)),
-        (3, Ok(3)),
-        (4, Ok(3)),
-        (0, Ok(0)),
-        (1, Err(Failed)),
-    ] {
-        assert!(rt; !sink.failed(), "before {bytes}");
-        assert!(rt; bytes <= 5, "no {bytes} bytes are there");
-        assert_eq!(rt; sink.write(&b"01234"[..bytes]), want, "at {bytes}");
+/// How a sink answers to bytes, if it has not failed.
+fn answer(sink: &mut MemSink, bytes: &[u8]) -> Option<Result<usize, Failed>> {
+    if sink.failed() {
+        None
+    } else {
+        Some(sink.write(bytes))
     }
-    assert!(rt; sink.failed());
-    assert_eq!(rt; sink.bytes(), b"0123012012".as_slice());
+}
 
-    let mut sink = MemSink::new(rt.alloc(), 10, 4, true)?;
-    assert!(rt; !sink.failed());
-    assert_eq!(rt; sink.flush(), Err(Failed));
-    assert!(rt; sink.failed());
+/// How a sink with room for ten bytes answers to five writes, whether it has failed then, and whether these bytes came.
+fn filled(
+    alloc: Global,
+    bytes: &[u8],
+) -> Result<([Option<Result<usize, Failed>>; 5], bool, bool), AllocError> {
+    let mut sink = MemSink::new(alloc, 10, 4, true)?;
+    let answers = [
+        answer(&mut sink, b"0123"),
+        answer(&mut sink, b"012"),
+        answer(&mut sink, b"0123"),
+        answer(&mut sink, b""),
+        answer(&mut sink, b"0"),
+    ];
+    Ok((answers, sink.failed(), sink.bytes() == bytes))
+}
 
-    let mut sink = MemSink::new(rt.alloc(), 10, 0, false)?;
-    assert!(rt; !sink.failed());
-    assert_eq!(rt; sink.write(b"01"), Ok(0));
-    assert!(rt; sink.failed());
+/// How a sink answers to a flush that fails, and whether it had failed before and has after it.
+fn flushed(alloc: Global) -> Result<(bool, Result<(), Failed>, bool), AllocError> {
+    let mut sink = MemSink::new(alloc, 10, 4, true)?;
+    let before = sink.failed();
+    let answer = sink.flush();
+    Ok((before, answer, sink.failed()))
+}
+
+/// How a sink that takes no byte answers to two, and whether it had failed before and has after it.
+fn refused(alloc: Global) -> Result<(bool, Option<Result<usize, Failed>>, bool), AllocError> {
+    let mut sink = MemSink::new(alloc, 10, 0, false)?;
+    let before = sink.failed();
+    let answer = answer(&mut sink, b"01");
+    Ok((before, answer, sink.failed()))
+}
+
+/// How the three sinks answer as text.
+fn answers(alloc: Global) -> Result<String, AllocError> {
+    let filled = filled(alloc, b"0123012012")?;
+    let flushed = flushed(alloc)?;
+    let refused = refused(alloc)?;
+    format!(in alloc; "{filled:?} {flushed:?} {refused:?}")
+}
+
+#[test]
+fn a_sink_takes_bytes_until_it_is_full_or_fails(rt: HostRuntime) -> Result<(), AllocError> {
+    assert_text(
+        &rt,
+        answers(rt.alloc())?.as_str(),
+        "([Some(Ok(4)), Some(Ok(3)), Some(Ok(3)), Some(Ok(0)), Some(Err(Failed))], true, true) \
+         (false, Err(Failed), true) (false, Some(Ok(0)), true)",
+    );
     Ok(())
 }
