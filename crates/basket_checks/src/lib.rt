@@ -1,13 +1,5 @@
-//! Tests that cross crates, and what others are given: baskets, and the plain miner that the other miners are compared with.
+//! Tests that cross crates.
 #![tactic(auto)]
-
-mod given;
-mod plain;
-mod subset;
-
-pub use given::{NINE_BASKETS, Row, database};
-pub use plain::plain_sets;
-pub use subset::subsets;
 
 #[cfg(test)]
 mod tests;

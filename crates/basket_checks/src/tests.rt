@@ -11,8 +11,8 @@ mod seats;
 mod shard;
 mod stream;
 
-use crate::given::{NINE_BASKETS, Row, database};
 use basket_core::{Itemset, Weighted};
+use mine_plain::{NINE_BASKETS, Row, database};
 use std::alloc::{AllocError, Global};
 use std::fmt::Write;
 use std::process::Abort;

@@ -5,9 +5,9 @@ mod growth;
 mod levels;
 mod rules;
 
-use basket_checks::{NINE_BASKETS, Row, database};
 use basket_core::{Coded, Minimum};
 use mine_limit::Tally;
+use mine_plain::{NINE_BASKETS, Row, database};
 use std::alloc::Global;
 use std::process::Abort;
 use std::test::Fail;

@@ -1,4 +1,6 @@
 //! Readers that give few bytes or fail, and writers that take few or fail.
+ghost use Rattle.std.specs.Prelude.{◌≡◌, false};
+
 use super::*;
 use basket_core::StdSink;
 use std::io::Write;

@@ -1,9 +1,9 @@
 //! Each miner beside the plain one.
 use super::gates::Watch;
 use super::*;
-use basket_checks::plain_sets;
 use basket_core::Counted;
 use basket_mining::Work;
+use mine_plain::plain_sets;
 
 const MINIMUMS: &[&str] = &["1", "2", "3", "7", "22%", "2/9", "50%", "1/1"];
 

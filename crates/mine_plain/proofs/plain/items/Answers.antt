@@ -4,8 +4,8 @@ use Rattle.basket_sets.specs.Counts.{item_supports}
 use Rattle.basket_sets.specs.Itemset.{rising}
 use Rattle.basket_sets.specs.Support.{all_items, items_of}
 use Rattle.basket_sets.proofs.theory.Rising.{rising-rises, rising-rising}
-use Rattle.basket_checks.proofs.PlainLemmas.{items_counted}
-use Rattle.basket_checks.proofs.plain.items.Goals as goal
+use Rattle.mine_plain.proofs.PlainLemmas.{items_counted}
+use Rattle.mine_plain.proofs.plain.items.Goals as goal
 
 pub returns : goal.returns
 returns c =

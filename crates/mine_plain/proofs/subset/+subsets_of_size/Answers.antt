@@ -2,8 +2,8 @@ use Rattle.std.proofs.Common.{◌-◌, ◌∷◌, ◌++◌, map, sym, ap, ◌∙
 use Rattle.basket_sets.specs.Itemset.{IsRising}
 use Rattle.basket_sets.specs.Subsets.{subsets_of_size}
 use Rattle.basket_sets.proofs.theory.Rising.{rest_rises}
-use Rattle.basket_checks.proofs.SubsetLemmas.{firsts_rise, size_step}
-use Rattle.basket_checks.proofs.subset.+subsets_of_size.Goals as goal
+use Rattle.mine_plain.proofs.SubsetLemmas.{firsts_rise, size_step}
+use Rattle.mine_plain.proofs.subset.+subsets_of_size.Goals as goal
 
 pub subsets_of_size-requires : goal.subsets_of_size-requires
 subsets_of_size-requires t c =

@@ -2,7 +2,7 @@ use Rattle.std.proofs.Common.{◌≡◌, [], ◌∷◌, ◌++◌, ap, ◌∙◌}
 use Rattle.std.proofs.lemmas.Result.{IfOk-weaker}
 use Rattle.basket_sets.specs.Itemset.{rising}
 use Rattle.basket_sets.proofs.theory.Rising.{rising-rising}
-use Rattle.basket_checks.proofs.subset.with_first.Goals as goal
+use Rattle.mine_plain.proofs.subset.with_first.Goals as goal
 
 pub returns : goal.returns
 returns c =

@@ -1,5 +1,5 @@
 use Rattle.std.proofs.Common.{length}
-use Rattle.basket_checks.proofs.subset.+subsets_of_size.Given as goal
+use Rattle.mine_plain.proofs.subset.+subsets_of_size.Given as goal
 
 abbrev pub decreases-subsets_of_size : goal.decreases-subsets_of_size
 decreases-subsets_of_size l = length l.items.now
