@@ -1,79 +1,53 @@
-use crate::filter::Filter;
-use crate::separator::Separator;
-use std::fmt::{self, Display, Formatter};
+use crate::shown::text_if;
+use std::alloc::{AllocError, Global};
 
-/// A command line: programs that change a text, with pipes between them, and then `basket`. It is
-/// displayed as a shell takes it.
-#[derive(Clone, Copy)]
-pub struct Command<'a> {
-    pub file: Option<&'a str>,
-    pub filters: [Option<Filter>; 4],
-    pub form: Option<&'static str>,
-    pub separator: Separator,
-    pub has_header: bool,
-    pub is_weighted: bool,
-}
-
-impl Display for Command<'_> {
-    fn fmt<W: fmt::Write>(&self, f: &mut Formatter<W>) -> fmt::Result {
-        let mut is_first = true;
-        for filter in self.filters.iter().flatten() {
-            write!(f, "{filter}")?;
-            if is_first && let Some(name) = self.file {
-                write!(f, " < {}", ShellWord(name))?;
-            }
-            is_first = false;
-            f.write_str(" | ")?;
-        }
-        f.write_str("basket sets --min 10%")?;
-        self.say_options(f)?;
-        match self.file {
-            Some(name) if is_first => write!(f, " {}", ShellWord(name)),
-            _ => Ok(()),
-        }
+/// The command that mines a file: the programs that change its text, with pipes between them, and
+/// then `basket` with its options. An empty program is none.
+pub fn command(
+    alloc: Global,
+    file: Option<&str>,
+    programs: &[&str],
+    options: &str,
+) -> Result<String, AllocError> {
+    let input = input_from(alloc, file)?;
+    let pipe = pipe(alloc, programs, input.as_str())?;
+    if pipe.is_empty() {
+        let name = input.strip_prefix(" <").unwrap_or("");
+        format!(in alloc; "basket sets --min 10%{options}{name}")
+    } else {
+        format!(in alloc; "{pipe}basket sets --min 10%{options}")
     }
 }
 
-impl Command<'_> {
-    fn say_options<W: fmt::Write>(&self, f: &mut Formatter<W>) -> fmt::Result {
-        if let Some(form) = self.form {
-            write!(f, " --form {form}")?;
+/// How a shell is told that a program reads a file.
+fn input_from(alloc: Global, file: Option<&str>) -> Result<String, AllocError> {
+    match file {
+        Some(name) => {
+            let word = shell_word(alloc, name)?;
+            format!(in alloc; " < {word}")
         }
-        if self.separator != Separator::Comma {
-            write!(f, " --sep {}", self.separator.word())?;
-        }
-        if self.has_header {
-            f.write_str(" --header")?;
-        }
-        if self.is_weighted {
-            f.write_str(" --weight")?;
-        }
-        Ok(())
+        None => Ok(String::new(alloc)),
     }
 }
 
-/// The name of a file, which is displayed as a word of a shell's command line.
-#[derive(Clone, Copy)]
-pub struct ShellWord<'a>(pub &'a str);
-
-impl Display for ShellWord<'_> {
-    fn fmt<W: fmt::Write>(&self, f: &mut Formatter<W>) -> fmt::Result {
-        let ShellWord(name) = *self;
-        if name.starts_with('-') {
-            f.write_str("./")?;
+/// The programs, with a pipe behind each. The first reads the input.
+fn pipe(alloc: Global, programs: &[&str], input: &str) -> Result<String, AllocError> {
+    let mut pipe = String::new(alloc);
+    for program in programs {
+        if !program.is_empty() {
+            let input = if pipe.is_empty() { input } else { "" };
+            write!(pipe, "{program}{input} | ")?;
         }
-        if name.bytes().all(is_plain) {
-            return f.write_str(name);
-        }
-        f.write_str("'")?;
-        for letter in name.chars() {
-            match letter {
-                '\'' => f.write_str("'\\''")?,
-                _ => write!(f, "{letter}")?,
-            }
-        }
-        f.write_str("'")
     }
+    Ok(pipe)
+}
+
+/// The name of a file, as a word of a shell's command line.
+pub fn shell_word(alloc: Global, name: &str) -> Result<String, AllocError> {
+    let folder = text_if(name.starts_with('-'), "./");
+    let quote = text_if(!name.bytes().all(is_plain), "'");
+    let name = name.replace(alloc, '\'', "'\\''")?;
+    format!(in alloc; "{folder}{quote}{name}{quote}")
 }
 
 /// Whether a shell reads a byte of a word as it stands.

@@ -1,5 +1,5 @@
 //! Files that are neither FIMI text nor CSV, by the bytes that they begin with.
-use crate::command::ShellWord;
+use crate::command::shell_word;
 use std::alloc::{AllocError, Global};
 
 /// What makes a file readable.
@@ -12,14 +12,13 @@ enum Remedy {
 }
 
 /// A kind of file that is not read.
-#[derive(Clone, Copy)]
 pub struct Foreign {
     begins: &'static [u8],
     name: &'static str,
     remedy: Remedy,
 }
 
-const KINDS: [Foreign; 9] = [
+static KINDS: [Foreign; 9] = [
     Foreign {
         begins: b"\x1F\x8B",
         name: "compressed by gzip",
@@ -69,22 +68,26 @@ const KINDS: [Foreign; 9] = [
 
 impl Foreign {
     /// The kind of a file that begins with these bytes, if it is one of these.
-    pub fn of(bytes: &[u8]) -> Option<Foreign> {
-        KINDS
-            .iter()
-            .find(|kind| bytes.starts_with(kind.begins))
-            .copied()
+    pub fn of(bytes: &[u8]) -> Option<&'static Foreign> {
+        for kind in &KINDS {
+            if bytes.starts_with(kind.begins) {
+                return Some(kind);
+            }
+        }
+        None
     }
 
     /// What is said of a file of this kind.
-    pub fn report(self, alloc: Global, name: Option<&str>) -> Result<String, AllocError> {
+    pub fn report(&self, alloc: Global, name: Option<&str>) -> Result<String, AllocError> {
         let (shown, kind) = (name.unwrap_or("standard input"), self.name);
-        let word = ShellWord(name.unwrap_or("FILE"));
         match self.remedy {
-            Remedy::Unpack(program) => format!(in alloc;
-                "{shown} is {kind}. To look at what is in it:\n\n  {program} {word} | basket look\n"
-            ),
             Remedy::Say(text) => format!(in alloc; "{shown} is {kind}. {text}\n"),
+            Remedy::Unpack(program) => {
+                let word = shell_word(alloc, name.unwrap_or("FILE"))?;
+                format!(in alloc;
+                    "{shown} is {kind}. To look at what is in it:\n\n  {program} {word} | basket look\n"
+                )
+            }
         }
     }
 }

@@ -20,6 +20,6 @@ mod shown;
 mod table;
 mod words;
 
-pub use command::ShellWord;
+pub use command::shell_word;
 pub use report::{MOST_BYTES, looked};
 pub use words::{HELP, Look, look_of};

@@ -1,81 +1,69 @@
-use crate::command::Command;
-use crate::filter::Filter;
-use crate::lines::{LineEnds, NumberLines, are_pairs, first_other};
+use crate::command::command;
+use crate::lines::{LineEnds, NumberLines, are_pairs};
 use crate::sample::Sample;
-use crate::separator::Separator;
-use crate::shown::Shown;
-use std::fmt::{self, Display, Formatter};
+use crate::shown::{shown, text_if};
+use std::alloc::{AllocError, Global};
 
-/// A text of lines of numbers. What is displayed is said of it.
-#[derive(Clone, Copy)]
-pub struct NumberText<'a> {
-    pub sample: Sample<'a>,
-    pub lines: &'a [&'a str],
-    pub numbers: NumberLines,
+/// What is said of a text of lines of numbers.
+pub fn number_report(
+    alloc: Global,
+    sample: &Sample<'_>,
+    lines: &[&str],
+    numbers: &NumberLines<'_>,
+) -> Result<String, AllocError> {
+    let are_counts = numbers.are_counts();
+    let said = if are_counts {
+        counts_text(alloc, numbers)
+    } else {
+        baskets_text(alloc, sample, lines, numbers)
+    }?;
+    let returns = text_if(has_returns(sample), sample.ends.filter());
+    let programs = [sample.encoding.recoding(), returns];
+    let options = text_if(are_counts, " --form counts");
+    let command = command(alloc, sample.name, &programs, options)?;
+    format!(in alloc; "{said}\n  {command}\n")
 }
 
-impl Display for NumberText<'_> {
-    fn fmt<W: fmt::Write>(&self, f: &mut Formatter<W>) -> fmt::Result {
-        if self.numbers.are_counts() {
-            self.say_counts(f)?;
-        } else {
-            self.say_baskets(f)?;
-        }
-        write!(f, "\n  {}\n", self.command())
-    }
+fn has_returns(sample: &Sample<'_>) -> bool {
+    matches!(sample.ends, LineEnds::Returns)
 }
 
-impl<'a> NumberText<'a> {
-    fn say_counts<W: fmt::Write>(&self, f: &mut Formatter<W>) -> fmt::Result {
-        let count = self.numbers.counted;
-        write!(
-            f,
-            "Sets with counts in parentheses, as `basket count` writes them. Lines: {count}.\n"
-        )
-    }
+fn counts_text(alloc: Global, numbers: &NumberLines<'_>) -> Result<String, AllocError> {
+    let count = numbers.counted;
+    format!(in alloc;
+        "Sets with counts in parentheses, as `basket count` writes them. Lines: {count}.\n"
+    )
+}
 
-    fn say_baskets<W: fmt::Write>(&self, f: &mut Formatter<W>) -> fmt::Result {
-        let (baskets, weighted) = (self.numbers.baskets, self.numbers.weighted);
-        write!(
-            f,
-            "FIMI, a basket on each line. Lines of numbers: {baskets}; with a weight first: {weighted}.\n"
-        )?;
-        if let Some(other) = first_other(self.lines) {
-            let (other, count) = (Shown(other), self.numbers.others);
-            write!(
-                f,
-                "Other lines, which are refused: {count}. The first: {other}\n"
-            )?;
-        }
-        if are_pairs(self.lines) {
-            f.write_str(
-                "If each line is a basket's id and an item, it is --form single --sep tab.\n",
-            )?;
-        }
-        if self.sample.ends == LineEnds::Returns {
-            f.write_str("CR is a blank here, and ends no line: all would be one basket.\n")?;
-        }
-        Ok(())
-    }
+fn baskets_text(
+    alloc: Global,
+    sample: &Sample<'_>,
+    lines: &[&str],
+    numbers: &NumberLines<'_>,
+) -> Result<String, AllocError> {
+    let (baskets, weighted) = (numbers.baskets, numbers.weighted);
+    let others = others_text(alloc, numbers)?;
+    let pairs = text_if(
+        are_pairs(lines),
+        "If each line is a basket's id and an item, it is --form single --sep tab.\n",
+    );
+    let returns = text_if(
+        has_returns(sample),
+        "CR is a blank here, and ends no line: all would be one basket.\n",
+    );
+    format!(in alloc;
+        "FIMI, a basket on each line. Lines of numbers: {baskets}; with a weight first: {weighted}.\n\
+{others}{pairs}{returns}"
+    )
+}
 
-    fn command(&self) -> Command<'a> {
-        let is_turned = self.sample.ends == LineEnds::Returns;
-        let returns = if is_turned {
-            Some(Filter::TurnReturns)
-        } else {
-            None
-        };
-        Command {
-            file: self.sample.name,
-            filters: [self.sample.recoding(), returns, None, None],
-            form: if self.numbers.are_counts() {
-                Some("counts")
-            } else {
-                None
-            },
-            separator: Separator::Comma,
-            has_header: false,
-            is_weighted: false,
+/// What is said of the lines that are no lines of numbers.
+fn others_text(alloc: Global, numbers: &NumberLines<'_>) -> Result<String, AllocError> {
+    match numbers.first_other {
+        Some(other) => {
+            let (other, count) = (shown(alloc, other)?, numbers.others);
+            format!(in alloc; "Other lines, which are refused: {count}. The first: {other}\n")
         }
+        None => Ok(String::new(alloc)),
     }
 }

@@ -2,8 +2,9 @@ use crate::csv_text::csv_report;
 use crate::encoding::Encoding;
 use crate::foreign::Foreign;
 use crate::lines::{LineEnds, NumberLines, lines};
-use crate::number_text::NumberText;
+use crate::number_text::number_report;
 use crate::sample::Sample;
+use crate::shown::text_if;
 use std::alloc::{AllocError, Global};
 
 /// How many bytes of a file are looked at.
@@ -23,25 +24,33 @@ pub fn looked(
     if let Some(foreign) = Foreign::of(bytes) {
         return foreign.report(alloc, name);
     }
-    let Some(encoding) = Encoding::of(bytes) else {
-        return format!(in alloc; "{shown} is no text: basket reads numbers, or names as CSV.\n");
-    };
+    match Encoding::of(bytes) {
+        Some(encoding) => decoded_report(alloc, bytes, encoding, is_whole, name),
+        None => format!(in alloc; "{shown} is no text: basket reads numbers, or names as CSV.\n"),
+    }
+}
+
+/// What is said of a file of text.
+fn decoded_report(
+    alloc: Global,
+    bytes: &[u8],
+    encoding: Encoding,
+    is_whole: bool,
+    name: Option<&str>,
+) -> Result<String, AllocError> {
     let decoded = encoding.decode(alloc, bytes)?;
     let text = whole_lines(decoded.as_str().trim_start_matches('\u{FEFF}'), is_whole);
+    let ends = LineEnds::of(text);
     let sample = Sample {
         name,
         text,
         encoding,
-        ends: LineEnds::of(text),
+        ends,
     };
     let report = text_report(alloc, sample)?;
-    let (encoding, ends) = (encoding.name(), sample.ends.name());
-    let read = if is_whole {
-        ""
-    } else {
-        "only its beginning was read, of "
-    };
-    let len = bytes.len();
+    let (shown, len) = (name.unwrap_or("standard input"), bytes.len());
+    let read = text_if(!is_whole, "only its beginning was read, of ");
+    let (encoding, ends) = (encoding.name(), ends.name());
     format!(in alloc; "{shown} ({read}{len} bytes): {encoding}; {ends}.\n{report}")
 }
 
@@ -58,15 +67,10 @@ fn text_report(alloc: Global, sample: Sample<'_>) -> Result<String, AllocError> 
     let lines = lines(alloc, sample.text)?;
     let numbers = NumberLines::of(&lines);
     if lines.is_empty() {
-        return String::from_str(alloc, "It has blank lines alone, and so no basket.\n");
+        String::from_str(alloc, "It has blank lines alone, and so no basket.\n")
+    } else if numbers.are_counts() || numbers.are_baskets() {
+        number_report(alloc, &sample, &lines, &numbers)
+    } else {
+        csv_report(alloc, sample, &lines)
     }
-    if !numbers.are_counts() && !numbers.are_baskets() {
-        return csv_report(alloc, sample, &lines);
-    }
-    let text = NumberText {
-        sample,
-        lines: &lines,
-        numbers,
-    };
-    format!(in alloc; "{text}")
 }

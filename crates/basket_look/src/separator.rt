@@ -1,18 +1,47 @@
 /// What separates the fields of CSV.
-#[derive(Clone, Copy, PartialEq, Eq)]
-pub enum Separator {
-    Comma,
-    Semicolon,
-    Tab,
-    Pipe,
+#[derive(Clone, Copy)]
+pub struct Separator {
+    pub letter: char,
+    pub byte: u8,
+    /// As `awk` and Python write it.
+    pub escaped: &'static str,
+    pub word: &'static str,
+    /// The option for it, which a comma doesn't need.
+    pub option: &'static str,
 }
+
+pub const COMMA: Separator = Separator {
+    letter: ',',
+    byte: b',',
+    escaped: ",",
+    word: "comma",
+    option: "",
+};
 
 /// A comma is the last, since it may also stand in numbers and in names.
 const RAREST_FIRST: [Separator; 4] = [
-    Separator::Tab,
-    Separator::Semicolon,
-    Separator::Pipe,
-    Separator::Comma,
+    Separator {
+        letter: '\t',
+        byte: b'\t',
+        escaped: "\\t",
+        word: "tab",
+        option: " --sep tab",
+    },
+    Separator {
+        letter: ';',
+        byte: b';',
+        escaped: ";",
+        word: "semicolon",
+        option: " --sep semicolon",
+    },
+    Separator {
+        letter: '|',
+        byte: b'|',
+        escaped: "|",
+        word: "pipe",
+        option: " --sep pipe",
+    },
+    COMMA,
 ];
 
 impl Separator {
@@ -21,8 +50,7 @@ impl Separator {
         let mut best = None;
         let mut most = 0;
         for separator in RAREST_FIRST {
-            let letter = separator.letter();
-            let count = lines.iter().filter(|line| line.contains(letter)).count();
+            let count = lines_with(lines, separator.letter);
             if count > most {
                 best = Some(separator);
                 most = count;
@@ -30,42 +58,15 @@ impl Separator {
         }
         best
     }
+}
 
-    pub fn letter(self) -> char {
-        match self {
-            Separator::Comma => ',',
-            Separator::Semicolon => ';',
-            Separator::Tab => '\t',
-            Separator::Pipe => '|',
+/// How many lines have a letter in them.
+fn lines_with(lines: &[&str], letter: char) -> usize {
+    let mut count: usize = 0;
+    for line in lines {
+        if line.contains(letter) {
+            count = count.saturating_add(1);
         }
     }
-
-    /// As `awk` and Python write it.
-    pub fn escaped(self) -> &'static str {
-        match self {
-            Separator::Comma => ",",
-            Separator::Semicolon => ";",
-            Separator::Tab => "\\t",
-            Separator::Pipe => "|",
-        }
-    }
-
-    pub fn byte(self) -> u8 {
-        match self {
-            Separator::Comma => b',',
-            Separator::Semicolon => b';',
-            Separator::Tab => b'\t',
-            Separator::Pipe => b'|',
-        }
-    }
-
-    /// The word that `--sep` takes for it.
-    pub fn word(self) -> &'static str {
-        match self {
-            Separator::Comma => "comma",
-            Separator::Semicolon => "semicolon",
-            Separator::Tab => "tab",
-            Separator::Pipe => "pipe",
-        }
-    }
+    count
 }

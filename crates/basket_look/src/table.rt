@@ -1,11 +1,14 @@
-use crate::column::{Column, is_measure};
-use crate::lines::is_number;
-use crate::separator::Separator;
+use crate::column::{Column, begins_with_digit};
 use csv::{ReaderBuilder, StringRecord};
 use std::alloc::{AllocError, Global};
 
 /// No header has more names.
 const MOST_NAMES: usize = 60;
+
+/// How many columns are looked at, and how many are shown.
+const MOST_COLUMNS: usize = 200;
+
+const SHOWN_COLUMNS: usize = 6;
 
 /// The records of a CSV text.
 #[derive(Drop)]
@@ -18,19 +21,8 @@ pub struct Table {
 }
 
 impl Table {
-    pub fn read(alloc: Global, text: &str, separator: Separator) -> Result<Self, AllocError> {
-        let reader = ReaderBuilder::new()
-            .delimiter(separator.byte())
-            .has_headers(false)
-            .flexible(true)
-            .from_reader(alloc, text.as_bytes());
-        let mut records = Vec::new(alloc);
-        for record in reader.into_records() {
-            match record {
-                Ok(record) => records.push(record)?,
-                Err(_) => return Err(AllocError),
-            }
-        }
+    pub fn read(alloc: Global, text: &str, separator: u8) -> Result<Self, AllocError> {
+        let records = records_of(alloc, text, separator)?;
         let width = median_len(alloc, &records)?;
         let mut table = Table {
             alloc,
@@ -48,24 +40,45 @@ impl Table {
 
     /// Whether nearly all records have as many fields, none of them left empty at the end.
     pub fn is_even(&self) -> bool {
-        let is_other = |record: &&StringRecord| !is_full(record, self.width);
-        let others = self.records.iter().filter(is_other).count();
+        let mut others: usize = 0;
+        for record in &self.records {
+            if !is_full(record, self.width) {
+                others = others.saturating_add(1);
+            }
+        }
         self.width > 1 && others <= self.len() / 10
     }
 
+    pub fn columns(&self) -> Result<Vec<Column<'_>>, AllocError> {
+        let mut columns = Vec::new(self.alloc);
+        for place in 0..self.width.min(MOST_COLUMNS) {
+            columns.push(self.column(place)?)?;
+        }
+        Ok(columns)
+    }
+
+    /// What is said of the columns, if there are any.
+    pub fn columns_text(&self, columns: &[Column<'_>]) -> Result<String, AllocError> {
+        let mut text = String::new(self.alloc);
+        let most = if self.is_even() { SHOWN_COLUMNS } else { 0 };
+        for (place, column) in columns.iter().take(most).enumerate() {
+            let (number, column) = (place.saturating_add(1), column.text(self.alloc)?);
+            write!(text, "  column {number}{column}\n")?;
+        }
+        if most > 0 && columns.len() > most {
+            write!(text, "  columns in all: {}\n", self.width)?;
+        }
+        Ok(text)
+    }
+
     /// The values of a column, without its header.
-    pub fn column(&self, place: usize) -> Result<Column<'_>, AllocError> {
+    fn column(&self, place: usize) -> Result<Column<'_>, AllocError> {
         let header = match self.records.first() {
             Some(first) if self.has_header => first.get(place).unwrap_or("").trim(),
             _ => "",
         };
-        let values: Vec<&str> = self
-            .below()
-            .iter()
-            .filter_map(|record| record.get(place))
-            .map(|value| value.trim())
-            .collect(self.alloc)?;
-        Column::new(self.alloc, header, values)
+        let values = values_at(self.alloc, self.below(), place)?;
+        Ok(Column::new(header, values))
     }
 
     /// The records below the header.
@@ -78,17 +91,12 @@ impl Table {
 
     /// Whether the first record has names alone, none of which comes again.
     fn may_have_header(&self) -> bool {
-        let Some((first, rest)) = self.records.split_first() else {
-            return false;
-        };
-        first.len() <= MOST_NAMES
-            && rest.len() > 1
-            && first
-                .iter()
-                .all(|name| !is_number(name) && !is_measure(name))
-            && first
-                .iter()
-                .all(|name| !rest.iter().any(|record| has_value(record, name)))
+        match self.records.split_first() {
+            Some((first, rest)) if first.len() <= MOST_NAMES && rest.len() > 1 => {
+                are_names(first) && are_new(first, rest)
+            }
+            _ => false,
+        }
     }
 
     /// Whether values below the first record are numbers or come again, in one column at least.
@@ -103,6 +111,37 @@ impl Table {
     }
 }
 
+fn records_of(alloc: Global, text: &str, separator: u8) -> Result<Vec<StringRecord>, AllocError> {
+    let reader = ReaderBuilder::new()
+        .delimiter(separator)
+        .has_headers(false)
+        .flexible(true)
+        .from_reader(alloc, text.as_bytes());
+    let mut records = Vec::new(alloc);
+    for record in reader.into_records() {
+        match record {
+            Ok(record) => records.push(record)?,
+            Err(_) => return Err(AllocError),
+        }
+    }
+    Ok(records)
+}
+
+/// The values of these records at a place, without the blanks around them.
+fn values_at(
+    alloc: Global,
+    records: &[StringRecord],
+    place: usize,
+) -> Result<Vec<&str>, AllocError> {
+    let mut values = Vec::new(alloc);
+    for record in records {
+        if let Some(value) = record.get(place) {
+            values.push(value.trim())?;
+        }
+    }
+    Ok(values)
+}
+
 fn median_len(alloc: Global, records: &[StringRecord]) -> Result<usize, AllocError> {
     let mut lens: Vec<usize> = records.iter().map(|record| record.len()).collect(alloc)?;
     lens.sort_unstable();
@@ -114,6 +153,33 @@ fn is_full(record: &StringRecord, width: usize) -> bool {
     record.len() == width && !last.trim().is_empty()
 }
 
-fn has_value(record: &StringRecord, value: &str) -> bool {
-    !value.is_empty() && record.iter().any(|other| other == value)
+/// Whether no field of a record begins with a digit.
+fn are_names(record: &StringRecord) -> bool {
+    for name in record.iter() {
+        if begins_with_digit(name) {
+            return false;
+        }
+    }
+    true
+}
+
+/// Whether no name comes again in these records.
+fn are_new(names: &StringRecord, records: &[StringRecord]) -> bool {
+    for record in records {
+        for value in record.iter() {
+            if !value.is_empty() && has_field(names, value) {
+                return false;
+            }
+        }
+    }
+    true
+}
+
+fn has_field(record: &StringRecord, value: &str) -> bool {
+    for field in record.iter() {
+        if field == value {
+            return true;
+        }
+    }
+    false
 }
