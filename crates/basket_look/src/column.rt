@@ -1,36 +1,13 @@
 use crate::lines::is_number;
-use crate::shown::{shown, shown_list, text_if};
-use std::alloc::{AllocError, Global};
+use crate::said::Said;
 
 /// How many values of a column are shown.
 const SHOWN: usize = 3;
 
-const BASKET_WORDS: [&str; 13] = [
-    "receipt",
-    "basket",
-    "order",
-    "invoice",
-    "transaction",
-    "ticket",
-    "bill",
-    "session",
-    "cart",
-    "member",
-    "customer",
-    "beleg",
-    "rechnung",
-];
+const BASKET_WORDS: &str = "receipt basket order invoice transaction ticket bill session cart \
+member customer beleg rechnung";
 
-const ITEM_WORDS: [&str; 8] = [
-    "product",
-    "item",
-    "article",
-    "artikel",
-    "produkt",
-    "description",
-    "sku",
-    "name",
-];
+const ITEM_WORDS: &str = "product item article artikel produkt description sku name";
 
 /// What says yes or no.
 const MARKS: [&str; 13] = [
@@ -40,6 +17,8 @@ const MARKS: [&str; 13] = [
 /// The values of a column, below its header.
 #[derive(Drop)]
 pub struct Column<'a> {
+    /// Its place, counted from 1.
+    number: usize,
     header: &'a str,
     /// The values that differ, in order.
     different: Vec<&'a str>,
@@ -54,7 +33,7 @@ pub struct Column<'a> {
 }
 
 impl<'a> Column<'a> {
-    pub fn new(header: &'a str, mut values: Vec<&'a str>) -> Self {
+    pub fn new(place: usize, header: &'a str, mut values: Vec<&'a str>) -> Self {
         let len = values.len();
         let first = first_different(&values);
         let (numbers, measures) = numbers_and_measures(&values);
@@ -63,6 +42,7 @@ impl<'a> Column<'a> {
         values.sort_unstable();
         values.dedup();
         Column {
+            number: place.saturating_add(1),
             header,
             different: values,
             first,
@@ -79,12 +59,21 @@ impl<'a> Column<'a> {
         &self.first[..count]
     }
 
-    /// What is said of it: its header, how many values differ, and some of them.
-    pub fn text(&self, alloc: Global) -> Result<String, AllocError> {
-        let blank = text_if(!self.header.is_empty(), " ");
-        let (header, count) = (shown(alloc, self.header)?, self.different.len());
-        let values = shown_list(alloc, self.shown())?;
-        format!(in alloc; "{blank}{header}: {count} different,{values} ..")
+    /// Says its header, how many values differ, and some of them.
+    pub fn say(&self, said: &mut Said) {
+        let (number, count) = (self.number, self.different.len());
+        write!(said, "  column {number}");
+        if !self.header.is_empty() {
+            said.push_str(" ");
+            said.show(self.header);
+        }
+        write!(said, ": {count} different,");
+        for value in self.shown() {
+            said.push_str(" ");
+            said.show(value);
+            said.push_str(",");
+        }
+        said.push_str(" ..\n");
     }
 
     /// Whether one of the first values of another column is here too.
@@ -130,7 +119,7 @@ impl<'a> Column<'a> {
     /// How well the values would do as the ids of baskets.
     pub fn basket_score(&self) -> u32 {
         let mut score: u32 = 10;
-        if has_word(self.header, &BASKET_WORDS) {
+        if has_word(self.header, BASKET_WORDS) {
             score += 4;
         }
         if self.different.len() < self.len && self.different.len() > self.len / 100 {
@@ -148,7 +137,7 @@ impl<'a> Column<'a> {
     /// How well the values would do as items.
     pub fn item_score(&self) -> u32 {
         let mut score: u32 = 10;
-        if has_word(self.header, &ITEM_WORDS) {
+        if has_word(self.header, ITEM_WORDS) {
             score += 4;
         }
         if !self.is_of_numbers() {
@@ -198,8 +187,8 @@ pub fn begins_with_digit(value: &str) -> bool {
 }
 
 /// Whether a header has one of these words in it, in letters of any case.
-fn has_word(header: &str, words: &[&str]) -> bool {
-    for word in words {
+fn has_word(header: &str, words: &str) -> bool {
+    for word in words.split(' ') {
         for part in header.as_bytes().windows(word.len().max(1)) {
             if part.eq_ignore_ascii_case(word.as_bytes()) {
                 return true;

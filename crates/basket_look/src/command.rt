@@ -1,26 +1,32 @@
-use crate::shown::text_if;
+use crate::said::Said;
 use std::alloc::{AllocError, Global};
 
-/// The command that mines a file: the programs that change its text, with pipes between them, and
-/// then `basket` with its options. An empty program is none.
-pub fn command(
-    alloc: Global,
-    file: Option<&str>,
-    programs: &[&str],
-    options: &str,
-) -> Result<String, AllocError> {
-    let input = input_from(alloc, file)?;
-    let pipe = pipe(alloc, programs, input.as_str())?;
-    if pipe.is_empty() {
-        let name = input.strip_prefix(" <").unwrap_or("");
-        format!(in alloc; "basket sets --min 10%{options}{name}")
-    } else {
-        format!(in alloc; "{pipe}basket sets --min 10%{options}")
+/// Says the programs that change a text, but those that are empty, with a pipe behind each. The
+/// first reads the input. What is left of the input is for the next program.
+pub fn say_pipe<'a>(said: &mut Said, programs: &[&str], input: &'a str) -> &'a str {
+    said.push_str("\n  ");
+    let mut input = input;
+    for program in programs {
+        if !program.is_empty() {
+            write!(said, "{program}{input} | ");
+            input = "";
+        }
     }
+    input
+}
+
+/// Says how `basket` is called. Each option is empty or has a blank before it.
+pub fn say_basket(said: &mut Said, options: &[&str; 4], input: &str) {
+    let [form, separator, header, weight] = *options;
+    let name = input.strip_prefix(" <").unwrap_or("");
+    write!(
+        said,
+        "basket sets --min 10%{form}{separator}{header}{weight}{name}\n"
+    );
 }
 
 /// How a shell is told that a program reads a file.
-fn input_from(alloc: Global, file: Option<&str>) -> Result<String, AllocError> {
+pub fn input_from(alloc: Global, file: Option<&str>) -> Result<String, AllocError> {
     match file {
         Some(name) => {
             let word = shell_word(alloc, name)?;
@@ -30,22 +36,10 @@ fn input_from(alloc: Global, file: Option<&str>) -> Result<String, AllocError> {
     }
 }
 
-/// The programs, with a pipe behind each. The first reads the input.
-fn pipe(alloc: Global, programs: &[&str], input: &str) -> Result<String, AllocError> {
-    let mut pipe = String::new(alloc);
-    for program in programs {
-        if !program.is_empty() {
-            let input = if pipe.is_empty() { input } else { "" };
-            write!(pipe, "{program}{input} | ")?;
-        }
-    }
-    Ok(pipe)
-}
-
 /// The name of a file, as a word of a shell's command line.
 pub fn shell_word(alloc: Global, name: &str) -> Result<String, AllocError> {
-    let folder = text_if(name.starts_with('-'), "./");
-    let quote = text_if(!name.bytes().all(is_plain), "'");
+    let folder = if name.starts_with('-') { "./" } else { "" };
+    let quote = if name.bytes().all(is_plain) { "" } else { "'" };
     let name = name.replace(alloc, '\'', "'\\''")?;
     format!(in alloc; "{folder}{quote}{name}{quote}")
 }

@@ -1,43 +1,51 @@
-use crate::command::command;
-use crate::filter::filter;
+use crate::column::Column;
+use crate::command::{say_basket, say_pipe};
+use crate::filter::say_filter;
 use crate::quotes::long_quote;
+use crate::said::Said;
 use crate::sample::Sample;
 use crate::separator::{COMMA, Separator};
 use crate::shape::Shape;
-use crate::shown::text_if;
 use crate::table::Table;
 use std::alloc::{AllocError, Global};
+
+/// How many columns are shown.
+const SHOWN_COLUMNS: usize = 6;
 
 /// A CSV text, and what was recognised of it.
 #[derive(Clone, Copy)]
 struct CsvText<'a> {
-    sample: Sample<'a>,
+    sample: &'a Sample<'a>,
     /// The text below a first line that only names the separator, as Excel has it.
     below: Option<&'a str>,
-    separator: Separator,
-    /// Whether a separator was found.
-    is_separated: bool,
+    separator: Option<&'static Separator>,
     table: &'a Table,
+    columns: &'a [Column<'a>],
     shape: Shape,
 }
 
-/// What is said of a CSV text with these lines.
-pub fn csv_report(alloc: Global, sample: Sample<'_>, lines: &[&str]) -> Result<String, AllocError> {
+/// Says what a CSV text with these lines is.
+pub fn say_csv(
+    alloc: Global,
+    said: &mut Said,
+    sample: &Sample<'_>,
+    lines: &[&str],
+) -> Result<(), AllocError> {
     let below = below_separator_line(sample.text);
-    let found = Separator::of(lines);
-    let separator = found.unwrap_or(COMMA);
-    let table = Table::read(alloc, below.unwrap_or(sample.text), separator.byte)?;
+    let separator = Separator::of(lines);
+    let text = below.unwrap_or(sample.text);
+    let table = Table::read(alloc, text, separator.unwrap_or(&COMMA).byte)?;
     let columns = table.columns()?;
     let csv = CsvText {
         sample,
         below,
         separator,
-        is_separated: found.is_some(),
         table: &table,
+        columns: &columns,
         shape: Shape::of(&table, &columns),
     };
-    let columns = table.columns_text(&columns)?;
-    csv.report(alloc, columns.as_str())
+    csv.say(said);
+    Ok(())
 }
 
 /// The text below a first line that only names the separator.
@@ -49,101 +57,113 @@ fn below_separator_line(text: &str) -> Option<&str> {
 }
 
 impl CsvText<'_> {
-    fn report(&self, alloc: Global, columns: &str) -> Result<String, AllocError> {
-        let records = self.records_text(alloc)?;
-        let faults = self.faults_text(alloc)?;
-        let meaning = self.shape.meaning(alloc)?;
-        let command = self.command(alloc)?;
-        let warnings = self.warnings(alloc)?;
-        format!(in alloc; "{records}{faults}{columns}{meaning}\n  {command}\n\n{warnings}")
+    fn say(&self, said: &mut Said) {
+        self.say_records(said);
+        self.say_faults(said);
+        if self.table.is_even() {
+            self.say_columns(said);
+        }
+        self.shape.say(said);
+        let options = self.options();
+        self.say_command(said, &options);
+        say_warnings(said, &options);
     }
 
-    /// How many records there are, of how many fields, and whether they have a header.
-    fn records_text(&self, alloc: Global) -> Result<String, AllocError> {
+    /// Says how many records there are, of how many fields, and whether they have a header.
+    fn say_records(&self, said: &mut Said) {
         let (count, width) = (self.table.len(), self.table.width);
-        let separator = self.separator.word;
-        let header = if self.table.has_header {
+        let word = self.separator().word;
+        if self.separator.is_none() {
+            write!(
+                said,
+                "Neither comma, semicolon, tab nor pipe is in it. Records, of one field each: {count}.\n\
+If blanks separate the names, put commas there first: tr ' ' ','\n"
+            );
+        } else if self.table.is_even() {
+            write!(
+                said,
+                "CSV, separated by {word}. Records, nearly all of {width} fields: {count}.\n"
+            );
+        } else {
+            write!(
+                said,
+                "CSV, separated by {word}. Records, of different lengths: {count}.\n"
+            );
+        }
+        said.push_str(if self.table.has_header {
             "The first record looks like a header: its names don't come again.\n"
         } else {
             "It seems to have no header.\n"
-        };
-        if !self.is_separated {
-            format!(in alloc;
-                "Neither comma, semicolon, tab nor pipe is in it. Records, of one field each: {count}.\n\
-If blanks separate the names, put commas there first: tr ' ' ','\n{header}"
-            )
-        } else if self.table.is_even() {
-            format!(in alloc;
-                "CSV, separated by {separator}. Records, nearly all of {width} fields: {count}.\n{header}"
-            )
-        } else {
-            format!(in alloc;
-                "CSV, separated by {separator}. Records, of different lengths: {count}.\n{header}"
-            )
-        }
+        });
     }
 
-    /// What is wrong with the text, whatever it means.
-    fn faults_text(&self, alloc: Global) -> Result<String, AllocError> {
-        let excel = text_if(
-            self.below.is_some(),
-            "The line before it is for Excel alone, and is left out below.\n",
-        );
+    /// Says what is wrong with the text, whatever it means.
+    fn say_faults(&self, said: &mut Said) {
+        if self.below.is_some() {
+            said.push_str("The line before it is for Excel alone, and is left out below.\n");
+        }
         let text = self.below.unwrap_or(self.sample.text);
-        match long_quote(text, self.separator.letter) {
-            Some(line) => format!(in alloc;
-                "{excel}The quote that opens on line {line} is closed lines later or never: all between \
-is one field.\n"
-            ),
-            None => String::from_str(alloc, excel),
+        if let Some(line) = long_quote(text, self.separator().letter()) {
+            write!(
+                said,
+                "The quote that opens on line {line} is closed lines later or never: all between is one field.\n"
+            );
         }
     }
 
-    fn command(&self, alloc: Global) -> Result<String, AllocError> {
-        let is_quoted = self.sample.text.contains('"');
-        let filter = filter(alloc, self.shape, self.separator.escaped, is_quoted)?;
-        let options = self.options(alloc)?;
-        let is_below = self.below.is_some();
-        let is_changed = is_below || !filter.is_empty();
+    fn say_columns(&self, said: &mut Said) {
+        for column in self.columns.iter().take(SHOWN_COLUMNS) {
+            column.say(said);
+        }
+        if self.columns.len() > SHOWN_COLUMNS {
+            write!(said, "  columns in all: {}\n", self.table.width);
+        }
+    }
+
+    fn say_command(&self, said: &mut Said, options: &[&str; 4]) {
+        let (is_below, has_filter) = (self.below.is_some(), self.shape.has_filter());
+        let ends = self.sample.ends.filter();
         let programs = [
             self.sample.encoding.recoding(),
-            text_if(is_changed, self.sample.ends.filter()),
-            text_if(is_below, "tail -n +2"),
-            filter.as_str(),
+            if is_below || has_filter { ends } else { "" },
+            if is_below { "tail -n +2" } else { "" },
         ];
-        command(alloc, self.sample.name, &programs, options.as_str())
+        let mut input = say_pipe(said, &programs, self.sample.input);
+        if has_filter {
+            let is_quoted = self.sample.text.contains('"');
+            say_filter(said, self.shape, self.separator().escaped, is_quoted);
+            write!(said, "{input} | ");
+            input = "";
+        }
+        say_basket(said, options, input);
     }
 
-    fn options(&self, alloc: Global) -> Result<String, AllocError> {
-        let (form, separator) = (self.shape.form(), self.separator.option);
-        let header = text_if(self.has_header(), " --header");
-        let weight = text_if(self.is_weighted(), " --weight");
-        format!(in alloc; " --form {form}{separator}{header}{weight}")
+    fn options(&self) -> [&'static str; 4] {
+        let is_matrix = matches!(self.shape, Shape::Matrix { .. });
+        let has_header = self.table.has_header && !is_matrix;
+        let is_weighted = matches!(self.shape, Shape::Weighted);
+        let header = if has_header { " --header" } else { "" };
+        let weight = if is_weighted { " --weight" } else { "" };
+        [self.shape.form(), self.separator().option, header, weight]
     }
 
-    /// What would go wrong without the options of the command.
-    fn warnings(&self, alloc: Global) -> Result<String, AllocError> {
-        let separator = text_if(
-            !self.separator.option.is_empty(),
-            "; without --sep, a record is one field",
-        );
-        let header = text_if(
-            self.has_header(),
-            "; without --header, the names in it are mined",
-        );
-        let weight = text_if(
-            self.is_weighted(),
-            "; without --weight, the numbers are mined",
-        );
-        format!(in alloc; "Without --form, names are refused{separator}{header}{weight}.\n")
+    fn separator(&self) -> &'static Separator {
+        self.separator.unwrap_or(&COMMA)
     }
+}
 
-    /// Whether `basket` is given a header.
-    fn has_header(&self) -> bool {
-        self.table.has_header && !matches!(self.shape, Shape::Matrix { .. })
+/// Says what would go wrong without the options of the command.
+fn say_warnings(said: &mut Said, options: &[&str; 4]) {
+    let [_, separator, header, weight] = *options;
+    said.push_str("\nWithout --form, names are refused");
+    if !separator.is_empty() {
+        said.push_str("; without --sep, a record is one field");
     }
-
-    fn is_weighted(&self) -> bool {
-        matches!(self.shape, Shape::Weighted)
+    if !header.is_empty() {
+        said.push_str("; without --header, the names in it are mined");
     }
+    if !weight.is_empty() {
+        said.push_str("; without --weight, the numbers are mined");
+    }
+    said.push_str(".\n");
 }

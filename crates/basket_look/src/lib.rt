@@ -13,10 +13,10 @@ mod lines;
 mod number_text;
 mod quotes;
 mod report;
+mod said;
 mod sample;
 mod separator;
 mod shape;
-mod shown;
 mod table;
 mod words;
 

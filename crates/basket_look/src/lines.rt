@@ -114,9 +114,8 @@ pub struct NumberLines<'a> {
 
 impl<'a> NumberLines<'a> {
     pub fn of(lines: &[&'a str]) -> Self {
-        let (mut baskets, mut weighted, mut counted, mut others): (usize, usize, usize, usize) = (
-            0, 0, 0, 0,
-        );
+        let (mut baskets, mut weighted): (usize, usize) = (0, 0);
+        let (mut counted, mut others): (usize, usize) = (0, 0);
         let mut first_other = None;
         for line in lines {
             match LineKind::of(line) {

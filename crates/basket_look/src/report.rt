@@ -1,10 +1,11 @@
-use crate::csv_text::csv_report;
+use crate::command::input_from;
+use crate::csv_text::say_csv;
 use crate::encoding::Encoding;
 use crate::foreign::Foreign;
 use crate::lines::{LineEnds, NumberLines, lines};
-use crate::number_text::number_report;
+use crate::number_text::say_numbers;
+use crate::said::Said;
 use crate::sample::Sample;
-use crate::shown::text_if;
 use std::alloc::{AllocError, Global};
 
 /// How many bytes of a file are looked at.
@@ -39,19 +40,29 @@ fn decoded_report(
     name: Option<&str>,
 ) -> Result<String, AllocError> {
     let decoded = encoding.decode(alloc, bytes)?;
+    let input = input_from(alloc, name)?;
     let text = whole_lines(decoded.as_str().trim_start_matches('\u{FEFF}'), is_whole);
-    let ends = LineEnds::of(text);
     let sample = Sample {
-        name,
+        input: input.as_str(),
         text,
         encoding,
-        ends,
+        ends: LineEnds::of(text),
     };
-    let report = text_report(alloc, sample)?;
+    let mut said = Said::new(alloc);
     let (shown, len) = (name.unwrap_or("standard input"), bytes.len());
-    let read = text_if(!is_whole, "only its beginning was read, of ");
-    let (encoding, ends) = (encoding.name(), ends.name());
-    format!(in alloc; "{shown} ({read}{len} bytes): {encoding}; {ends}.\n{report}")
+    say_encoding(&mut said, &sample, shown, len, is_whole);
+    say_text(alloc, &mut said, &sample)?;
+    said.into_text()
+}
+
+fn say_encoding(said: &mut Said, sample: &Sample<'_>, name: &str, len: usize, is_whole: bool) {
+    let (encoding, ends) = (sample.encoding.name(), sample.ends.name());
+    let read = if is_whole {
+        ""
+    } else {
+        "only its beginning was read, of "
+    };
+    write!(said, "{name} ({read}{len} bytes): {encoding}; {ends}.\n");
 }
 
 /// A text without its last line, if that may be cut off.
@@ -62,15 +73,16 @@ fn whole_lines(text: &str, is_whole: bool) -> &str {
     }
 }
 
-/// What is said of a text, below its encoding.
-fn text_report(alloc: Global, sample: Sample<'_>) -> Result<String, AllocError> {
+/// Says what a text is, below its encoding.
+fn say_text(alloc: Global, said: &mut Said, sample: &Sample<'_>) -> Result<(), AllocError> {
     let lines = lines(alloc, sample.text)?;
     let numbers = NumberLines::of(&lines);
     if lines.is_empty() {
-        String::from_str(alloc, "It has blank lines alone, and so no basket.\n")
+        said.push_str("It has blank lines alone, and so no basket.\n");
     } else if numbers.are_counts() || numbers.are_baskets() {
-        number_report(alloc, &sample, &lines, &numbers)
+        say_numbers(said, sample, &lines, &numbers);
     } else {
-        csv_report(alloc, sample, &lines)
+        return say_csv(alloc, said, sample, &lines);
     }
+    Ok(())
 }

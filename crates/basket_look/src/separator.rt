@@ -1,7 +1,5 @@
 /// What separates the fields of CSV.
-#[derive(Clone, Copy)]
 pub struct Separator {
-    pub letter: char,
     pub byte: u8,
     /// As `awk` and Python write it.
     pub escaped: &'static str,
@@ -10,8 +8,7 @@ pub struct Separator {
     pub option: &'static str,
 }
 
-pub const COMMA: Separator = Separator {
-    letter: ',',
+pub static COMMA: Separator = Separator {
     byte: b',',
     escaped: ",",
     word: "comma",
@@ -19,44 +16,50 @@ pub const COMMA: Separator = Separator {
 };
 
 /// A comma is the last, since it may also stand in numbers and in names.
-const RAREST_FIRST: [Separator; 4] = [
+static RAREST_FIRST: [Separator; 4] = [
     Separator {
-        letter: '\t',
         byte: b'\t',
         escaped: "\\t",
         word: "tab",
         option: " --sep tab",
     },
     Separator {
-        letter: ';',
         byte: b';',
         escaped: ";",
         word: "semicolon",
         option: " --sep semicolon",
     },
     Separator {
-        letter: '|',
         byte: b'|',
         escaped: "|",
         word: "pipe",
         option: " --sep pipe",
     },
-    COMMA,
+    Separator {
+        byte: b',',
+        escaped: ",",
+        word: "comma",
+        option: "",
+    },
 ];
 
 impl Separator {
     /// The separator that stands on most lines, if there is one on any.
-    pub fn of(lines: &[&str]) -> Option<Self> {
+    pub fn of(lines: &[&str]) -> Option<&'static Self> {
         let mut best = None;
         let mut most = 0;
-        for separator in RAREST_FIRST {
-            let count = lines_with(lines, separator.letter);
+        for separator in &RAREST_FIRST {
+            let count = lines_with(lines, separator.letter());
             if count > most {
                 best = Some(separator);
                 most = count;
             }
         }
         best
+    }
+
+    pub fn letter(&self) -> char {
+        char::from(self.byte)
     }
 }
 

@@ -1,6 +1,6 @@
 use crate::column::Column;
+use crate::said::Said;
 use crate::table::Table;
-use std::alloc::{AllocError, Global};
 
 /// What the records of a CSV text say, most likely.
 #[derive(Clone, Copy)]
@@ -27,8 +27,8 @@ impl Shape {
             Some(first_item) if table.has_header => Shape::Matrix { first_item },
             _ if have_common_names(columns) => Shape::Baskets,
             _ => {
-                let basket = best_basket(columns);
-                let item = best_item(columns, basket);
+                let basket = best(columns, None);
+                let item = best(columns, Some(basket));
                 Shape::Single { basket, item }
             }
         }
@@ -48,40 +48,46 @@ impl Shape {
         }
     }
 
-    /// What the records mean.
-    pub fn meaning(self, alloc: Global) -> Result<String, AllocError> {
-        let text = match self {
-            Shape::Single { basket, item } => return single_text(alloc, basket, item),
-            Shape::Baskets => "A basket in each record, it seems.\n",
-            Shape::Weighted => {
-                "A basket in each record, it seems, and first its weight. If that is the count of a \
-set instead,\nit is --form csv-counts.\n"
-            }
-            Shape::Identified => {
-                "A basket in each record, it seems, and first its id, which is left out below.\n"
-            }
-            Shape::Matrix { .. } => {
-                "A basket in each record and an item in each column, it seems, which is no form that \
-basket reads.\n"
-            }
-        };
-        String::from_str(alloc, text)
-    }
-
-    /// The word that `--form` takes for it.
-    pub fn form(self) -> &'static str {
+    /// Says what the records mean.
+    pub fn say(self, said: &mut Said) {
         match self {
-            Shape::Single { .. } => "single",
-            _ => "baskets",
+            Shape::Baskets => said.push_str("A basket in each record, it seems.\n"),
+            Shape::Weighted => said.push_str(
+                "A basket in each record, it seems, and first its weight. If that is the count of a \
+set instead,\nit is --form csv-counts.\n",
+            ),
+            Shape::Identified => said.push_str(
+                "A basket in each record, it seems, and first its id, which is left out below.\n",
+            ),
+            Shape::Matrix { .. } => said.push_str(
+                "A basket in each record and an item in each column, it seems, which is no form that \
+basket reads.\n",
+            ),
+            Shape::Single { basket, item } => {
+                let (basket, item) = (basket.saturating_add(1), item.saturating_add(1));
+                write!(
+                    said,
+                    "An item of a basket in each record, it seems: column {basket} the basket, column {item} the item.\n"
+                )
+            }
         }
     }
-}
 
-fn single_text(alloc: Global, basket: usize, item: usize) -> Result<String, AllocError> {
-    let (basket, item) = (basket.saturating_add(1), item.saturating_add(1));
-    format!(in alloc;
-        "An item of a basket in each record, it seems: column {basket} the basket, column {item} the item.\n"
-    )
+    /// The option that says how to read them, once they are in a form that is mined.
+    pub fn form(self) -> &'static str {
+        match self {
+            Shape::Single { .. } => " --form single",
+            _ => " --form baskets",
+        }
+    }
+
+    /// Whether a program has to bring them into such a form.
+    pub fn has_filter(self) -> bool {
+        !matches!(
+            self,
+            Shape::Baskets | Shape::Weighted | Shape::Single { basket: 0, item: 1 }
+        )
+    }
 }
 
 /// The first of the columns of marks, if all are but the first, which may be the basket's id.
@@ -108,23 +114,17 @@ fn have_common_names(columns: &[Column<'_>]) -> bool {
     }
 }
 
-/// The place of the first column that would do best as the ids of baskets.
-fn best_basket(columns: &[Column<'_>]) -> usize {
+/// The place of the first column that would do best as the ids of baskets, or as items beside them.
+fn best(columns: &[Column<'_>], basket: Option<usize>) -> usize {
     let (mut place, mut most) = (0, 0);
     for (at, column) in columns.iter().enumerate() {
-        if column.basket_score() > most {
-            (place, most) = (at, column.basket_score());
-        }
-    }
-    place
-}
-
-/// The place of the first column but one that would do best as items.
-fn best_item(columns: &[Column<'_>], basket: usize) -> usize {
-    let (mut place, mut most) = (0, 0);
-    for (at, column) in columns.iter().enumerate() {
-        if at != basket && column.item_score() > most {
-            (place, most) = (at, column.item_score());
+        let score = match basket {
+            None => column.basket_score(),
+            Some(other) if other == at => 0,
+            Some(_) => column.item_score(),
+        };
+        if score > most {
+            (place, most) = (at, score);
         }
     }
     place

@@ -5,10 +5,8 @@ use std::alloc::{AllocError, Global};
 /// No header has more names.
 const MOST_NAMES: usize = 60;
 
-/// How many columns are looked at, and how many are shown.
+/// How many columns are looked at.
 const MOST_COLUMNS: usize = 200;
-
-const SHOWN_COLUMNS: usize = 6;
 
 /// The records of a CSV text.
 #[derive(Drop)]
@@ -57,35 +55,14 @@ impl Table {
         Ok(columns)
     }
 
-    /// What is said of the columns, if there are any.
-    pub fn columns_text(&self, columns: &[Column<'_>]) -> Result<String, AllocError> {
-        let mut text = String::new(self.alloc);
-        let most = if self.is_even() { SHOWN_COLUMNS } else { 0 };
-        for (place, column) in columns.iter().take(most).enumerate() {
-            let (number, column) = (place.saturating_add(1), column.text(self.alloc)?);
-            write!(text, "  column {number}{column}\n")?;
-        }
-        if most > 0 && columns.len() > most {
-            write!(text, "  columns in all: {}\n", self.width)?;
-        }
-        Ok(text)
-    }
-
     /// The values of a column, without its header.
     fn column(&self, place: usize) -> Result<Column<'_>, AllocError> {
-        let header = match self.records.first() {
-            Some(first) if self.has_header => first.get(place).unwrap_or("").trim(),
-            _ => "",
-        };
-        let values = values_at(self.alloc, self.below(), place)?;
-        Ok(Column::new(header, values))
-    }
-
-    /// The records below the header.
-    fn below(&self) -> &[StringRecord] {
         match self.records.split_first() {
-            Some((_, rest)) if self.has_header => rest,
-            _ => &self.records,
+            Some((first, rest)) if self.has_header => {
+                let header = first.get(place).unwrap_or("").trim();
+                column_below(self.alloc, place, header, rest)
+            }
+            _ => column_below(self.alloc, place, "", &self.records),
         }
     }
 
@@ -93,7 +70,7 @@ impl Table {
     fn may_have_header(&self) -> bool {
         match self.records.split_first() {
             Some((first, rest)) if first.len() <= MOST_NAMES && rest.len() > 1 => {
-                are_names(first) && are_new(first, rest)
+                are_new_names(first, rest)
             }
             _ => false,
         }
@@ -119,27 +96,34 @@ fn records_of(alloc: Global, text: &str, separator: u8) -> Result<Vec<StringReco
         .from_reader(alloc, text.as_bytes());
     let mut records = Vec::new(alloc);
     for record in reader.into_records() {
-        match record {
-            Ok(record) => records.push(record)?,
-            Err(_) => return Err(AllocError),
-        }
+        add_record(&mut records, record)?;
     }
     Ok(records)
 }
 
-/// The values of these records at a place, without the blanks around them.
-fn values_at(
+fn add_record(
+    records: &mut Vec<StringRecord>,
+    record: Result<StringRecord, csv::Error>,
+) -> Result<(), AllocError> {
+    match record {
+        Ok(record) => Ok(records.push(record)?),
+        Err(_) => Err(AllocError),
+    }
+}
+
+fn column_below<'a>(
     alloc: Global,
-    records: &[StringRecord],
     place: usize,
-) -> Result<Vec<&str>, AllocError> {
+    header: &'a str,
+    records: &'a [StringRecord],
+) -> Result<Column<'a>, AllocError> {
     let mut values = Vec::new(alloc);
     for record in records {
         if let Some(value) = record.get(place) {
             values.push(value.trim())?;
         }
     }
-    Ok(values)
+    Ok(Column::new(place, header, values))
 }
 
 fn median_len(alloc: Global, records: &[StringRecord]) -> Result<usize, AllocError> {
@@ -153,32 +137,22 @@ fn is_full(record: &StringRecord, width: usize) -> bool {
     record.len() == width && !last.trim().is_empty()
 }
 
-/// Whether no field of a record begins with a digit.
-fn are_names(record: &StringRecord) -> bool {
-    for name in record.iter() {
-        if begins_with_digit(name) {
+/// Whether no name begins with a digit or comes again in these records.
+fn are_new_names(names: &StringRecord, records: &[StringRecord]) -> bool {
+    for name in names.iter() {
+        if begins_with_digit(name) || has_value(records, name) {
             return false;
         }
     }
     true
 }
 
-/// Whether no name comes again in these records.
-fn are_new(names: &StringRecord, records: &[StringRecord]) -> bool {
+fn has_value(records: &[StringRecord], value: &str) -> bool {
     for record in records {
-        for value in record.iter() {
-            if !value.is_empty() && has_field(names, value) {
-                return false;
+        for other in record.iter() {
+            if !value.is_empty() && other == value {
+                return true;
             }
-        }
-    }
-    true
-}
-
-fn has_field(record: &StringRecord, value: &str) -> bool {
-    for field in record.iter() {
-        if field == value {
-            return true;
         }
     }
     false
