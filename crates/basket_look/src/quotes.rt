@@ -44,8 +44,5 @@ pub fn long_quote(text: &str, separator: char) -> Option<u32> {
             return Some(opened);
         }
     }
-    match place {
-        Place::Quoted => Some(opened),
-        _ => None,
-    }
+    matches!(place, Place::Quoted).then_some(opened)
 }

@@ -127,7 +127,10 @@ fn column_below<'a>(
 }
 
 fn median_len(alloc: Global, records: &[StringRecord]) -> Result<usize, AllocError> {
-    let mut lens: Vec<usize> = records.iter().map(|record| record.len()).collect(alloc)?;
+    let mut lens = Vec::new(alloc);
+    for record in records {
+        lens.push(record.len())?;
+    }
     lens.sort_unstable();
     Ok(lens.get(lens.len() / 2).copied().unwrap_or(0))
 }

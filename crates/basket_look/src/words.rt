@@ -34,8 +34,8 @@ pub enum Look<'a> {
 /// What the words of a command line ask of `look`, if they are about it.
 pub fn look_of<'a>(alloc: Global, words: &[&'a str]) -> Result<Option<Look<'a>>, AllocError> {
     match words {
-        [first, rest @ ..] if *first == "look" => look_after(alloc, rest),
-        [first, second] if *first == "help" && *second == "look" => Ok(Some(Look::Help)),
+        ["look", rest @ ..] => look_after(alloc, rest),
+        ["help", "look"] => Ok(Some(Look::Help)),
         _ => Ok(None),
     }
 }
@@ -49,8 +49,8 @@ fn look_after<'a>(alloc: Global, words: &[&'a str]) -> Result<Option<Look<'a>>, 
         return mistake(alloc, word);
     }
     Ok(Some(Look::At(match words {
-        [name] if *name != "-" => Some(*name),
-        _ => None,
+        [] | ["-", ..] => None,
+        [name, ..] => Some(*name),
     })))
 }
 
