@@ -1,4 +1,4 @@
-use basket_look::ShellWord;
+use basket_look::shell_word;
 use basket_plan::{Form, Invocation, Layout, Task};
 use std::alloc::{AllocError, Global};
 
@@ -56,7 +56,7 @@ impl<'a> Place<'a> {
     pub fn look(&self, alloc: Global) -> Result<String, AllocError> {
         match self.path {
             Some(path) if !path.starts_with("/dev/") && !path.starts_with("/proc/") => {
-                let word = ShellWord(path);
+                let word = shell_word(alloc, path)?;
                 format!(in alloc; "`basket look {word}` says what is in the file")
             }
             _ => Ok(String::new(alloc)),

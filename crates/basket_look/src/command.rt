@@ -1,79 +1,47 @@
-use crate::filter::Filter;
-use crate::separator::Separator;
-use std::fmt::{self, Display, Formatter};
+use crate::said::Said;
+use std::alloc::{AllocError, Global};
 
-/// A command line: programs that change a text, with pipes between them, and then `basket`. It is
-/// displayed as a shell takes it.
-#[derive(Clone, Copy)]
-pub struct Command<'a> {
-    pub file: Option<&'a str>,
-    pub filters: [Option<Filter>; 4],
-    pub form: Option<&'static str>,
-    pub separator: Separator,
-    pub has_header: bool,
-    pub is_weighted: bool,
+/// Says the programs that change a text, but those that are empty, with a pipe behind each. The
+/// first reads the input. What is left of the input is for the next program.
+pub fn say_pipe<'a>(said: &mut Said, programs: &[&str], input: &'a str) -> &'a str {
+    said.push_str("\n  ");
+    let mut input = input;
+    for program in programs {
+        if !program.is_empty() {
+            write!(said, "{program}{input} | ");
+            input = "";
+        }
+    }
+    input
 }
 
-impl Display for Command<'_> {
-    fn fmt<W: fmt::Write>(&self, f: &mut Formatter<W>) -> fmt::Result {
-        let mut is_first = true;
-        for filter in self.filters.iter().flatten() {
-            write!(f, "{filter}")?;
-            if is_first && let Some(name) = self.file {
-                write!(f, " < {}", ShellWord(name))?;
-            }
-            is_first = false;
-            f.write_str(" | ")?;
+/// Says how `basket` is called. Each option is empty or has a blank before it.
+pub fn say_basket(said: &mut Said, options: &[&str; 4], input: &str) {
+    let [form, separator, header, weight] = *options;
+    let name = input.strip_prefix(" <").unwrap_or("");
+    write!(
+        said,
+        "basket sets --min 10%{form}{separator}{header}{weight}{name}\n"
+    );
+}
+
+/// How a shell is told that a program reads a file.
+pub fn input_from(alloc: Global, file: Option<&str>) -> Result<String, AllocError> {
+    match file {
+        Some(name) => {
+            let word = shell_word(alloc, name)?;
+            format!(in alloc; " < {word}")
         }
-        f.write_str("basket sets --min 10%")?;
-        self.say_options(f)?;
-        match self.file {
-            Some(name) if is_first => write!(f, " {}", ShellWord(name)),
-            _ => Ok(()),
-        }
+        None => Ok(String::new(alloc)),
     }
 }
 
-impl Command<'_> {
-    fn say_options<W: fmt::Write>(&self, f: &mut Formatter<W>) -> fmt::Result {
-        if let Some(form) = self.form {
-            write!(f, " --form {form}")?;
-        }
-        if self.separator != Separator::Comma {
-            write!(f, " --sep {}", self.separator.word())?;
-        }
-        if self.has_header {
-            f.write_str(" --header")?;
-        }
-        if self.is_weighted {
-            f.write_str(" --weight")?;
-        }
-        Ok(())
-    }
-}
-
-/// The name of a file, which is displayed as a word of a shell's command line.
-#[derive(Clone, Copy)]
-pub struct ShellWord<'a>(pub &'a str);
-
-impl Display for ShellWord<'_> {
-    fn fmt<W: fmt::Write>(&self, f: &mut Formatter<W>) -> fmt::Result {
-        let ShellWord(name) = *self;
-        if name.starts_with('-') {
-            f.write_str("./")?;
-        }
-        if name.bytes().all(is_plain) {
-            return f.write_str(name);
-        }
-        f.write_str("'")?;
-        for letter in name.chars() {
-            match letter {
-                '\'' => f.write_str("'\\''")?,
-                _ => write!(f, "{letter}")?,
-            }
-        }
-        f.write_str("'")
-    }
+/// The name of a file, as a word of a shell's command line.
+pub fn shell_word(alloc: Global, name: &str) -> Result<String, AllocError> {
+    let folder = if name.starts_with('-') { "./" } else { "" };
+    let quote = if name.bytes().all(is_plain) { "" } else { "'" };
+    let name = name.replace(alloc, '\'', "'\\''")?;
+    format!(in alloc; "{folder}{quote}{name}{quote}")
 }
 
 /// Whether a shell reads a byte of a word as it stands.

@@ -1,7 +1,7 @@
 use std::alloc::{AllocError, Global};
 
 /// How the characters of a text are written.
-#[derive(Clone, Copy, PartialEq, Eq)]
+#[derive(Clone, Copy)]
 pub enum Encoding {
     Ascii,
     Utf8,
@@ -26,7 +26,7 @@ impl Encoding {
         if bytes.contains(&0) {
             return Self::by_nuls(bytes);
         }
-        if bytes.iter().any(|byte| is_control(*byte)) {
+        if has_control(bytes) {
             return None;
         }
         Some(Self::without_nuls(bytes))
@@ -35,8 +35,15 @@ impl Encoding {
     /// UTF-16 of mostly Latin letters has a NUL in nearly every other place.
     fn by_nuls(bytes: &[u8]) -> Option<Self> {
         let (pairs, _) = bytes.as_chunks::<2>();
-        let little = pairs.iter().filter(|pair| pair[1] == 0).count();
-        let big = pairs.iter().filter(|pair| pair[0] == 0).count();
+        let (mut little, mut big): (usize, usize) = (0, 0);
+        for [first, second] in pairs {
+            if *second == 0 {
+                little = little.saturating_add(1);
+            }
+            if *first == 0 {
+                big = big.saturating_add(1);
+            }
+        }
         let most = pairs.len() / 2;
         if little > most {
             Some(Encoding::LittleUtf16)
@@ -74,37 +81,43 @@ impl Encoding {
         }
     }
 
-    /// What `iconv` calls an encoding that has to be changed to UTF-8 before it is mined.
-    pub fn iconv_name(self) -> Option<&'static str> {
+    /// The program that changes a text to UTF-8, where that has to be done before it is mined.
+    pub fn recoding(self) -> &'static str {
         match self {
-            Encoding::Ascii | Encoding::Utf8 | Encoding::MarkedUtf8 => None,
-            Encoding::LittleUtf16 => Some("UTF-16LE"),
-            Encoding::BigUtf16 => Some("UTF-16BE"),
-            Encoding::OneByte => Some("WINDOWS-1252"),
+            Encoding::Ascii | Encoding::Utf8 | Encoding::MarkedUtf8 => "",
+            Encoding::LittleUtf16 => "iconv -f UTF-16LE -t UTF-8",
+            Encoding::BigUtf16 => "iconv -f UTF-16BE -t UTF-8",
+            Encoding::OneByte => "iconv -f WINDOWS-1252 -t UTF-8",
         }
     }
 
     /// The characters of the bytes.
     pub fn decode(self, alloc: Global, bytes: &[u8]) -> Result<String, AllocError> {
-        let (pairs, _) = bytes.as_chunks::<2>();
         match self {
-            Encoding::LittleUtf16 => {
-                let units = pairs.iter().map(|pair| u16::from_le_bytes(*pair));
-                let units: Vec<u16> = units.collect(alloc)?;
-                String::from_utf16_lossy(alloc, &units)
-            }
-            Encoding::BigUtf16 => {
-                let units = pairs.iter().map(|pair| u16::from_be_bytes(*pair));
-                let units: Vec<u16> = units.collect(alloc)?;
-                String::from_utf16_lossy(alloc, &units)
-            }
+            Encoding::LittleUtf16 => decode_utf16(alloc, bytes, false),
+            Encoding::BigUtf16 => decode_utf16(alloc, bytes, true),
             Encoding::OneByte => bytes.iter().map(|byte| char::from(*byte)).collect(alloc),
             _ => String::from_utf8_lossy(alloc, bytes),
         }
     }
 }
 
-/// Whether a byte is of no text, though it is no NUL.
-fn is_control(byte: u8) -> bool {
-    byte < 0x20 && !byte.is_ascii_whitespace() && byte != 0x1A
+fn decode_utf16(alloc: Global, bytes: &[u8], is_big: bool) -> Result<String, AllocError> {
+    let (pairs, _) = bytes.as_chunks::<2>();
+    let mut units = Vec::new(alloc);
+    for pair in pairs {
+        let unit = u16::from_le_bytes(*pair);
+        units.push(if is_big { unit.swap_bytes() } else { unit })?;
+    }
+    String::from_utf16_lossy(alloc, &units)
+}
+
+/// Whether one of these bytes is of no text. None is a NUL.
+fn has_control(bytes: &[u8]) -> bool {
+    for byte in bytes {
+        if *byte < 0x20 && !byte.is_ascii_whitespace() && *byte != 0x1A {
+            return true;
+        }
+    }
+    false
 }

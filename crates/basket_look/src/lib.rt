@@ -13,13 +13,13 @@ mod lines;
 mod number_text;
 mod quotes;
 mod report;
+mod said;
 mod sample;
 mod separator;
 mod shape;
-mod shown;
 mod table;
 mod words;
 
-pub use command::ShellWord;
+pub use command::shell_word;
 pub use report::{MOST_BYTES, looked};
 pub use words::{HELP, Look, look_of};

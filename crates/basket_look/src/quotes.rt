@@ -1,7 +1,7 @@
 //! Quotes that are left open.
 
 /// Where the scan of a text stands.
-#[derive(Clone, Copy, PartialEq, Eq)]
+#[derive(Clone, Copy)]
 enum Place {
     FieldStart,
     Plain,
@@ -37,16 +37,12 @@ pub fn long_quote(text: &str, separator: char) -> Option<u32> {
         if letter == '\n' {
             line = line.saturating_add(1);
         }
-        if place != Place::Quoted {
+        if !matches!(place, Place::Quoted) {
             opened = line;
         }
         if line.saturating_sub(opened) > MOST_LINES {
             return Some(opened);
         }
     }
-    if place == Place::Quoted {
-        Some(opened)
-    } else {
-        None
-    }
+    matches!(place, Place::Quoted).then_some(opened)
 }

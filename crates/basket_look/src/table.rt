@@ -1,11 +1,12 @@
-use crate::column::{Column, is_measure};
-use crate::lines::is_number;
-use crate::separator::Separator;
+use crate::column::{Column, begins_with_digit};
 use csv::{ReaderBuilder, StringRecord};
 use std::alloc::{AllocError, Global};
 
 /// No header has more names.
 const MOST_NAMES: usize = 60;
+
+/// How many columns are looked at.
+const MOST_COLUMNS: usize = 200;
 
 /// The records of a CSV text.
 #[derive(Drop)]
@@ -18,19 +19,8 @@ pub struct Table {
 }
 
 impl Table {
-    pub fn read(alloc: Global, text: &str, separator: Separator) -> Result<Self, AllocError> {
-        let reader = ReaderBuilder::new()
-            .delimiter(separator.byte())
-            .has_headers(false)
-            .flexible(true)
-            .from_reader(alloc, text.as_bytes());
-        let mut records = Vec::new(alloc);
-        for record in reader.into_records() {
-            match record {
-                Ok(record) => records.push(record)?,
-                Err(_) => return Err(AllocError),
-            }
-        }
+    pub fn read(alloc: Global, text: &str, separator: u8) -> Result<Self, AllocError> {
+        let records = records_of(alloc, text, separator)?;
         let width = median_len(alloc, &records)?;
         let mut table = Table {
             alloc,
@@ -48,47 +38,42 @@ impl Table {
 
     /// Whether nearly all records have as many fields, none of them left empty at the end.
     pub fn is_even(&self) -> bool {
-        let is_other = |record: &&StringRecord| !is_full(record, self.width);
-        let others = self.records.iter().filter(is_other).count();
+        let mut others: usize = 0;
+        for record in &self.records {
+            if !is_full(record, self.width) {
+                others = others.saturating_add(1);
+            }
+        }
         self.width > 1 && others <= self.len() / 10
     }
 
-    /// The values of a column, without its header.
-    pub fn column(&self, place: usize) -> Result<Column<'_>, AllocError> {
-        let header = match self.records.first() {
-            Some(first) if self.has_header => first.get(place).unwrap_or("").trim(),
-            _ => "",
-        };
-        let values: Vec<&str> = self
-            .below()
-            .iter()
-            .filter_map(|record| record.get(place))
-            .map(|value| value.trim())
-            .collect(self.alloc)?;
-        Column::new(self.alloc, header, values)
+    pub fn columns(&self) -> Result<Vec<Column<'_>>, AllocError> {
+        let mut columns = Vec::new(self.alloc);
+        for place in 0..self.width.min(MOST_COLUMNS) {
+            columns.push(self.column(place)?)?;
+        }
+        Ok(columns)
     }
 
-    /// The records below the header.
-    fn below(&self) -> &[StringRecord] {
+    /// The values of a column, without its header.
+    fn column(&self, place: usize) -> Result<Column<'_>, AllocError> {
         match self.records.split_first() {
-            Some((_, rest)) if self.has_header => rest,
-            _ => &self.records,
+            Some((first, rest)) if self.has_header => {
+                let header = first.get(place).unwrap_or("").trim();
+                column_below(self.alloc, place, header, rest)
+            }
+            _ => column_below(self.alloc, place, "", &self.records),
         }
     }
 
     /// Whether the first record has names alone, none of which comes again.
     fn may_have_header(&self) -> bool {
-        let Some((first, rest)) = self.records.split_first() else {
-            return false;
-        };
-        first.len() <= MOST_NAMES
-            && rest.len() > 1
-            && first
-                .iter()
-                .all(|name| !is_number(name) && !is_measure(name))
-            && first
-                .iter()
-                .all(|name| !rest.iter().any(|record| has_value(record, name)))
+        match self.records.split_first() {
+            Some((first, rest)) if first.len() <= MOST_NAMES && rest.len() > 1 => {
+                are_new_names(first, rest)
+            }
+            _ => false,
+        }
     }
 
     /// Whether values below the first record are numbers or come again, in one column at least.
@@ -103,8 +88,49 @@ impl Table {
     }
 }
 
+fn records_of(alloc: Global, text: &str, separator: u8) -> Result<Vec<StringRecord>, AllocError> {
+    let reader = ReaderBuilder::new()
+        .delimiter(separator)
+        .has_headers(false)
+        .flexible(true)
+        .from_reader(alloc, text.as_bytes());
+    let mut records = Vec::new(alloc);
+    for record in reader.into_records() {
+        add_record(&mut records, record)?;
+    }
+    Ok(records)
+}
+
+fn add_record(
+    records: &mut Vec<StringRecord>,
+    record: Result<StringRecord, csv::Error>,
+) -> Result<(), AllocError> {
+    match record {
+        Ok(record) => Ok(records.push(record)?),
+        Err(_) => Err(AllocError),
+    }
+}
+
+fn column_below<'a>(
+    alloc: Global,
+    place: usize,
+    header: &'a str,
+    records: &'a [StringRecord],
+) -> Result<Column<'a>, AllocError> {
+    let mut values = Vec::new(alloc);
+    for record in records {
+        if let Some(value) = record.get(place) {
+            values.push(value.trim())?;
+        }
+    }
+    Ok(Column::new(place, header, values))
+}
+
 fn median_len(alloc: Global, records: &[StringRecord]) -> Result<usize, AllocError> {
-    let mut lens: Vec<usize> = records.iter().map(|record| record.len()).collect(alloc)?;
+    let mut lens = Vec::new(alloc);
+    for record in records {
+        lens.push(record.len())?;
+    }
     lens.sort_unstable();
     Ok(lens.get(lens.len() / 2).copied().unwrap_or(0))
 }
@@ -114,6 +140,23 @@ fn is_full(record: &StringRecord, width: usize) -> bool {
     record.len() == width && !last.trim().is_empty()
 }
 
-fn has_value(record: &StringRecord, value: &str) -> bool {
-    !value.is_empty() && record.iter().any(|other| other == value)
+/// Whether no name begins with a digit or comes again in these records.
+fn are_new_names(names: &StringRecord, records: &[StringRecord]) -> bool {
+    for name in names.iter() {
+        if begins_with_digit(name) || has_value(records, name) {
+            return false;
+        }
+    }
+    true
+}
+
+fn has_value(records: &[StringRecord], value: &str) -> bool {
+    for record in records {
+        for other in record.iter() {
+            if !value.is_empty() && other == value {
+                return true;
+            }
+        }
+    }
+    false
 }

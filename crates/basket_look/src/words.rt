@@ -33,30 +33,44 @@ pub enum Look<'a> {
 
 /// What the words of a command line ask of `look`, if they are about it.
 pub fn look_of<'a>(alloc: Global, words: &[&'a str]) -> Result<Option<Look<'a>>, AllocError> {
-    match words.split_first() {
-        Some((first, rest)) if *first == "look" => Ok(Some(look_after(alloc, rest)?)),
-        Some((first, [second])) if *first == "help" && *second == "look" => Ok(Some(Look::Help)),
+    match words {
+        ["look", rest @ ..] => look_after(alloc, rest),
+        ["help", "look"] => Ok(Some(Look::Help)),
         _ => Ok(None),
     }
 }
 
 /// What the words after `look` ask for.
-fn look_after<'a>(alloc: Global, words: &[&'a str]) -> Result<Look<'a>, AllocError> {
-    if words
-        .iter()
-        .any(|word| matches!(option_in(word), "--help" | "-h"))
-    {
-        return Ok(Look::Help);
+fn look_after<'a>(alloc: Global, words: &[&'a str]) -> Result<Option<Look<'a>>, AllocError> {
+    if ask_for_help(words) {
+        return Ok(Some(Look::Help));
     }
-    if let Some(option) = words.iter().find(|word| is_option(word)) {
-        return mistake(alloc, option);
+    if let Some(word) = unexpected(words) {
+        return mistake(alloc, word);
     }
-    match words {
-        [] => Ok(Look::At(None)),
-        [name] if *name == "-" => Ok(Look::At(None)),
-        [name] => Ok(Look::At(Some(*name))),
-        [_, second, ..] => mistake(alloc, second),
+    Ok(Some(Look::At(match words {
+        [] | ["-", ..] => None,
+        [name, ..] => Some(*name),
+    })))
+}
+
+fn ask_for_help(words: &[&str]) -> bool {
+    for word in words {
+        if matches!(option_in(word), "--help" | "-h") {
+            return true;
+        }
     }
+    false
+}
+
+/// The first option, or else the second word.
+fn unexpected<'a>(words: &[&'a str]) -> Option<&'a str> {
+    for word in words {
+        if word.starts_with('-') && *word != "-" {
+            return Some(*word);
+        }
+    }
+    words.get(1).copied()
 }
 
 /// The option of a word that may have its value behind it.
@@ -64,16 +78,12 @@ fn option_in(word: &str) -> &str {
     word.split('=').next().unwrap_or(word)
 }
 
-fn is_option(word: &str) -> bool {
-    word.starts_with('-') && word != "-"
-}
-
 /// What `clap` says of a word that isn't expected.
-fn mistake<'a>(alloc: Global, word: &str) -> Result<Look<'a>, AllocError> {
+fn mistake<'a>(alloc: Global, word: &str) -> Result<Option<Look<'a>>, AllocError> {
     let option = option_in(word);
     let text = format!(in alloc;
         "error: unexpected argument '{option}' found\n\nUsage: basket look [FILE]\n\n\
 For more information, try '--help'.\n"
     )?;
-    Ok(Look::Mistake(text))
+    Ok(Some(Look::Mistake(text)))
 }
