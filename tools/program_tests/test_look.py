@@ -86,6 +86,10 @@ class Tables(unittest.TestCase):
             (RECEIPTS.encode("utf-16-be"), "UTF-16"),
             (RECEIPTS.replace(",", "|").encode(), "separated by pipe"),
             (RECEIPTS.replace("\n", "\r").encode(), "a carriage return alone"),
+            (
+                RECEIPTS.replace("\n", ",\n").encode(),
+                "column 1 the basket, column 2 the item",
+            ),
             (RECEIPTS.replace("\n", "\n\n").encode(), "product: 9 different"),
             (re.sub(r"(?m)^1(\d+)", r'"1,\1"', RECEIPTS).encode(), "1,001, 1,002"),
             (swapped.encode(), "column 2 the basket, column 1 the item"),

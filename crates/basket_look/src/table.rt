@@ -13,7 +13,7 @@ const MOST_COLUMNS: usize = 200;
 pub struct Table {
     alloc: Global,
     records: Vec<StringRecord>,
-    /// How many fields most records have.
+    /// How many fields most records have, without empty ones at the end.
     pub width: usize,
     pub has_header: bool,
 }
@@ -36,11 +36,11 @@ impl Table {
         self.records.len()
     }
 
-    /// Whether nearly all records have as many fields, none of them left empty at the end.
+    /// Whether nearly all records have as many fields.
     pub fn is_even(&self) -> bool {
         let mut others: usize = 0;
         for record in &self.records {
-            if !is_full(record, self.width) {
+            if filled_len(record) != self.width {
                 others = others.saturating_add(1);
             }
         }
@@ -129,15 +129,21 @@ fn column_below<'a>(
 fn median_len(alloc: Global, records: &[StringRecord]) -> Result<usize, AllocError> {
     let mut lens = Vec::new(alloc);
     for record in records {
-        lens.push(record.len())?;
+        lens.push(filled_len(record))?;
     }
     lens.sort_unstable();
     Ok(lens.get(lens.len() / 2).copied().unwrap_or(0))
 }
 
-fn is_full(record: &StringRecord, width: usize) -> bool {
-    let last = record.get(width.saturating_sub(1)).unwrap_or("");
-    record.len() == width && !last.trim().is_empty()
+/// How many fields a record has, without empty ones at its end.
+fn filled_len(record: &StringRecord) -> usize {
+    let mut len = 0;
+    for (place, field) in record.iter().enumerate() {
+        if !field.trim().is_empty() {
+            len = place.saturating_add(1);
+        }
+    }
+    len
 }
 
 /// Whether no name begins with a digit or comes again in these records.
