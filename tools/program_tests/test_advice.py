@@ -67,7 +67,7 @@ class Advice(unittest.TestCase):
                 "write a % behind it",
             ),
             *(
-                ([*SETS, option, "0"], f"{option} takes a number {bounds}")
+                ([*SETS, option, "x"], f"{option} takes a number {bounds}")
                 for option, bounds in (
                     ("--workers", "of threads from 1 to 64"),
                     ("--pieces", "from 1 to 65536"),

@@ -34,13 +34,19 @@ pub fn words_advice(alloc: Global, text: &str, words: &[&str]) -> Result<String,
     Ok(hints.into_text())
 }
 
-/// The bounds of a number. There may be none.
+/// The bounds of an option's number, if the value is none. `clap` says them of other numbers.
 fn number_advice(text: &str) -> &'static str {
-    match text {
-        "basket: bad value for --workers\n" => "--workers takes a number of threads from 1 to 64",
-        "basket: bad value for --pieces\n" => "--pieces takes a number from 1 to 65536",
-        "basket: bad value for --limit\n" => "--limit takes a number from 1 to 4294967295",
-        _ => "",
+    let Some((before, _)) = text.split_once("': invalid digit") else {
+        return "";
+    };
+    if before.ends_with("--workers <W>") {
+        "--workers takes a number of threads from 1 to 64"
+    } else if before.ends_with("--pieces <P>") {
+        "--pieces takes a number from 1 to 65536"
+    } else if before.ends_with("--limit <L>") {
+        "--limit takes a number from 1 to 4294967295"
+    } else {
+        ""
     }
 }
 
