@@ -1,28 +1,34 @@
 #!/usr/bin/env python3
 """Prints what the check of a crate from nothing takes, function by function, the slowest first.
 
-usage: tools/slow.py CRATE [SECONDS]    at the top of the repository
+usage: tools/slow.py CRATE [--test] [SECONDS]    at the top of the repository
 
-Prints the processor seconds of each function that takes at least SECONDS (10), and those of the rest: reading
-the libraries, definitions and lemmas up to the first function, which is among them, and what follows after the
-last. The crates below are proved first, or taken from what earlier runs kept.
+The crate, or its tests, are checked by one job, which keeps what it made of each function in files. From one file
+to the next as many seconds went by as the check took for it. Prints those of each function that takes at least
+SECONDS (10), and those of the rest: reading the libraries, definitions and lemmas. On a machine that does nothing
+else these are processor seconds. The crates below are proved first, or taken from what earlier runs kept.
 """
 
-import os
 import re
 import shutil
 import subprocess
 import sys
 import tempfile
-from collections.abc import Iterator
+from collections.abc import Iterable
 from pathlib import Path
 
 import kit
 from crates import Crates, copy_to, is_program, listed, needed
 
-CHECKED = re.compile(r"checked (\S+), \d+ of \d+")
-PROVED = re.compile(r"logic=(proved|not-proved)")
-TICKS = os.sysconf("SC_CLK_TCK")
+# What is kept of a function: its code, how it is read and laid out, its steps, what it owes, and its proof.
+STAGES = (
+    "Answers Code Given Goals Invariants Key Kinds Layout Lts Met Named Proof Reads "
+    "Statement Symbol TheBound TheImpl TheInside TheLaws TheLink TheLinks Tie"
+).split()
+KEPT = re.compile(
+    r"Rattle-\w+[-.](?:proofs|specs)\.(?:contracts\.|declared\.)?([^.]+\..+?)"
+    rf"(?:\.(?:{'|'.join(STAGES)})(?:\..*)?)?(?:\.decls)?\.oantt"
+)
 
 
 def words_for(name: str, crates: Crates, tree: Path) -> list[str]:
@@ -31,7 +37,7 @@ def words_for(name: str, crates: Crates, tree: Path) -> list[str]:
     below = [it for it in needed([name], crates) if it != name]
     libraries = {it: tree / f"crates/{it}/out/rlib/{it}.rlib" for it in below}
     source = "src/main.rt" if is_program(name) else "src/lib.rt"
-    words = ["check", "--crate-name", name, source, "--jobs", "1", "--progress"]
+    words = ["check", "--crate-name", name, source, "--jobs", "1"]
     for used in ["std", *crates[name][1]]:
         rlib = libraries.get(used, home / f"rlibs/{used}.rlib")
         words += ["--extern", f"{used}={rlib}"]
@@ -42,31 +48,21 @@ def words_for(name: str, crates: Crates, tree: Path) -> list[str]:
     return [str(home / "bin/rattle"), *words, "--incremental", str(tree / "kept")]
 
 
-def used_by(process: int) -> float:
-    """The processor seconds of a process that runs."""
-    fields = Path(f"/proc/{process}/stat").read_text().rpartition(")")[2].split()
-    return (int(fields[11]) + int(fields[12])) / TICKS
+def by_function(files: Iterable[tuple[float, str]]) -> tuple[dict[str, float], float]:
+    """The seconds of each function by the times and names of the files that are kept, and those of the rest."""
+    functions: dict[str, float] = {}
+    rest, before = 0.0, None
+    for when, name in sorted(files):
+        seconds = when - (when if before is None else before)
+        before = when
+        if found := KEPT.fullmatch(name):
+            functions[found[1]] = functions.get(found[1], 0.0) + seconds
+        else:
+            rest += seconds
+    return functions, rest
 
 
-def steps(words: list[str], folder: Path) -> Iterator[tuple[str, float]]:
-    """The lines of a check, each with the processor seconds since the one before."""
-    with subprocess.Popen(
-        words,
-        cwd=folder,
-        stdin=subprocess.DEVNULL,
-        stdout=subprocess.PIPE,
-        stderr=subprocess.STDOUT,
-        text=True,
-    ) as checker:
-        assert checker.stdout
-        before = 0.0
-        for line in checker.stdout:
-            now = used_by(checker.pid) if checker.poll() is None else before
-            yield line, now - before
-            before = now
-
-
-def report(name: str, least: float, tree: Path) -> int:
+def report(name: str, least: float, flags: list[str], tree: Path) -> int:
     crates = listed()
     below = [it for it in needed([name], crates) if it != name]
     copy_to(tree, below, crates)
@@ -76,36 +72,41 @@ def report(name: str, least: float, tree: Path) -> int:
     )
     if ended and ended.returncode != 0:
         sys.exit(f"A crate below {name} is not proved.")
+    place, kept = tree / "crates" / name, tree / "kept"
     unread = shutil.ignore_patterns("out", "must-fail")
-    shutil.copytree(Path("crates", name), tree / "crates" / name, ignore=unread)
-    (tree / "kept").mkdir()
-    functions: dict[str, float] = {}
-    rest, verdict, has_begun = 0.0, "no verdict", False
-    for line, seconds in steps(words_for(name, crates, tree), tree / "crates" / name):
-        found = CHECKED.match(line)
-        if found and has_begun:
-            functions[found[1]] = seconds
-        else:
-            rest += seconds
-        has_begun = has_begun or found is not None
-        if PROVED.match(line):
-            verdict = line.split()[0]
+    shutil.copytree(Path("crates", name), place, ignore=unread)
+    kept.mkdir()
+    checked = subprocess.run(
+        [*words_for(name, crates, tree), *flags],
+        cwd=place,
+        stdin=subprocess.DEVNULL,
+        capture_output=True,
+        text=True,
+        check=False,
+    )
+    files = (
+        (path.stat().st_mtime, path.name) for path in kept.rglob("*") if path.is_file()
+    )
+    functions, rest = by_function(files)
     for function, seconds in sorted(functions.items(), key=lambda it: -it[1]):
         if seconds >= least:
             print(f"{seconds:6.1f} {function}")
     few = [seconds for seconds in functions.values() if seconds < least]
-    print(f"{sum(few):6.1f} {len(few)} other functions")
-    print(f"{rest:6.1f} the rest of {name}; {verdict}")
-    return int(verdict != "logic=proved")
+    is_proved = "logic=proved" in checked.stdout
+    print(f"{sum(few):6.1f} {len(few)} other functions and types")
+    print(f"{rest:6.1f} the rest of {name}; {'' if is_proved else 'not '}proved")
+    return int(not is_proved)
 
 
 def main(words: list[str]) -> int:
     kit.demand()
+    flags = [word for word in words if word == "--test"]
+    words = [word for word in words if word != "--test"]
     if not words or words[0] not in listed():
         sys.exit(__doc__)
     least = float(words[1]) if len(words) > 1 else 10.0
     with tempfile.TemporaryDirectory(prefix="basket-") as tree:
-        return report(words[0], least, Path(tree))
+        return report(words[0], least, flags, Path(tree))
 
 
 if __name__ == "__main__":

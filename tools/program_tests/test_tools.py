@@ -8,6 +8,7 @@ from pathlib import Path
 from edits import TRIED, Edit
 from package import links_of
 from prove import Report
+from slow import by_function
 
 from .certified import check
 
@@ -158,3 +159,17 @@ class Tools(unittest.TestCase):
                 wrong = report.replace(b"2", b"3")
                 with self.assertRaises(ValueError):
                     check(words.split(), given, wrong, folder)
+
+    def test_seconds_go_to_the_function_of_which_a_file_is_kept(self) -> None:
+        files = (
+            (10.0, "Rattle-basket_csv-proofs.RowLemmas.oantt"),
+            (11.0, "Rattle-basket_csv-specs.contracts.row.text_at.Key.oantt"),
+            (13.5, "Rattle-basket_csv-proofs.row.text_at.Lts.oantt"),
+            (13.5, "Rattle-basket_csv-proofs.row.text_at.Lts.decls.oantt"),
+            (17.5, "Rattle-basket_csv.proofs.pairs.Pairs.append.Proof.oantt"),
+            (18.0, "judged"),
+        )
+        self.assertEqual(
+            by_function(reversed(files)),
+            ({"row.text_at": 3.5, "pairs.Pairs.append": 4.0}, 0.5),
+        )
