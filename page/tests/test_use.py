@@ -274,15 +274,20 @@ def test_everything_that_is_used_has_a_name(example: webdriver.Chrome) -> None:
 def test_a_report_is_not_drawn_before_its_picture_begins(
     example: webdriver.Chrome,
 ) -> None:
-    # A frame may come between the two, while another report's marks are still there.
+    # A frame may come between the two, while another report's marks are still there, and a mouse may be let go.
     script = """
     take({ ...data, both: data.both.slice(0, 1) });
     draw();
+    const point = (kind, pointerType, clientX) =>
+      canvas.dispatchEvent(new PointerEvent(kind, { pointerType, clientX, clientY: 200 }));
+    point("pointerdown", "touch", 100);
+    point("pointerup", "mouse", 300);
     startPicture();
     update();
     return shown.length;
     """
     assert example.execute_script(script) == 1
+    assert example.get_log("browser") == []
 
 
 STEPS = """

@@ -4,6 +4,10 @@ const LOG_FROM = 5; // The most over the least from which an axis goes by magnit
 let across = null; // Of what is listed, once its picture has begun.
 let up = null;
 
+function forgetAxes() {
+  across = null;
+}
+
 function axisOf(key, mayBeLog) {
   const { values, text } = columns[key];
   let [low, high] = [Infinity, -Infinity];

@@ -24,7 +24,7 @@ function take(given) {
   if (isOther || !columns[sorted.key]) sorted = { key: isOfRules ? "lift" : "count", isFalling: true };
   sort();
   passing = shown = order;
-  across = null;
+  forgetAxes();
 }
 
 function numberItems() {

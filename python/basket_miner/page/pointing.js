@@ -87,6 +87,7 @@ function startPointing() {
   canvas.addEventListener("pointerup", ({ offsetX: x, offsetY: y, pointerType }) => {
     const from = began ?? [x, y];
     end();
+    if (!across) return; // Another listing came, whose picture has not begun.
     if (Math.hypot(x - from[0], y - from[1]) < 5) selectMark(nearest(x, y));
     else if (pointerType !== "touch") selectBetween(from, [x, y]);
   });
