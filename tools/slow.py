@@ -80,7 +80,8 @@ def report(name: str, least: float, flags: list[str], tree: Path) -> int:
         [*words_for(name, crates, tree), *flags],
         cwd=place,
         stdin=subprocess.DEVNULL,
-        capture_output=True,
+        stdout=subprocess.PIPE,
+        stderr=subprocess.STDOUT,
         text=True,
         check=False,
     )
