@@ -3,6 +3,8 @@ mod FieldLemmas
 mod LastLemmas
 mod MarkLemmas
 mod RecordLemmas
+mod PlainLemmas
+mod LaneLemmas
 mod ReaderLemmas
 mod PartLemmas
 mod RowLemmas

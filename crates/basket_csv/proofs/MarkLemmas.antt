@@ -1,9 +1,11 @@
 -- The mark at the start of a text, and where a text may be cut.
-use Rattle.std.proofs.Common.{◌≡◌, inr, ℕ, ◌+◌, ◌-◌, ◌≤◌, ◌<◌, Bool, true, false, cond, eqb, ◌&&◌, List, [], ◌∷◌, ◌++◌, length, get_or, take, drop, refl, sym, ap, ◌∙◌, subst, arith}
+use Rattle.std.proofs.Common.{◌≡◌, inr, ℕ, ◌+◌, ◌-◌, ◌≤◌, ◌<◌, Bool, true, false, cond, eqb, ◌&&◌, List, [], ◌∷◌, ◌++◌, length, get_or, take, drop, refl, sym, ap, ap₂, ◌∙◌, subst, arith}
 use Rattle.std.specs.List.{starts_with}
-use Rattle.std.proofs.lemmas.Bool.{eqb-true, and_parts, false≢true}
+use Rattle.std.proofs.lemmas.Bool.{eqb-true}
+use Rattle.std.proofs.lemmas.Bool.Decides.{nat_tests}
 use Rattle.std.proofs.lemmas.List.{take_more, take_all, length-drop, get_or-drop}
 use Rattle.csv.specs.Reading.{strip_bom, is_bom}
+use Rattle.basket_read.specs.Fimi.{text_of}
 use Rattle.basket_csv.specs.Parts.{IsCut}
 use Rattle.basket_csv.specs.Records.{last_after}
 use Rattle.basket_csv.proofs.LastLemmas.{last_push}
@@ -62,23 +64,36 @@ ends_stripped (a ∷ b ∷ c ∷ bytes) ends = at (is_bom a b c) bytes ends
 
 -- ---- the end of a part
 
--- a text that doesn't start with the mark has none
-pub no_mark : (bytes : List ℕ) → starts_with eqb bytes (0xEF ∷ 0xBB ∷ 0xBF ∷ []) ≡ false → strip_bom bytes ≡ bytes
+-- the text of some bytes has no mark
+pub text_is_stripped : (bytes : List ℕ) → text_of bytes ≡ strip_bom bytes
 unfolding strip_bom
-no_mark [] none = refl
-no_mark (a ∷ []) none = refl
-no_mark (a ∷ b ∷ []) none = refl
-no_mark (a ∷ b ∷ c ∷ bytes) none = at (is_bom a b c) refl
+text_is_stripped [] = refl
+text_is_stripped (a ∷ []) = at (eqb 0xEF a)
   where
-    begins : (a b c : ℕ) → a ≡ 0xEF → b ≡ 0xBB → c ≡ 0xBF → starts_with eqb (a ∷ b ∷ c ∷ bytes) (0xEF ∷ 0xBB ∷ 0xBF ∷ []) ≡ true
-    begins a b c e f g = rw (e, f, g) refl
+    at : (x : Bool) → cond (x && false) [] (a ∷ []) ≡ a ∷ []
+    at true = refl
+    at false = refl
+text_is_stripped (a ∷ b ∷ []) = at (eqb 0xEF a) (eqb 0xBB b)
+  where
+    at : (x y : Bool) → cond (x && (y && false)) [] (a ∷ b ∷ []) ≡ a ∷ b ∷ []
+    at true true = refl
+    at true false = refl
+    at false y = refl
+text_is_stripped (a ∷ b ∷ c ∷ bytes) =
+    ap (λ is. cond is bytes (a ∷ b ∷ c ∷ bytes))
+    (at (eqb 0xEF a) (eqb 0xBB b) (eqb 0xBF c) ∙ ap₂ (λ x y. x && y) (ap₂ (λ x y. x && y) (flipped 0xEF a) (flipped 0xBB b)) (flipped 0xBF c))
+  where
+    at : (x y z : Bool) → (x && (y && (z && true))) ≡ ((x && y) && z)
+    at true true true = refl
+    at true true false = refl
+    at true false z = refl
+    at false y z = refl
 
-    at : (is : Bool) → is_bom a b c ≡ is → cond is bytes (a ∷ b ∷ c ∷ bytes) ≡ a ∷ b ∷ c ∷ bytes
-    at false e = refl
-    at true e =
-        let (two, third) = and_parts (eqb a 0xEF && eqb b 0xBB) (eqb c 0xBF) e in
-        let (first, second) = and_parts (eqb a 0xEF) (eqb b 0xBB) two in
-        absurd (false≢true (sym none ∙ begins a b c (eqb-true a 0xEF first) (eqb-true b 0xBB second) (eqb-true c 0xBF third)))
+    flipped : (x y : ℕ) → eqb x y ≡ eqb y x
+    flipped x y = grind (arith, nat_tests)
+
+pub no_mark : (bytes : List ℕ) → starts_with eqb bytes (0xEF ∷ 0xBB ∷ 0xBF ∷ []) ≡ false → strip_bom bytes ≡ bytes
+no_mark bytes none = sym (text_is_stripped bytes) ∙ ap (λ is. cond is (drop 3 bytes) bytes) none
 
 -- what is left after a place
 left_after : (bytes : List ℕ) (place : ℕ) → take (length bytes - place) (drop place bytes) ≡ drop place bytes

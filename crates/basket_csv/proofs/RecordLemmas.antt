@@ -22,18 +22,18 @@ ends_if : (b : Bool) (x y : State × Action) → Ends x → Ends y → Ends (con
 ends_if true x y h k = h
 ends_if false x y h k = k
 
-ends-after_end : (t : Terminator) (c : ℕ) → ends_at_end (after_end t c) ≡ false
-ends-after_end term.CRLF c = at (eqb c 13)
+pub ends_after_end : (t : Terminator) (c : ℕ) → ends_at_end (after_end t c) ≡ false
+ends_after_end term.CRLF c = at (eqb c 13)
   where
     at : (b : Bool) → ends_at_end (cond b st.AfterCr st.StartRecord) ≡ false
     at true = refl
     at false = refl
-ends-after_end (term.Any t) c = refl
+ends_after_end (term.Any t) c = refl
 
 ends-in_field : (cfg : Config) (c : ℕ) → Ends (in_field cfg c)
 ends-in_field cfg c =
     ends_if (eqb c cfg.delimiter) _ _ (λ e. absurd cc)
-    (ends_if (ends_with cfg.terminator c) _ _ (λ e. ends-after_end cfg.terminator c) (λ e. absurd cc))
+    (ends_if (ends_with cfg.terminator c) _ _ (λ e. ends_after_end cfg.terminator c) (λ e. absurd cc))
 
 ends-start_field : (cfg : Config) (c : ℕ) → Ends (start_field cfg c)
 ends-start_field cfg c = ends_if (cfg.quoting && eqb c cfg.quote) _ _ (λ e. absurd cc) (ends-in_field cfg c)
@@ -128,7 +128,7 @@ two_bytes cfg s (c ∷ bytes) read begins e =
     sym (ap (λ b. cond b (Some (fields, (step cfg s c).0, bytes)) (next_record cfg (step cfg s c).0 fields field bytes)) (goes_on cfg s c begins)) ∙ e in
     let few = (leaves cfg (step cfg s c).0 fields field bytes read later).fewer in omega (arith, few)
 
-one_more : (cfg : Config) (n : ℕ) (s : State) (bytes : List ℕ) → ends_at_end s ≡ false → length bytes < n → records_from cfg (suc n) s bytes ≡ records_from cfg n s bytes
+pub one_more : (cfg : Config) (n : ℕ) (s : State) (bytes : List ℕ) → ends_at_end s ≡ false → length bytes < n → records_from cfg (suc n) s bytes ≡ records_from cfg n s bytes
 unfolding records_from
 one_more cfg zero s bytes begins few = absurd (omega arith)
 one_more cfg (suc n) s bytes begins few = at (next_record cfg s [] [] bytes) refl (one_more cfg n)

@@ -1,5 +1,7 @@
 pub mod Field
+pub mod Record
 pub mod Records
+pub mod Plain
 pub mod Csv
 pub mod Parts
 pub mod Row

@@ -1,11 +1,13 @@
 -- The records of a CSV text.
-use Rattle.std.specs.Prelude.{◌≡◌, ◌≤◌, ℕ, ◌+◌, Bool, true, false, List, [], length, fold, Option, Some, unwrap_or}
+use Rattle.std.specs.Prelude.{◌≡◌, ◌≤◌, ℕ, ◌+◌, Bool, true, false, List, [], length, fold, Option, Some, unwrap_or, if◌then◌else◌}
+use Rattle.std.specs.Borrow.{Bor}
 use Rattle.csv.specs.Machine.{ends_at_end}
 use Rattle.csv.specs.Reading.{Ready, source_of, default_config, records, records_from, strip_bom, is_flexible, reader_config, reader_state, reader_trim}
-use Rattle.csv.specs.Records.{fields_of}
 use Rattle.csv.specs.declared.parser.Config.{Config}
+use Rattle.csv.specs.declared.reader.Reader.{Reader}
 use Rattle.csv.specs.declared.reader.Trim.TheVariants as trim
 use Rattle.basket_read.specs.Fimi.{is_line_feed}
+use Rattle.basket_csv.specs.Record.{fields_of}
 use Rattle.basket_csv.specs.declared.records.Records.{Records}
 
 -- the last of a list, and of an empty one what stands before it
@@ -28,16 +30,32 @@ config_of separator = record default_config { delimiter = separator }
 abbrev pub records_of : ℕ → List ℕ → List (List (List ℕ))
 records_of separator bytes = records (config_of separator) (strip_bom bytes)
 
--- the bytes that are not read yet, if they are known
-abbrev pub known_left : Records → Option (List ℕ)
-known_left r = source_of (λ s. Some s.now) r.reader
+-- the bytes that a reader has not read yet, if they are known
+abbrev pub known_by : Reader (Bor (List ℕ)) → Option (List ℕ)
+known_by reader = source_of (λ s. Some s.now) reader
 
-abbrev pub bytes_left : Records → List ℕ
-bytes_left r = unwrap_or (known_left r) []
+abbrev pub bytes_by : Reader (Bor (List ℕ)) → List ℕ
+bytes_by reader = unwrap_or (known_by reader) []
+
+-- the records that a reader has not read yet
+abbrev pub rows_by : Reader (Bor (List ℕ)) → List (List (List ℕ))
+rows_by reader = records_from (reader_config reader) (length (bytes_by reader) + 1) (reader_state reader) (bytes_by reader)
+
+-- a reader of records of any lengths that is between two of them
+pub record IsReadingBy (reader : Reader (Bor (List ℕ))) : Type 0 where
+  pub flexible : is_flexible reader ≡ true
+  pub trim : reader_trim reader ≡ trim.None
+  pub ready : Ready reader
+  pub begins : ends_at_end (reader_state reader) ≡ false
+  pub known : known_by reader ≡ Some (bytes_by reader)
+
+-- whether all records so far were taken as they are
+abbrev pub is_plain : Records → Bool
+is_plain r = r.is_plain
 
 -- the records that are not read yet, how many are, and the last of these
 abbrev pub records_left : Records → List (List (List ℕ))
-records_left r = records_from (reader_config r.reader) (length (bytes_left r) + 1) (reader_state r.reader) (bytes_left r)
+records_left r = if r.is_plain then records_of r.separator r.left.now else rows_by r.reader
 
 abbrev pub records_taken : Records → ℕ
 records_taken r = r.taken
@@ -53,11 +71,7 @@ record_read r = fields_of r.row
 abbrev pub MOST_RECORDS : ℕ
 MOST_RECORDS = 2147483648
 
--- a reader of records of any lengths is between two of them, and its text is not too long
+-- records are read on, of a text that is not too long
 pub record IsReading (r : Records) : Type 0 where
-  pub flexible : is_flexible r.reader ≡ true
-  pub trim : reader_trim r.reader ≡ trim.None
-  pub ready : Ready r.reader
-  pub begins : ends_at_end (reader_state r.reader) ≡ false
-  pub known : known_left r ≡ Some (bytes_left r)
+  pub reader : r.is_plain ≡ false → IsReadingBy r.reader
   pub few : r.taken + length (records_left r) ≤ MOST_RECORDS

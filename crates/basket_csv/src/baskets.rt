@@ -1,6 +1,6 @@
 //! Records that have a basket each.
 ghost use Rattle.std.specs.Prelude.{◌≡◌, ◌≢◌, ◌≤◌, [], drop, fold, map, MatchResult, OnOk, IfOk, IfErr, IfSome, None, Some, false};
-ghost use Rattle.csv.specs.Records.{fields_of};
+ghost use Rattle.basket_csv.specs.Record.{fields_of};
 ghost use Rattle.basket_read.specs.Fault.{ReturnsFault};
 ghost use Rattle.basket_read.specs.declared.fault.ReadFault.TheVariants.{Read};
 ghost use Rattle.basket_csv.specs.RecordCollector.{Start};
@@ -10,11 +10,11 @@ ghost use Rattle.basket_csv.specs.Baskets.{AreNamedCounts, HasRead};
 
 use crate::collector::{RecordCollector, TextCollector};
 use crate::field::trim;
+use crate::record::Record;
 use crate::row::{number_names, text_at};
 use basket_names::{Names, Numbering, Seed};
 use basket_read::{GatheredBaskets, ItemCounts, ReadFault};
 use basket_sets::parse_number;
-use csv::ByteRecord;
 use std::alloc::Global;
 
 /// The weight that a text writes: digits of a value from 1 on.
@@ -28,7 +28,7 @@ fn weight_in(text: &[u8]) -> Option<u32>
 
 /// The weight of a record, if it has one: that in its first field, if one is asked for, else 1.
 #[tactic(auto, using(crate::proofs::RowLemmas::no_text))]
-fn weight_of(weighted: bool, nth: u32, row: &ByteRecord) -> Result<Option<u32>, ReadFault>
+fn weight_of(weighted: bool, nth: u32, row: &Record<'_>) -> Result<Option<u32>, ReadFault>
     ensures weight { MatchResult result
         (λ weight. (weight ≡ weight_of weighted (fields_of row.now)) × (is_text (fields_of row.now) ≡ is_text (drop (fields_before weighted) (fields_of row.now))))
         (λ fault. (fault ≡ ReadFault.NotText nth) × (is_text (fields_of row.now) ≡ false)) }
@@ -49,7 +49,7 @@ fn weight_of(weighted: bool, nth: u32, row: &ByteRecord) -> Result<Option<u32>, 
 pub fn number_basket(
     weighted: bool,
     nth: u32,
-    row: &ByteRecord,
+    row: &Record<'_>,
     names: &mut Numbering,
     numbers: &mut Vec<u32>,
 ) -> Result<u32, ReadFault>
@@ -107,7 +107,7 @@ impl RecordCollector for Baskets {
 
     ghost has_read = { λ baskets start rows. HasRead baskets start rows };
 
-    fn add(&mut self, nth: u32, row: &ByteRecord) -> Result<(), ReadFault> {
+    fn add(&mut self, nth: u32, row: &Record<'_>) -> Result<(), ReadFault> {
         let weight = number_basket(self.weighted, nth, row, &mut self.names, &mut self.numbers)?;
         self.gathered.add(&self.numbers, weight)
     }

@@ -1,6 +1,6 @@
 //! Adding the records of a text, one after another.
 ghost use Rattle.std.specs.Prelude.{◌≡◌, ◌≢◌, ◌≤◌, ◌+◌, Bool, List, ℕ, [], ◌∷◌, ◌++◌, length, Option, None, Result, true, MatchResult, OnOk, IfOk, IfErr};
-ghost use Rattle.csv.specs.Records.{fields_of};
+ghost use Rattle.basket_csv.specs.Record.{fields_of};
 ghost use Rattle.basket_read.specs.declared.fault.ReadFault.{ReadFault};
 ghost use Rattle.basket_read.specs.declared.fault.ReadFault.TheVariants.{Read};
 ghost use Rattle.basket_read.specs.Fault.{ReturnsBy, ReturnsFault};
@@ -11,10 +11,10 @@ ghost use Rattle.basket_csv.specs.Records.{MOST_RECORDS, records_of, records_lef
 ghost use Rattle.basket_csv.specs.Parts.{IsWhole};
 
 use crate::dialect::Dialect;
+use crate::record::Record;
 use crate::records::Records;
 use basket_names::{Names, Seed};
 use basket_read::{MAX_BYTES, ReadFault};
-use csv::ByteRecord;
 use std::alloc::Global;
 
 /// What records are added to. After a faulty record, or if memory runs out, all that was added is
@@ -27,7 +27,7 @@ pub trait RecordCollector {
     ghost has_read: { Self → Start → List (List (List ℕ)) → Type 0 };
 
     /// Adds a record by its number.
-    fn add(&mut self, nth: u32, row: &ByteRecord) -> Result<(), ReadFault>
+    fn add(&mut self, nth: u32, row: &Record<'_>) -> Result<(), ReadFault>
         requires few { nth ≤ MOST_RECORDS }
         requires read { (start : Start) × (rows : List (List (List ℕ))) × (start.first + length rows ≡ nth) × has_read self.old start rows }
         ensures fault { (start : Start) (rows : List (List (List ℕ))) → has_read self.old start rows →

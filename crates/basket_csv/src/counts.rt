@@ -5,11 +5,11 @@ ghost use Rattle.basket_csv.specs.Counts.{HasCounts, NamedCounts, set_fault, cou
 
 use crate::collector::{RecordCollector, TextCollector};
 use crate::field::trim;
+use crate::record::Record;
 use crate::row::{number_names, text_at};
 use basket_names::{Names, Numbering, Seed};
 use basket_read::{CountedLine, ReadFault};
 use basket_sets::{Itemset, parse_number};
-use csv::ByteRecord;
 use std::alloc::Global;
 
 /// The greatest count.
@@ -45,7 +45,7 @@ impl RecordCollector for Counts {
 
     ghost has_read = { λ counts start rows. HasCounts counts start rows };
 
-    fn add(&mut self, nth: u32, row: &ByteRecord) -> Result<(), ReadFault> {
+    fn add(&mut self, nth: u32, row: &Record<'_>) -> Result<(), ReadFault> {
         let Some(text) = text_at(row, 0) else {
             return Err(ReadFault::NotText { nth });
         };

@@ -1,9 +1,11 @@
 //! The fields of a record.
-ghost use Rattle.std.specs.Prelude.{◌≡◌, ◌≤◌, ◌<◌, ◌-◌, length, slice_index, MatchOption, true, false};
+ghost use Rattle.std.specs.Prelude.{◌≡◌, ◌≤◌, ◌<◌, ◌-◌, ℕ, length, slice_index, MatchOption, true, false};
 ghost use Rattle.std.specs.Str.{is_utf8};
 ghost use Rattle.std.specs.List.{prefix_len, suffix_len};
 ghost use Rattle.basket_csv.specs.Field.{is_space, trimmed};
+ghost use Rattle.basket_csv.specs.Plain.{ends_field, BeginsUnquoted};
 
+use crate::lanes::{LANES, bytes_of_field};
 use std::str;
 
 #[inline(always)]
@@ -67,4 +69,56 @@ pub fn text_of(field: &[u8]) -> Option<&str>
     ensures { MatchOption result (is_utf8 field.now ≡ false) (λ text. (text.now ≡ field.now) × (is_utf8 field.now ≡ true)) }
 {
     str::from_utf8(field).ok()
+}
+
+#[inline(always)]
+fn ends_field(byte: u8, separator: u8) -> bool
+    ensures { result ≡ ends_field separator byte }
+{
+    byte == separator || byte == b'\r' || byte == b'\n'
+}
+
+/// Where the field at the front of a text ends, if it has no quotes.
+#[inline]
+pub fn field_end(text: &[u8], separator: u8) -> usize
+    ensures within { result ≤ length text.now }
+    ensures inside { (at : ℕ) → at < result → ends_field separator (slice_index text.now at) ≡ false }
+    ensures end { result < length text.now → ends_field separator (slice_index text.now result) ≡ true }
+{
+    let mut end = 0;
+    'lanes: while text.len() - end >= LANES {
+        let more = bytes_of_field(text, end, separator);
+        if more < LANES {
+            return end + more;
+        }
+        end += LANES;
+    }
+    last_end(text, end, separator)
+}
+
+/// The same, if the field does not end before an index.
+fn last_end(text: &[u8], from: usize, separator: u8) -> usize
+    requires from { from ≤ length text.now }
+    requires inside { (at : ℕ) → at < from → ends_field separator (slice_index text.now at) ≡ false }
+    ensures within { result ≤ length text.now }
+    ensures inside { (at : ℕ) → at < result → ends_field separator (slice_index text.now at) ≡ false }
+    ensures end { result < length text.now → ends_field separator (slice_index text.now result) ≡ true }
+{
+    for index in from..text.len() {
+        if ends_field(text[index], separator) {
+            return index;
+        }
+    }
+    text.len()
+}
+
+/// Whether the field at the front of a text has quotes.
+#[inline(always)]
+pub fn is_quoted(text: &[u8]) -> bool
+    ensures { result ≡ false → BeginsUnquoted text.now }
+{
+    match text.first() {
+        Some(byte) => *byte == b'"',
+        None => false,
+    }
 }

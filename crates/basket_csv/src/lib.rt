@@ -7,15 +7,18 @@ mod collector;
 mod counts;
 mod dialect;
 mod field;
+mod lanes;
 pub mod laws;
 mod pairs;
 mod part;
 mod parts;
 mod read;
+mod record;
 mod records;
 mod renumbered;
 mod row;
 mod shared;
+mod text;
 mod texts;
 pub mod worked;
 

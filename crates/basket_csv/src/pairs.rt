@@ -1,7 +1,7 @@
 //! Records that have a basket's id and a name each.
 ghost use Rattle.std.specs.Prelude.{◌≡◌, List, ℕ, [], ◌∷◌, ◌++◌, map, false, None, Ok, OnOk, IfOk, IfErr, IfSome};
 ghost use Rattle.std.specs.List.{flat_map};
-ghost use Rattle.csv.specs.Records.{fields_of};
+ghost use Rattle.basket_csv.specs.Record.{fields_of};
 ghost use Rattle.basket_read.specs.Fimi.{basket_of_numbers};
 ghost use Rattle.basket_csv.specs.Csv.{Named, pair_fault, pairs_of, pairs_said};
 ghost use Rattle.basket_read.specs.GatheredBaskets.{HasGathered};
@@ -12,12 +12,12 @@ ghost use Rattle.basket_csv.specs.Pairs.{HasPairs, HasPartPairs, added_at};
 
 use crate::collector::{PartCollector, RecordCollector, TextCollector};
 use crate::field::{is_name, trim};
+use crate::record::Record;
 use crate::renumbered::rename;
 use crate::row::{is_text_from, known_number, text_at};
 use basket_names::{Ids, Names, Numbering, Seed};
 use basket_read::{GatheredBaskets, ReadFault};
 use basket_sets::{Database, INLINE_ITEMS};
-use csv::ByteRecord;
 use smallvec::SmallVec;
 use std::alloc::{AllocError, Global};
 
@@ -149,7 +149,7 @@ impl Pairs {
     /// The numbers of the id and the name of a record, if these are its two fields as they are, and
     /// both were found recently.
     #[inline]
-    fn known_pair(&self, row: &ByteRecord) -> Option<(u32, u32)>
+    fn known_pair(&self, row: &Record<'_>) -> Option<(u32, u32)>
         ensures fault { (nth : ℕ) → IfSome result (λ _. pair_fault nth (fields_of row.now) ≡ None) }
         ensures known { IfSome result (λ pair. IsKnownPair self.now.ids self.now.names (fields_of row.now) pair.0 pair.1) }
     {
@@ -168,7 +168,7 @@ impl RecordCollector for Pairs {
 
     ghost has_read = { λ pairs start rows. HasPairs pairs start.known (pairs_of rows) };
 
-    fn add(&mut self, nth: u32, row: &ByteRecord) -> Result<(), ReadFault> {
+    fn add(&mut self, nth: u32, row: &Record<'_>) -> Result<(), ReadFault> {
         if let Some((place, number)) = self.known_pair(row) {
             add_number(self.alloc, &mut self.groups, place as usize, number)?;
             return Ok(());

@@ -6,9 +6,9 @@ ghost use Rattle.basket_csv.specs.Part.{HasPart, size};
 
 use crate::baskets::number_basket;
 use crate::collector::{PartCollector, RecordCollector};
+use crate::record::Record;
 use basket_names::{Numbering, Seed};
 use basket_read::ReadFault;
-use csv::ByteRecord;
 use std::alloc::{AllocError, Global};
 
 /// How many names a record has, and its weight.
@@ -56,7 +56,7 @@ impl RecordCollector for Part {
 
     ghost has_read = { λ part start rows. HasPart start.weighted part rows };
 
-    fn add(&mut self, nth: u32, row: &ByteRecord) -> Result<(), ReadFault> {
+    fn add(&mut self, nth: u32, row: &Record<'_>) -> Result<(), ReadFault> {
         let weight = number_basket(self.weighted, nth, row, &mut self.names, &mut self.numbers)?;
         self.records.push(&self.numbers, weight)?;
         Ok(())

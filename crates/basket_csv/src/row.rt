@@ -1,19 +1,19 @@
 //! The texts and the names in a record.
 ghost use Rattle.std.specs.Prelude.{◌≡◌, drop, map, fold, MatchOption, IfOk, IfErr, IfSome, true, false};
 ghost use Rattle.std.specs.Str.{is_utf8};
-ghost use Rattle.csv.specs.Records.{fields_of};
+ghost use Rattle.basket_csv.specs.Record.{fields_of};
 ghost use Rattle.basket_csv.specs.Csv.{field_in, is_text, names_of};
 ghost use Rattle.basket_names.specs.Names.{number_in, with_name};
 ghost use Rattle.basket_csv.specs.Row.{IsKnownField};
 
 use crate::field::{is_name, text_of, trim};
+use crate::record::Record;
 use basket_names::Numbering;
 use basket_read::ReadFault;
-use csv::ByteRecord;
 
 /// The text of a field, if it is UTF-8. It is empty if there is no such field.
 #[inline]
-pub fn text_at(row: &ByteRecord, place: usize) -> Option<&str>
+pub fn text_at<'r>(row: &'r Record<'_>, place: usize) -> Option<&'r str>
     ensures { let field = field_in (fields_of row.now) place in
         MatchOption result (is_utf8 field ≡ false) (λ text. (text.now ≡ field) × (is_utf8 field ≡ true)) }
 {
@@ -26,7 +26,7 @@ pub fn text_at(row: &ByteRecord, place: usize) -> Option<&str>
 /// The number of the name in a field, if the field is the name and no more, and it was found
 /// recently.
 #[inline]
-pub fn known_number(row: &ByteRecord, place: usize, names: &Numbering) -> Option<u32>
+pub fn known_number(row: &Record<'_>, place: usize, names: &Numbering) -> Option<u32>
     ensures { IfSome result (IsKnownField names.now (field_in (fields_of row.now) place)) }
 {
     let field = row.get(place)?;
@@ -38,7 +38,7 @@ pub fn known_number(row: &ByteRecord, place: usize, names: &Numbering) -> Option
 }
 
 /// Whether all fields from a place on are UTF-8.
-pub fn is_text_from(row: &ByteRecord, first: usize) -> bool
+pub fn is_text_from(row: &Record<'_>, first: usize) -> bool
     ensures { result ≡ is_text (drop first (fields_of row.now)) }
 {
     for place in first..row.len() {
@@ -52,7 +52,7 @@ pub fn is_text_from(row: &ByteRecord, first: usize) -> bool
 /// Numbers the names in the fields from a place on. If one of these is not UTF-8, or after an
 /// `Err`, `names` and `numbers` are lost.
 pub fn number_names(
-    row: &ByteRecord,
+    row: &Record<'_>,
     first: usize,
     names: &mut Numbering,
     numbers: &mut Vec<u32>,

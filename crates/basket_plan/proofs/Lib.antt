@@ -1,12 +1,2 @@
 mod HelpLemmas
 mod CommandLemmas
-mod OutcomeLemmas
-mod WordLemmas
-mod OptionLemmas
-mod InputLemmas
-mod EntryLemmas
-mod ShapeLemmas
-mod TakenLemmas
-mod ValueLemmas
-mod MixtureLemmas
-mod WrittenLemmas

@@ -3,4 +3,3 @@ pub mod Status
 pub mod Options
 pub mod Values
 pub mod Command
-pub mod Written

@@ -5,7 +5,6 @@ mod command;
 mod count_plan;
 mod help;
 mod invocation;
-pub mod laws;
 mod layout;
 mod options;
 mod plan;

@@ -15,7 +15,7 @@ const LEAST_STRIP: usize = 65_536;
 
 /// A buffer has room for at most this many bytes, so that threads live long compared with what it
 /// takes to start them.
-const MOST_STRIP: usize = 2_097_152;
+const MOST_STRIP: usize = 524_288;
 
 #[derive(Clone, Copy)]
 pub struct ReportSize {

@@ -5,7 +5,8 @@ ghost use Rattle.basket_rules.specs.Consistency.{IsConsistent};
 ghost use Rattle.basket_rules.specs.Covered.{AreMarks, IsBetween};
 ghost use Rattle.basket_rules.specs.declared.covered.Supersets.TheVariants.{All, SameCount};
 
-use crate::covered::{Supersets, covered, covered_shared};
+use crate::covered::{Supersets, covered};
+use crate::shared::covered_shared;
 use basket_core::{CountedSets, Frequent};
 use std::alloc::{AllocError, Global};
 use std::thread::Threads;

@@ -13,6 +13,7 @@ mod query;
 mod rule_counts;
 mod search;
 mod set_index;
+mod shared;
 mod supports;
 pub mod worked;
 

@@ -1,5 +1,5 @@
 use Rattle.std.proofs.Common.{sym, ◌∙◌}
-use Rattle.csv.specs.Records.{fields_of}
+use Rattle.basket_csv.specs.Record.{fields_of}
 use Rattle.basket_csv.proofs.BasketLemmas.{no_fault, before_names}
 use Rattle.basket_csv.proofs.baskets.number_basket.Goals as goal
 

@@ -1,5 +1,5 @@
 use Rattle.std.proofs.Common.{◌≡◌, drop}
-use Rattle.csv.specs.Records.{fields_of}
+use Rattle.basket_csv.specs.Record.{fields_of}
 use Rattle.basket_csv.specs.Csv.{is_text}
 use Rattle.basket_csv.proofs.row.is_text_from.Given as goal
 

@@ -1,5 +1,5 @@
 use Rattle.std.proofs.Common.{◌≡◌, [], eqb, length, get_or, ap, ◌∙◌}
-use Rattle.csv.specs.Records.{fields_of}
+use Rattle.basket_csv.specs.Record.{fields_of}
 use Rattle.basket_csv.specs.Field.{trimmed}
 use Rattle.basket_names.specs.Names.{with_name, number_in}
 use Rattle.basket_csv.proofs.RowLemmas.{known_name, nil_test, no_name, one_name}

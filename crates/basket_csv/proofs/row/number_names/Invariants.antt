@@ -1,4 +1,4 @@
-use Rattle.csv.specs.Records.{fields_of}
+use Rattle.basket_csv.specs.Record.{fields_of}
 use Rattle.basket_csv.proofs.RowLemmas.{NumbersUpTo}
 use Rattle.basket_csv.proofs.row.number_names.Given as goal
 

@@ -1,5 +1,5 @@
 use Rattle.std.proofs.Common.{◌≡◌, refl, ap, eqb, length, ◌∙◌}
-use Rattle.csv.specs.Records.{fields_of}
+use Rattle.basket_csv.specs.Record.{fields_of}
 use Rattle.basket_csv.specs.Csv.{field_in, pairs_of}
 use Rattle.basket_csv.specs.Field.{trimmed}
 use Rattle.basket_csv.proofs.RowLemmas.{nil_test, text_fault}

@@ -1,5 +1,5 @@
 use Rattle.std.proofs.Common.{refl, ◌∙◌}
-use Rattle.csv.specs.Records.{fields_of}
+use Rattle.basket_csv.specs.Record.{fields_of}
 use Rattle.basket_csv.proofs.InPartsLemmas.{part_added}
 use Rattle.basket_csv.proofs.part.PartRecordCollector.add.Goals as goal
 

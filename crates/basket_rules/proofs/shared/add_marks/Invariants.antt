@@ -1,5 +1,5 @@
 use Rattle.std.proofs.Common.{◌≡◌, ◌<◌, ◌≤◌, ◌||◌, ℕ, false, get_or, length}
-use Rattle.basket_rules.proofs.covered.add_marks.Given as goal
+use Rattle.basket_rules.proofs.shared.add_marks.Given as goal
 
 abbrev pub invariant-loop-number : goal.invariant-loop-number
 invariant-loop-number l = record {

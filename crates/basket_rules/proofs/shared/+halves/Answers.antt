@@ -2,7 +2,7 @@ use Rattle.std.proofs.Common.{◌≡◌, ◌++◌, ◌∙◌, ◌+◌, ◌-◌, 
 use Rattle.std.specs.Result.{IfOk}
 use Rattle.std.proofs.lemmas.List.{take_all, take-append-le}
 use Rattle.basket_rules.specs.Covered.{AreMarks, IsBetween}
-use Rattle.basket_rules.proofs.covered.+halves.Goals as goal
+use Rattle.basket_rules.proofs.shared.+halves.Goals as goal
 
 pub covered_range-returns : goal.covered_range-returns
 covered_range-returns g t c =

@@ -1,5 +1,5 @@
 use Rattle.std.proofs.Common.{◌+◌, ◌*◌}
-use Rattle.basket_rules.proofs.covered.+halves.Given as goal
+use Rattle.basket_rules.proofs.shared.+halves.Given as goal
 
 abbrev pub decreases-covered_range : goal.decreases-covered_range
 decreases-covered_range g l = 4 * l.times + 3
