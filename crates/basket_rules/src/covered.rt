@@ -43,7 +43,7 @@ pub struct Covering<'a> {
 
 impl<'a> Covering<'a> {
     pub fn new(alloc: Global, sets: &'a CountedSets, supersets: Supersets) -> Self
-        ensures sets { result.sets ≡ sets }
+        ensures sets { result.sets ≡ sets.entry }
         ensures supersets { result.supersets ≡ supersets }
     {
         Covering {
