@@ -68,8 +68,8 @@ module _ (known : List (List ℕ)) (pairs more : List Pair) where
     inside : at < length (gather more)
     inside = omega (arith, as_many later own)
 
-    pub id_within : (places : List ℕ) → length places ≡ length later.ids → at < length places
-    id_within places long = omega (arith, long, inside, ap length own.ids, length-map (gather more) (λ (group : Group). group.0))
+    pub id_within : (indexes : List ℕ) → length indexes ≡ length later.ids → at < length indexes
+    id_within indexes long = omega (arith, long, inside, ap length own.ids, length-map (gather more) (λ (group : Group). group.0))
 
     among : are_among later.names group.1 ≡ true
     among = ap (λ names. are_among names group.1) own.names ∙ names_at (names_of_pairs [] more) (gather more) at inside (pairs_are_numbered [] more).1
@@ -84,18 +84,18 @@ module _ (known : List (List ℕ)) (pairs more : List Pair) where
       items_below names long =
           ap (λ n. list_all (λ number. ltb number n) items) long ∙ ap (list_all (λ number. ltb number (length later.names))) numbers ∙ numbers_below later.names group.1 among
 
-      pub joins_more : (first now new : Pairs) (names places renamed : List ℕ) (place : ℕ) → names ≡ map (number_in first.names) later.names → places ≡ map (number_in first.ids) later.ids
-          → renamed ≡ map (λ number. get_or names number 0) items → place ≡ get_or places at place → new.names ≡ now.names → new.ids ≡ now.ids
-          → map (λ group. group.items) new.groups.items ≡ added_at (map (λ group. group.items) now.groups.items) place renamed → Joins first 0 → Joins now at → Joins new (at + 1)
-      joins_more first now new names places renamed place names_are places_are renamed_is place_is same_names same_ids added begun joins =
+      pub joins_more : (first now new : Pairs) (names indexes renamed : List ℕ) (index : ℕ) → names ≡ map (number_in first.names) later.names → indexes ≡ map (number_in first.ids) later.ids
+          → renamed ≡ map (λ number. get_or names number 0) items → index ≡ get_or indexes at index → new.names ≡ now.names → new.ids ≡ now.ids
+          → map (λ group. group.items) new.groups.items ≡ added_at (map (λ group. group.items) now.groups.items) index renamed → Joins first 0 → Joins now at → Joins new (at + 1)
+      joins_more first now new names indexes renamed index names_are indexes_are renamed_is index_is same_names same_ids added begun joins =
           let so_far = fold with_group (gather pairs) (take at (gather more)) in
           let of_all : renamed ≡ map (number_in all) group.1 =
           renamed_is ∙ ap (λ ns. map (λ number. get_or ns number 0) items) names_are ∙ ap (map (λ number. get_or (map (number_in first.names) later.names) number 0)) numbers
           ∙ numbers_at first.names later.names group.1 among ∙ ap (λ ns. map (number_in ns) group.1) begun.names in
-          let ids_are : places ≡ map (number_in first.ids) (ids_of (gather more)) = places_are ∙ ap (map (number_in first.ids)) own.ids in
+          let ids_are : indexes ≡ map (number_in first.ids) (ids_of (gather more)) = indexes_are ∙ ap (map (number_in first.ids)) own.ids in
           let below : at < length (ids_of (gather more)) = omega (arith, inside, length-map (gather more) (λ (group : Group). group.0)) in
-          let at_id : place ≡ number_in (ids_of so_far) group.0 =
-          place_is ∙ ap (λ ps. get_or ps at place) ids_are ∙ get_or-map (number_in first.ids) (ids_of (gather more)) at [] place below
+          let at_id : index ≡ number_in (ids_of so_far) group.0 =
+          index_is ∙ ap (λ ps. get_or ps at index) ids_are ∙ get_or-map (number_in first.ids) (ids_of (gather more)) at [] index below
           ∙ ap (number_in first.ids) (get_or-map (λ (group : Group). group.0) (gather more) at ([], []) [] inside)
           ∙ ap (λ ids. number_in ids group.0) (begun.ids ∙ ap ids_of (sym (gathered_apart pairs more)) ∙ ids_with (gather pairs) (gather more))
           ∙ id_stays (ids_of (gather pairs)) (gather more) at inside ∙ ap (λ ids. number_in ids group.0) (sym (ids_with (gather pairs) (take at (gather more)))) in
@@ -104,7 +104,7 @@ module _ (known : List (List ℕ)) (pairs more : List Pair) where
           record {
             names = same_names ∙ joins.names;
             ids = same_ids ∙ joins.ids;
-            groups = added ∙ ap (λ gs. added_at gs place renamed) joins.groups ∙ ap (λ p. added_at (numbers_of all so_far) p renamed) at_id
+            groups = added ∙ ap (λ gs. added_at gs index renamed) joins.groups ∙ ap (λ p. added_at (numbers_of all so_far) p renamed) at_id
                 ∙ ap (added_at (numbers_of all so_far) (number_in (ids_of so_far) group.0)) of_all ∙ groups_more all so_far group ∙ ap (numbers_of all) next;
           }
 

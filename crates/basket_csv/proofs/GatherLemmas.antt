@@ -48,12 +48,12 @@ weighs true row = some_weight (number_of MOST_NUMBER (trimmed (field_in row 0)))
 weighs false row = omega arith
 
 module _ (weighted : Bool) (names : List (List ℕ)) (renumbering : List ℕ) (rows : Rows) where
-  -- these are the numbers of the records from a place on
+  -- these are the numbers of the records from an index on
   pub record AreNumbersFrom (at : ℕ) (rest : List ℕ) : Type 0 where
     pub left : map (λ number. get_or renumbering number 0) rest ≡ map (number_in names) (all_names weighted (drop at rows))
     pub below : list_all (λ number. ltb number (length renumbering)) rest ≡ true
 
-  -- the baskets of the records up to a place were gathered after others
+  -- the baskets of the records up to an index were gathered after others
   abbrev pub GathersUpTo : Bool → List Weighted → ℕ → GatheredBaskets → Type 0
   GathersUpTo counting baskets at now = HasGathered now counting (baskets ++ flat_map (basket_of weighted names) (take at rows))
 

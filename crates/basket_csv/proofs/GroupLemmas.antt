@@ -46,7 +46,7 @@ groups_more names (group ∷ groups) more = at (bytes_eq more.0 group.0) (groups
     at true later = ap (λ g. g ∷ numbers_of names groups) (sym (map-append (number_in names) group.1 more.1))
     at false later =
         let next : 1 + number_in (ids_of groups) more.0 ≡ suc (number_in (ids_of groups) more.0) = omega arith in
-        ap (λ place. added_at (map (number_in names) group.1 ∷ numbers_of names groups) place (map (number_in names) more.1)) next ∙ ap (λ gs. map (number_in names) group.1 ∷ gs) later
+        ap (λ index. added_at (map (number_in names) group.1 ∷ numbers_of names groups) index (map (number_in names) more.1)) next ∙ ap (λ gs. map (number_in names) group.1 ∷ gs) later
 
 -- the ids with those of more groups
 pub ids_with : (groups more : List Group) → ids_of (fold with_group groups more) ≡ fold with_name (ids_of groups) (ids_of more)

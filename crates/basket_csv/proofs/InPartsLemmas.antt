@@ -21,7 +21,7 @@ module _ {A : Type 0} (has : A → Rows → Type 0) where
   in_last (first ∷ parts) part rows own (mine, later, is, has_mine, rest) h =
       (mine, later ++ own, ap (λ r. r ++ own) is ∙ append_assoc mine later own, has_mine, in_last parts part later own rest h)
 
-  -- the parts that come before a place and those after it
+  -- the parts that come before an index and those after it
   pub in_halves : (front back : List A) (rows : Rows) → InParts has (front ++ back) rows → (first : Rows) × (others : Rows) × (rows ≡ first ++ others) × InParts has front first × InParts has back others
   in_halves [] back rows all = ([], rows, refl, refl, all)
   in_halves (part ∷ front) back rows (mine, later, is, has_mine, rest) =

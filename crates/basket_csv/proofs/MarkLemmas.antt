@@ -95,19 +95,19 @@ text_is_stripped (a ∷ b ∷ c ∷ bytes) =
 pub no_mark : (bytes : List ℕ) → starts_with eqb bytes (0xEF ∷ 0xBB ∷ 0xBF ∷ []) ≡ false → strip_bom bytes ≡ bytes
 no_mark bytes none = sym (text_is_stripped bytes) ∙ ap (λ is. cond is (drop 3 bytes) bytes) none
 
--- what is left after a place
-left_after : (bytes : List ℕ) (place : ℕ) → take (length bytes - place) (drop place bytes) ≡ drop place bytes
-left_after bytes place = take_all (length bytes - place) (drop place bytes) (let left = length-drop place bytes in omega (arith, left))
+-- what is left after an index
+left_after : (bytes : List ℕ) (index : ℕ) → take (length bytes - index) (drop index bytes) ≡ drop index bytes
+left_after bytes index = take_all (length bytes - index) (drop index bytes) (let left = length-drop index bytes in omega (arith, left))
 
 -- a text may be cut after a line feed, if it doesn't go on with the mark
-pub cut_after : (bytes : List ℕ) (place more : ℕ) → more < length (take (length bytes - place) (drop place bytes)) → get_or (take (length bytes - place) (drop place bytes)) more 0 ≡ 10
-    → starts_with eqb (take (length bytes - (place + more + 1)) (drop (place + more + 1) bytes)) (0xEF ∷ 0xBB ∷ 0xBF ∷ []) ≡ false
-    → IsCut (take (place + more + 1) bytes) (drop (place + more + 1) bytes)
-cut_after bytes place more within is none =
-    let left = ap length (left_after bytes place) ∙ length-drop place bytes in
-    let inside : place + more < length bytes = omega (arith, left, within) in
-    let byte : get_or bytes (place + more) 0 ≡ 10 = sym (get_or-drop place bytes more 0) ∙ ap (λ l. get_or l more 0) (sym (left_after bytes place)) ∙ is in
+pub cut_after : (bytes : List ℕ) (index more : ℕ) → more < length (take (length bytes - index) (drop index bytes)) → get_or (take (length bytes - index) (drop index bytes)) more 0 ≡ 10
+    → starts_with eqb (take (length bytes - (index + more + 1)) (drop (index + more + 1) bytes)) (0xEF ∷ 0xBB ∷ 0xBF ∷ []) ≡ false
+    → IsCut (take (index + more + 1) bytes) (drop (index + more + 1) bytes)
+cut_after bytes index more within is none =
+    let left = ap length (left_after bytes index) ∙ length-drop index bytes in
+    let inside : index + more < length bytes = omega (arith, left, within) in
+    let byte : get_or bytes (index + more) 0 ≡ 10 = sym (get_or-drop index bytes more 0) ∙ ap (λ l. get_or l more 0) (sym (left_after bytes index)) ∙ is in
     inr (
-      ap (last_after 10) (take_more bytes (place + more) 0 inside) ∙ last_push 10 (get_or bytes (place + more) 0) (take (place + more) bytes) ∙ byte,
-      no_mark (drop (place + more + 1) bytes) (ap (λ l. starts_with eqb l (0xEF ∷ 0xBB ∷ 0xBF ∷ [])) (sym (left_after bytes (place + more + 1))) ∙ none),
+      ap (last_after 10) (take_more bytes (index + more) 0 inside) ∙ last_push 10 (get_or bytes (index + more) 0) (take (index + more) bytes) ∙ byte,
+      no_mark (drop (index + more + 1) bytes) (ap (λ l. starts_with eqb l (0xEF ∷ 0xBB ∷ 0xBF ∷ [])) (sym (left_after bytes (index + more + 1))) ∙ none),
     )

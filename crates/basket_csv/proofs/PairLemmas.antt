@@ -26,17 +26,17 @@ use Rattle.basket_names.proofs.theory.Names.{numbers_stay, number_stays}
 
 -- ---- numbers that were added to a group
 
-pub group_known : {A : Type 0} (f : A → List ℕ) (groups : List A) (place : ℕ) (numbers : List ℕ) (old new : A) → place < length groups → old ≡ get_or groups place old → f new ≡ f old ++ numbers
-    → map f (set groups place new) ≡ added_at (map f groups) place numbers
-group_known f [] place numbers old new below e n = absurd (omega arith)
+pub group_known : {A : Type 0} (f : A → List ℕ) (groups : List A) (index : ℕ) (numbers : List ℕ) (old new : A) → index < length groups → old ≡ get_or groups index old → f new ≡ f old ++ numbers
+    → map f (set groups index new) ≡ added_at (map f groups) index numbers
+group_known f [] index numbers old new below e n = absurd (omega arith)
 group_known f (group ∷ groups) zero numbers old new below e n = ap (λ x. x ∷ map f groups) (n ∙ ap (λ g. f g ++ numbers) e)
-group_known f (group ∷ groups) (suc place) numbers old new below e n = ap (λ gs. f group ∷ gs) (group_known f groups place numbers old new (omega arith) e n)
+group_known f (group ∷ groups) (suc index) numbers old new below e n = ap (λ gs. f group ∷ gs) (group_known f groups index numbers old new (omega arith) e n)
 
-pub group_new : {A : Type 0} (f : A → List ℕ) (groups : List A) (place : ℕ) (numbers : List ℕ) (new : A) → length groups ≤ place → f new ≡ numbers
-    → map f (groups ++ new ∷ []) ≡ added_at (map f groups) place numbers
-group_new f [] place numbers new all n = ap (λ g. g ∷ []) n
+pub group_new : {A : Type 0} (f : A → List ℕ) (groups : List A) (index : ℕ) (numbers : List ℕ) (new : A) → length groups ≤ index → f new ≡ numbers
+    → map f (groups ++ new ∷ []) ≡ added_at (map f groups) index numbers
+group_new f [] index numbers new all n = ap (λ g. g ∷ []) n
 group_new f (group ∷ groups) zero numbers new all n = absurd (omega arith)
-group_new f (group ∷ groups) (suc place) numbers new all n = ap (λ gs. f group ∷ gs) (group_new f groups place numbers new (omega arith) n)
+group_new f (group ∷ groups) (suc index) numbers new all n = ap (λ gs. f group ∷ gs) (group_new f groups index numbers new (omega arith) n)
 
 -- ---- groups of names
 
@@ -59,25 +59,25 @@ names_more known pairs pair =
     let names = map (λ (p : List ℕ × List ℕ). p.1) pairs in
     ap (λ ns. in_order (known ++ ns)) (map-append (λ p. p.1) pairs (pair ∷ [])) ∙ ap in_order (sym (append_assoc known names (pair.1 ∷ []))) ∙ fold-append with_name [] (known ++ names) (pair.1 ∷ [])
 
-pub paired : (old new : Pairs) (known : List (List ℕ)) (pairs : List (List ℕ × List ℕ)) (id name : List ℕ) (number place : ℕ)
+pub paired : (old new : Pairs) (known : List (List ℕ)) (pairs : List (List ℕ × List ℕ)) (id name : List ℕ) (number index : ℕ)
     → new.names ≡ with_name old.names name → number ≡ number_in new.names name
-    → new.ids ≡ with_name old.ids id → place ≡ number_in new.ids id
-    → map (λ group. group.items) new.groups.items ≡ added_at (map (λ group. group.items) old.groups.items) place (number ∷ [])
+    → new.ids ≡ with_name old.ids id → index ≡ number_in new.ids id
+    → map (λ group. group.items) new.groups.items ≡ added_at (map (λ group. group.items) old.groups.items) index (number ∷ [])
     → HasPairs old known pairs → HasPairs new known (pairs ++ (id, name) ∷ [])
-paired old new known pairs id name number place a b c d e h =
+paired old new known pairs id name number index a b c d e h =
     let before = names_of_pairs known pairs in
     let after : new.names ≡ with_name before name = a ∙ ap (λ ns. with_name ns name) h.names in
     let all = gather_more pairs id name in
     let names = names_more known pairs (id, name) in
     let ids = map (λ g. g.0) (gather pairs) in
     let ids_after : new.ids ≡ with_name ids id = c ∙ ap (λ is. with_name is id) h.ids in
-    let at_place : place ≡ number_in ids id = d ∙ ap (λ is. number_in is id) ids_after ∙ number_stays ids id in
+    let at_index : index ≡ number_in ids id = d ∙ ap (λ is. number_in is id) ids_after ∙ number_stays ids id in
     let its_number : number ≡ number_in (with_name before name) name = b ∙ ap (λ ns. number_in ns name) after in
     let stay : map (λ group. group.items) old.groups.items ≡ numbers_of (with_name before name) (gather pairs) = h.groups ∙ sym (groups_stay before (name ∷ []) (gather pairs) (pairs_are_numbered known pairs).1) in
     record {
       names = after ∙ sym names;
       ids = ids_after ∙ ids_more (gather pairs) (id, name ∷ []) ∙ ap (map (λ g. g.0)) (sym all);
-      groups = e ∙ ap (λ gs. added_at gs place (number ∷ [])) stay ∙ ap (λ p. added_at (numbers_of (with_name before name) (gather pairs)) p (number ∷ [])) at_place
+      groups = e ∙ ap (λ gs. added_at gs index (number ∷ [])) stay ∙ ap (λ p. added_at (numbers_of (with_name before name) (gather pairs)) p (number ∷ [])) at_index
           ∙ ap (λ n. added_at (numbers_of (with_name before name) (gather pairs)) (number_in ids id) (n ∷ [])) its_number
           ∙ groups_more (with_name before name) (gather pairs) (id, name ∷ []) ∙ ap (λ gs. numbers_of (with_name before name) gs) (sym all) ∙ ap (λ ns. numbers_of ns (gather (pairs ++ (id, name) ∷ []))) (sym names);
     }
@@ -98,19 +98,19 @@ pair_added new known rows row id name r a b some h =
     subst (λ pairs. OnOk r (HasPairs new known pairs)) (ap (λ i. pairs_of rows ++ (i, name) ∷ []) a ∙ ap (λ n. pairs_of rows ++ (trimmed (field_in row 0), n) ∷ []) b ∙ sym (pairs_more rows row some)) h
 
 -- a record of a known id and a known name, whose numbers were added
-pub known_paired : (old new : Pairs) (known : List (List ℕ)) (rows : List (List (List ℕ))) (row : List (List ℕ)) (place number : ℕ)
-    → new.names ≡ old.names → new.ids ≡ old.ids → map (λ group. group.items) new.groups.items ≡ added_at (map (λ group. group.items) old.groups.items) place (number ∷ [])
-    → IsKnownPair old.ids old.names row place number → HasPairs old known (pairs_of rows) → HasPairs new known (pairs_of (rows ++ row ∷ []))
-known_paired old new known rows row place number names same groups pair h =
+pub known_paired : (old new : Pairs) (known : List (List ℕ)) (rows : List (List (List ℕ))) (row : List (List ℕ)) (index number : ℕ)
+    → new.names ≡ old.names → new.ids ≡ old.ids → map (λ group. group.items) new.groups.items ≡ added_at (map (λ group. group.items) old.groups.items) index (number ∷ [])
+    → IsKnownPair old.ids old.names row index number → HasPairs old known (pairs_of rows) → HasPairs new known (pairs_of (rows ++ row ∷ []))
+known_paired old new known rows row index number names same groups pair h =
     let id = pair.id in
     let id_is = sym id.trimmed in
     let name = pair.name in
     let name_is = sym name.trimmed in
     let all = pairs_more rows row (known_some old.names (field_in row 1) number name) in
     subst (HasPairs new known) (sym all)
-    (paired old new known (pairs_of rows) (trimmed (field_in row 0)) (trimmed (field_in row 1)) number place
-    (names ∙ name.known.stay ∙ ap (with_name old.names) name_is) (name.known.place ∙ ap (λ ns. number_in ns (field_in row 1)) (sym names) ∙ ap (number_in new.names) name_is)
-    (same ∙ id.known.stay ∙ ap (with_name old.ids) id_is) (id.known.place ∙ ap (λ is. number_in is (field_in row 0)) (sym same) ∙ ap (number_in new.ids) id_is)
+    (paired old new known (pairs_of rows) (trimmed (field_in row 0)) (trimmed (field_in row 1)) number index
+    (names ∙ name.known.stay ∙ ap (with_name old.names) name_is) (name.known.index ∙ ap (λ ns. number_in ns (field_in row 1)) (sym names) ∙ ap (number_in new.names) name_is)
+    (same ∙ id.known.stay ∙ ap (with_name old.ids) id_is) (id.known.index ∙ ap (λ is. number_in is (field_in row 0)) (sym same) ∙ ap (number_in new.ids) id_is)
     groups h)
 
 -- ---- the baskets of the groups

@@ -30,19 +30,19 @@ inside false false x y z e = refl
 goes_on : (separator byte : ℕ) → ends_field separator byte ≡ false → step (config_of separator) st.InField byte ≡ (st.InField, act.Copy)
 goes_on separator byte e = inside (eqb byte separator) (is_line_end byte) _ _ _ e
 
-inside_more : (separator : ℕ) (text : List ℕ) (place : ℕ) → place < length text → ends_field separator (get_or text place 0) ≡ false
-    → Runs (config_of separator) st.InField (take place text) → Runs (config_of separator) st.InField (take (place + 1) text)
-inside_more separator text place below e runs =
-    rw (take_more text place 0 below) (runs-step (config_of separator) st.InField (take place text) (get_or text place 0) runs (goes_on separator (get_or text place 0) e))
+inside_more : (separator : ℕ) (text : List ℕ) (index : ℕ) → index < length text → ends_field separator (get_or text index 0) ≡ false
+    → Runs (config_of separator) st.InField (take index text) → Runs (config_of separator) st.InField (take (index + 1) text)
+inside_more separator text index below e runs =
+    rw (take_more text index 0 below) (runs-step (config_of separator) st.InField (take index text) (get_or text index 0) runs (goes_on separator (get_or text index 0) e))
 
-pub runs_inside : (separator : ℕ) (text : List ℕ) (end : ℕ) → end ≤ length text → ((place : ℕ) → place < end → ends_field separator (get_or text place 0) ≡ false)
+pub runs_inside : (separator : ℕ) (text : List ℕ) (end : ℕ) → end ≤ length text → ((index : ℕ) → index < end → ends_field separator (get_or text index 0) ≡ false)
     → Runs (config_of separator) st.InField (take end text)
 unfolding Runs
 runs_inside separator text zero within inside = tt
 runs_inside separator text (suc end) within inside =
     let one : end + 1 ≡ suc end = omega arith in
     subst (λ n. Runs (config_of separator) st.InField (take n text)) one
-    (inside_more separator text end (omega arith) (inside end (omega arith)) (runs_inside separator text end (omega arith) (λ place below. inside place (omega arith))))
+    (inside_more separator text end (omega arith) (inside end (omega arith)) (runs_inside separator text end (omega arith) (λ index below. inside index (omega arith))))
 
 -- ---- what a byte makes of a record
 
@@ -188,7 +188,7 @@ abbrev pub texts : List (Bor (List ℕ)) → List (List ℕ)
 texts fields = map (λ field. field.now) fields
 
 module _ (separator : ℕ) (text rest : List ℕ) (fields all : List (Bor (List ℕ))) (field : Bor (List ℕ)) (behind : List ℕ) (end : ℕ)
-    (plain : BeginsUnquoted rest) (within : end ≤ length rest) (inside : (place : ℕ) → place < end → ends_field separator (get_or rest place 0) ≡ false)
+    (plain : BeginsUnquoted rest) (within : end ≤ length rest) (inside : (index : ℕ) → index < end → ends_field separator (get_or rest index 0) ≡ false)
     (front : field.now ≡ take end rest) (back : behind ≡ drop end rest) (more : all ≡ fields ++ field ∷ [])
     (so_far : next_record (config_of separator) st.StartRecord [] [] text ≡ next_record (config_of separator) st.StartField (texts fields) [] rest) where
   one_more_text : texts fields ++ take end rest ∷ [] ≡ texts all
@@ -224,19 +224,19 @@ module _ (separator : ℕ) (text rest : List ℕ) (fields all : List (Bor (List 
         let took = taken_by_line separator text (texts fields) (take end rest) byte later (ne_eqb byte separator other) stops reached in
         subst (λ bytes. Takes separator text (texts all) bytes) (sym split) (subst (λ fs. Takes separator text fs (byte ∷ later)) one_more_text took)
 
--- ---- the field at a place
+-- ---- the field at an index
 
-pub field_there : (fields : List (Bor (List ℕ))) (place : ℕ) (other : Bor (List ℕ)) → place < length fields → Some (get_or fields place other).now ≡ field_at (texts fields) place
+pub field_there : (fields : List (Bor (List ℕ))) (index : ℕ) (other : Bor (List ℕ)) → index < length fields → Some (get_or fields index other).now ≡ field_at (texts fields) index
 unfolding field_at
-field_there [] place other below = absurd (omega arith)
+field_there [] index other below = absurd (omega arith)
 field_there (field ∷ fields) zero other below = refl
-field_there (field ∷ fields) (suc place) other below = field_there fields place other (omega arith)
+field_there (field ∷ fields) (suc index) other below = field_there fields index other (omega arith)
 
-pub field_beyond : (fields : List (Bor (List ℕ))) (place : ℕ) → length fields ≤ place → None ≡ field_at (texts fields) place
+pub field_beyond : (fields : List (Bor (List ℕ))) (index : ℕ) → length fields ≤ index → None ≡ field_at (texts fields) index
 unfolding field_at
-field_beyond [] place all = refl
+field_beyond [] index all = refl
 field_beyond (field ∷ fields) zero all = absurd (omega arith)
-field_beyond (field ∷ fields) (suc place) all = field_beyond fields place (omega arith)
+field_beyond (field ∷ fields) (suc index) all = field_beyond fields index (omega arith)
 
 pub slices_are : (r : Record) → r.is_copied ≡ false → fields_of r ≡ texts r.slices.items
 slices_are r e = ap (λ b. cond b (copied_fields r.copied) (texts r.slices.items)) e

@@ -14,19 +14,19 @@ use Rattle.basket_csv.specs.Row.{IsKnownField}
 use Rattle.basket_names.proofs.theory.Names.{among_with, number_in_all}
 use Rattle.basket_csv.specs.Csv.{field_in, is_text, names_of}
 
--- ---- the field at a place
+-- ---- the field at an index
 
-pub field_found : (fields : List (List ℕ)) (place : ℕ) (field : List ℕ) → Some field ≡ field_at fields place → field_in fields place ≡ field
+pub field_found : (fields : List (List ℕ)) (index : ℕ) (field : List ℕ) → Some field ≡ field_at fields index → field_in fields index ≡ field
 unfolding field_at
-field_found [] place field e = absurd cc
+field_found [] index field e = absurd cc
 field_found (first ∷ fields) zero field e = cc
-field_found (first ∷ fields) (suc place) field e = field_found fields place field e
+field_found (first ∷ fields) (suc index) field e = field_found fields index field e
 
-pub field_missing : (fields : List (List ℕ)) (place : ℕ) → None ≡ field_at fields place → field_in fields place ≡ []
+pub field_missing : (fields : List (List ℕ)) (index : ℕ) → None ≡ field_at fields index → field_in fields index ≡ []
 unfolding field_at
-field_missing [] place e = refl
+field_missing [] index e = refl
 field_missing (first ∷ fields) zero e = absurd cc
-field_missing (first ∷ fields) (suc place) e = field_missing fields place e
+field_missing (first ∷ fields) (suc index) e = field_missing fields index e
 
 -- a field that is a known name as it is
 pub known_field : (result : Option ℕ) (names : List (List ℕ)) (field found : List ℕ) → field ≡ found → trimmed found ≡ found → 0 < length found
@@ -40,45 +40,45 @@ pub nothing_is_text : is_utf8 [] ≡ true
 unfolding is_utf8 chars
 nothing_is_text = refl
 
-pub no_text : (fields : List (List ℕ)) (place : ℕ) → is_utf8 (field_in fields place) ≡ false → is_text fields ≡ false
-no_text [] place e = absurd (let both : true ≡ false = sym nothing_is_text ∙ e in cc)
+pub no_text : (fields : List (List ℕ)) (index : ℕ) → is_utf8 (field_in fields index) ≡ false → is_text fields ≡ false
+no_text [] index e = absurd (let both : true ≡ false = sym nothing_is_text ∙ e in cc)
 no_text (field ∷ fields) zero e = and_left (is_utf8 field) (is_text fields) e
-no_text (field ∷ fields) (suc place) e = and_right (is_utf8 field) (is_text fields) (no_text fields place e)
+no_text (field ∷ fields) (suc index) e = and_right (is_utf8 field) (is_text fields) (no_text fields index e)
 
-pub text_fault : (nth : ℕ) (fields : List (List ℕ)) (fault : Option ReadFault) (place : ℕ) → is_utf8 (field_in fields place) ≡ false → cond (is_text fields) fault (Some (NotText nth)) ≡ Some (NotText nth)
-text_fault nth fields fault place e = ap (λ b. cond b fault (Some (NotText nth))) (no_text fields place e)
+pub text_fault : (nth : ℕ) (fields : List (List ℕ)) (fault : Option ReadFault) (index : ℕ) → is_utf8 (field_in fields index) ≡ false → cond (is_text fields) fault (Some (NotText nth)) ≡ Some (NotText nth)
+text_fault nth fields fault index e = ap (λ b. cond b fault (Some (NotText nth))) (no_text fields index e)
 
-pub text_found : (text : Option (Bor (List ℕ))) (fields : List (List ℕ)) (place : ℕ) → MatchOption text (is_utf8 (field_in fields place) ≡ false) (λ t. (t.now ≡ field_in fields place) × (is_utf8 (field_in fields place) ≡ true))
-    → is_some text ≡ true → is_utf8 (field_in fields place) ≡ true
-text_found None fields place h e = absurd cc
-text_found (Some text) fields place h e = h.1
+pub text_found : (text : Option (Bor (List ℕ))) (fields : List (List ℕ)) (index : ℕ) → MatchOption text (is_utf8 (field_in fields index) ≡ false) (λ t. (t.now ≡ field_in fields index) × (is_utf8 (field_in fields index) ≡ true))
+    → is_some text ≡ true → is_utf8 (field_in fields index) ≡ true
+text_found None fields index h e = absurd cc
+text_found (Some text) fields index h e = h.1
 
-pub text_missing : (text : Option (Bor (List ℕ))) (fields : List (List ℕ)) (place : ℕ) → MatchOption text (is_utf8 (field_in fields place) ≡ false) (λ t. (t.now ≡ field_in fields place) × (is_utf8 (field_in fields place) ≡ true))
-    → is_some text ≡ false → is_utf8 (field_in fields place) ≡ false
-text_missing None fields place h e = h
-text_missing (Some text) fields place h e = absurd cc
+pub text_missing : (text : Option (Bor (List ℕ))) (fields : List (List ℕ)) (index : ℕ) → MatchOption text (is_utf8 (field_in fields index) ≡ false) (λ t. (t.now ≡ field_in fields index) × (is_utf8 (field_in fields index) ≡ true))
+    → is_some text ≡ false → is_utf8 (field_in fields index) ≡ false
+text_missing None fields index h e = h
+text_missing (Some text) fields index h e = absurd cc
 
--- ---- the fields from a place on
+-- ---- the fields from an index on
 
-pub text_goes_on : (fields : List (List ℕ)) (place : ℕ) → place < length fields → is_text (drop place fields) ≡ (is_utf8 (get_or fields place []) && is_text (drop (place + 1) fields))
-text_goes_on fields place below = at_drop_more is_text fields place [] below
+pub text_goes_on : (fields : List (List ℕ)) (index : ℕ) → index < length fields → is_text (drop index fields) ≡ (is_utf8 (get_or fields index []) && is_text (drop (index + 1) fields))
+text_goes_on fields index below = at_drop_more is_text fields index [] below
 
-pub text_ends : (fields : List (List ℕ)) (place : ℕ) → length fields ≤ place → is_text (drop place fields) ≡ true
-text_ends fields place all = ap is_text (drop_all place fields all)
+pub text_ends : (fields : List (List ℕ)) (index : ℕ) → length fields ≤ index → is_text (drop index fields) ≡ true
+text_ends fields index all = ap is_text (drop_all index fields all)
 
 name_first : (name : List ℕ) (names : List (List ℕ)) (nil : Bool) → is_nil name ≡ nil → filter (λ n. not (is_nil n)) (name ∷ names) ≡ cond nil (filter (λ n. not (is_nil n)) names) (name ∷ filter (λ n. not (is_nil n)) names)
 name_first name names true e = rw e refl
 name_first name names false e = rw e refl
 
-pub names_go_on : (fields : List (List ℕ)) (place : ℕ) → place < length fields → is_nil (trimmed (get_or fields place [])) ≡ false
-    → names_of (drop place fields) ≡ trimmed (get_or fields place []) ∷ names_of (drop (place + 1) fields)
-names_go_on fields place below e =
-    at_drop_more names_of fields place [] below ∙ name_first (trimmed (get_or fields place [])) (map trimmed (drop (place + 1) fields)) false e
+pub names_go_on : (fields : List (List ℕ)) (index : ℕ) → index < length fields → is_nil (trimmed (get_or fields index [])) ≡ false
+    → names_of (drop index fields) ≡ trimmed (get_or fields index []) ∷ names_of (drop (index + 1) fields)
+names_go_on fields index below e =
+    at_drop_more names_of fields index [] below ∙ name_first (trimmed (get_or fields index [])) (map trimmed (drop (index + 1) fields)) false e
 
-pub names_pass_over : (fields : List (List ℕ)) (place : ℕ) → place < length fields → is_nil (trimmed (get_or fields place [])) ≡ true
-    → names_of (drop place fields) ≡ names_of (drop (place + 1) fields)
-names_pass_over fields place below e =
-    at_drop_more names_of fields place [] below ∙ name_first (trimmed (get_or fields place [])) (map trimmed (drop (place + 1) fields)) true e
+pub names_pass_over : (fields : List (List ℕ)) (index : ℕ) → index < length fields → is_nil (trimmed (get_or fields index [])) ≡ true
+    → names_of (drop index fields) ≡ names_of (drop (index + 1) fields)
+names_pass_over fields index below e =
+    at_drop_more names_of fields index [] below ∙ name_first (trimmed (get_or fields index [])) (map trimmed (drop (index + 1) fields)) true e
 
 pub nil_test : (name : List ℕ) (b : Bool) → b ≡ eqb (length name) 0 → is_nil name ≡ b
 nil_test [] b e = sym e
@@ -86,37 +86,37 @@ nil_test (byte ∷ name) b e = sym (e ∙ ne_eqb (suc (length name)) 0 (λ z. ab
 
 -- ---- the names of a record, numbered one after another
 
--- the names from `first` on are numbered up to a place: these are the names then, and the numbers
-pub record NumbersUpTo (fields : List (List ℕ)) (first place : ℕ) (before now : List (List ℕ)) (so_far : List ℕ) : Type 0 where
-  pub text : is_text (drop first fields) ≡ is_text (drop place fields)
-  pub names : fold with_name before (names_of (drop first fields)) ≡ fold with_name now (names_of (drop place fields))
+-- the names from `first` on are numbered up to an index: these are the names then, and the numbers
+pub record NumbersUpTo (fields : List (List ℕ)) (first index : ℕ) (before now : List (List ℕ)) (so_far : List ℕ) : Type 0 where
+  pub text : is_text (drop first fields) ≡ is_text (drop index fields)
+  pub names : fold with_name before (names_of (drop first fields)) ≡ fold with_name now (names_of (drop index fields))
   pub numbers : map (number_in (fold with_name before (names_of (drop first fields)))) (names_of (drop first fields))
-      ≡ so_far ++ map (number_in (fold with_name before (names_of (drop first fields)))) (names_of (drop place fields))
+      ≡ so_far ++ map (number_in (fold with_name before (names_of (drop first fields)))) (names_of (drop index fields))
 
-module _ (fields : List (List ℕ)) (first place : ℕ) (before names : List (List ℕ)) (numbers : List ℕ) (below : place < length fields)
-    (utf8 : is_utf8 (get_or fields place []) ≡ true) (h : NumbersUpTo fields first place before names numbers) where
+module _ (fields : List (List ℕ)) (first index : ℕ) (before names : List (List ℕ)) (numbers : List ℕ) (below : index < length fields)
+    (utf8 : is_utf8 (get_or fields index []) ≡ true) (h : NumbersUpTo fields first index before names numbers) where
   abbrev all : List (List ℕ)
   all = fold with_name before (names_of (drop first fields))
 
-  more_text : is_text (drop first fields) ≡ is_text (drop (place + 1) fields)
-  more_text = h.text ∙ text_goes_on fields place below ∙ ap (λ b. b && is_text (drop (place + 1) fields)) utf8
+  more_text : is_text (drop first fields) ≡ is_text (drop (index + 1) fields)
+  more_text = h.text ∙ text_goes_on fields index below ∙ ap (λ b. b && is_text (drop (index + 1) fields)) utf8
 
-  pub no_name : is_nil (trimmed (get_or fields place [])) ≡ true → NumbersUpTo fields first (place + 1) before names numbers
+  pub no_name : is_nil (trimmed (get_or fields index [])) ≡ true → NumbersUpTo fields first (index + 1) before names numbers
   no_name nil =
-      let same = names_pass_over fields place below nil in
+      let same = names_pass_over fields index below nil in
       record {
         text = more_text;
         names = h.names ∙ ap (fold with_name names) same;
         numbers = h.numbers ∙ ap (λ ns. numbers ++ map (number_in all) ns) same;
       }
 
-  pub one_name : (new : List (List ℕ)) (number : ℕ) → is_nil (trimmed (get_or fields place [])) ≡ false
-      → new ≡ with_name names (trimmed (get_or fields place [])) → number ≡ number_in new (trimmed (get_or fields place []))
-      → NumbersUpTo fields first (place + 1) before new (numbers ++ number ∷ [])
+  pub one_name : (new : List (List ℕ)) (number : ℕ) → is_nil (trimmed (get_or fields index [])) ≡ false
+      → new ≡ with_name names (trimmed (get_or fields index [])) → number ≡ number_in new (trimmed (get_or fields index []))
+      → NumbersUpTo fields first (index + 1) before new (numbers ++ number ∷ [])
   one_name new number some e n =
-      let name = trimmed (get_or fields place []) in
-      let rest = names_of (drop (place + 1) fields) in
-      let same = names_go_on fields place below some in
+      let name = trimmed (get_or fields index []) in
+      let rest = names_of (drop (index + 1) fields) in
+      let same = names_go_on fields index below some in
       let later : all ≡ fold with_name new rest = h.names ∙ ap (fold with_name names) same ∙ ap (λ ns. fold with_name ns rest) (sym e) in
       let is_among = ap (λ ns. is_among ns name) e ∙ among_with names name in
       let stays : number_in all name ≡ number = ap (λ ns. number_in ns name) later ∙ number_in_all new rest name is_among ∙ sym n in
@@ -131,10 +131,10 @@ pub known_some : (names : List (List ℕ)) (field : List ℕ) (number : ℕ) →
 known_some names field number known =
     ap is_nil known.trimmed ∙ nil_test field false (sym (ne_eqb (length field) 0 (λ z. absurd (let l = known.some in omega arith))))
 
-pub known_name : (fields : List (List ℕ)) (first place : ℕ) (before names : List (List ℕ)) (numbers : List ℕ) (number : ℕ) → place < length fields
-    → IsKnownField names (get_or fields place []) number → NumbersUpTo fields first place before names numbers
-    → NumbersUpTo fields first (place + 1) before names (numbers ++ number ∷ [])
-known_name fields first place before names numbers number below known h =
-    let field = get_or fields place [] in
+pub known_name : (fields : List (List ℕ)) (first index : ℕ) (before names : List (List ℕ)) (numbers : List ℕ) (number : ℕ) → index < length fields
+    → IsKnownField names (get_or fields index []) number → NumbersUpTo fields first index before names numbers
+    → NumbersUpTo fields first (index + 1) before names (numbers ++ number ∷ [])
+known_name fields first index before names numbers number below known h =
+    let field = get_or fields index [] in
     let same = sym known.trimmed in
-    one_name fields first place before names numbers below known.known.text h names number (known_some names field number known) (known.known.stay ∙ ap (with_name names) same) (known.known.place ∙ ap (number_in names) same)
+    one_name fields first index before names numbers below known.known.text h names number (known_some names field number known) (known.known.stay ∙ ap (with_name names) same) (known.known.index ∙ ap (number_in names) same)

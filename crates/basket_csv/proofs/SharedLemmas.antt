@@ -42,9 +42,9 @@ module _ (fault : ℕ → List (List ℕ) → Option ReadFault) where
   pub faultless_both : (rows later : Rows) → AreFaultless fault rows → AreFaultless fault later → AreFaultless fault (rows ++ later)
   faultless_both rows later none too n = fault_after n rows later (none n) ∙ too (n + length rows)
 
--- ---- how many records come before a place
+-- ---- how many records come before an index
 
--- a text has no more records than those before a place and those after it
+-- a text has no more records than those before an index and those after it
 pub few_after : (header left : Bool) (before : ℕ) (all rows rest : Rows) → before + first_number left ≡ first_number header + length rows
     → after_header header all ≡ rows ++ after_header left rest → length all ≤ MOST_RECORDS → before + length rest ≤ MOST_RECORDS
 few_after true true before all rows rest number is few = omega (arith, ap length is, length-append rows (drop 1 rest), length-drop 1 all, length-drop 1 rest)
@@ -116,7 +116,7 @@ module _ {C : Type 0} (has_read : C → Start → Rows → Type 0) (fault_of : B
             ∙ ap (λ h. (own ++ right.rows) ++ after_header h (records (drop all.end (first ++ rest)))) (sym same_header);
       }
 
-  -- a place has few records before it
+  -- an index has few records before it
   pub few_before : (header : Bool) (bytes : List ℕ) (right : RightParts C) → Right header bytes right → length bytes ≤ MOST_BYTES → right.before + length (records (drop right.end bytes)) ≤ MOST_RECORDS
   few_before header bytes right is short =
       few_after header right.header right.before (records bytes) is.rows (records (drop right.end bytes)) is.number is.all (few_records_of reading.dialect.separator bytes short)

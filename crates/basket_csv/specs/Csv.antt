@@ -14,9 +14,9 @@ use Rattle.basket_csv.specs.Records.{records_of}
 
 -- ---- records
 
--- the field at a place, empty if the record has none
+-- the field at an index, empty if the record has none
 abbrev pub field_in : List (List ℕ) → ℕ → List ℕ
-field_in row place = slice_index_or row place []
+field_in row index = slice_index_or row index []
 
 -- whether each field is UTF-8
 abbrev pub is_text : List (List ℕ) → Bool

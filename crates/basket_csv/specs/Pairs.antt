@@ -5,11 +5,11 @@ use Rattle.basket_csv.specs.Csv.{gather, names_of_pairs, pairs_of}
 use Rattle.basket_names.specs.Names.{number_in}
 use Rattle.basket_csv.specs.Part.{Rows}
 
--- lists of numbers with more numbers, in the list at a place or in a new last one
+-- lists of numbers with more numbers, in the list at an index or in a new last one
 abbrev pub added_at : List (List ℕ) → ℕ → List ℕ → List (List ℕ)
-added_at [] place numbers = numbers ∷ []
+added_at [] index numbers = numbers ∷ []
 added_at (group ∷ groups) zero numbers = (group ++ numbers) ∷ groups
-added_at (group ∷ groups) (suc place) numbers = group ∷ added_at groups place numbers
+added_at (group ∷ groups) (suc index) numbers = group ∷ added_at groups index numbers
 
 -- the numbers of the names of each group
 abbrev pub numbers_of : List (List ℕ) → List (List ℕ × List (List ℕ)) → List (List ℕ)

@@ -4,7 +4,7 @@ use Rattle.csv.specs.Reading.{strip_bom}
 use Rattle.basket_csv.specs.Csv.{after_header}
 use Rattle.basket_csv.specs.Records.{last_after, records_of}
 
--- a text may be cut between these, where a line ends and no mark follows; its end is such a place
+-- a text may be cut between these, where a line ends and no mark follows; its end is such an index
 abbrev pub IsCut : List ℕ → List ℕ → Type 0
 IsCut before after = (after ≡ []) ⊎ ((last_after 10 before ≡ 10) × (strip_bom after ≡ after))
 

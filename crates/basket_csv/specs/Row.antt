@@ -11,7 +11,7 @@ pub record IsKnownField (names : List (List ℕ)) (field : List ℕ) (number : �
   pub some : 0 < length field
 
 -- the two fields of a record are a known id and a known name as they are, and these are their numbers
-pub record IsKnownPair (ids names fields : List (List ℕ)) (place number : ℕ) : Type 0 where
+pub record IsKnownPair (ids names fields : List (List ℕ)) (index number : ℕ) : Type 0 where
   pub two : length fields ≡ 2
-  pub id : IsKnownField ids (field_in fields 0) place
+  pub id : IsKnownField ids (field_in fields 0) index
   pub name : IsKnownField names (field_in fields 1) number

@@ -1,4 +1,4 @@
--- The parts of a text that were read up to a place.
+-- The parts of a text that were read up to an index.
 use Rattle.std.specs.Prelude.{◌≡◌, ◌≤◌, ◌+◌, ℕ, Bool, true, List, [], ◌++◌, Option, None, drop, length}
 use Rattle.basket_read.specs.declared.fault.ReadFault.{ReadFault}
 use Rattle.basket_csv.specs.declared.shared.ReadPart.{ReadPart}
@@ -25,7 +25,7 @@ pub record IsReadPart {C : Type 0} (has_read : C → Start → Rows → Type 0) 
   pub faultless : AreFaultless (fault_of reading.weighted) (after_header header (records_of reading.dialect.separator bytes))
   pub whole : read.whole ≡ true → IsWhole reading.dialect.separator header bytes
 
--- the parts have the records up to the place, which are faultless, and the bytes after it have the others
+-- the parts have the records up to the index, which are faultless, and the bytes after it have the others
 pub record AreRight {C : Type 0} (has_read : C → Start → Rows → Type 0) (fault_of : Bool → ℕ → List (List ℕ) → Option ReadFault) (reading : Reading) (header : Bool) (bytes : List ℕ) (right : RightParts C) : Type 0 where
   pub rows : Rows
   pub parts : InParts (HasRows has_read reading.weighted) right.parts.items rows

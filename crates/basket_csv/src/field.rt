@@ -22,9 +22,9 @@ fn leading_spaces(bytes: &[u8]) -> usize
     ensures within { result ≤ length bytes.now }
     ensures space { 0 < result → is_space (slice_index bytes.now (result - 1)) ≡ true }
 {
-    for (place, byte) in bytes.iter().enumerate() {
+    for (index, byte) in bytes.iter().enumerate() {
         if !is_space(*byte) {
-            return place;
+            return index;
         }
     }
     bytes.len()

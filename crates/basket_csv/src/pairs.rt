@@ -24,16 +24,16 @@ use std::alloc::{AllocError, Global};
 /// The numbers of the names of an id. Most have few, which need no allocation.
 type Group = SmallVec<u32, { INLINE_ITEMS }>;
 
-/// Adds a number to the group at a place, or to a new one at the end.
+/// Adds a number to the group at an index, or to a new one at the end.
 fn add_number(
     alloc: Global,
     groups: &mut Vec<Group>,
-    place: usize,
+    index: usize,
     number: u32,
 ) -> Result<(), AllocError>
-    ensures { OnOk result (map (λ group. group.items) groups.new.items ≡ added_at (map (λ group. group.items) groups.old.items) place (number ∷ [])) }
+    ensures { OnOk result (map (λ group. group.items) groups.new.items ≡ added_at (map (λ group. group.items) groups.old.items) index (number ∷ [])) }
 {
-    if let Some(group) = groups.get_mut(place) {
+    if let Some(group) = groups.get_mut(index) {
         group.push(number)?;
         return Ok(());
     }
@@ -43,16 +43,16 @@ fn add_number(
     Ok(())
 }
 
-/// Adds numbers to the group at a place, or to a new one at the end.
+/// Adds numbers to the group at an index, or to a new one at the end.
 fn add_numbers(
     alloc: Global,
     groups: &mut Vec<Group>,
-    place: usize,
+    index: usize,
     numbers: &[u32],
 ) -> Result<(), AllocError>
-    ensures { OnOk result (map (λ group. group.items) groups.new.items ≡ added_at (map (λ group. group.items) groups.old.items) place numbers.now) }
+    ensures { OnOk result (map (λ group. group.items) groups.new.items ≡ added_at (map (λ group. group.items) groups.old.items) index numbers.now) }
 {
-    if let Some(group) = groups.get_mut(place) {
+    if let Some(group) = groups.get_mut(index) {
         group.extend_from_slice(numbers)?;
         return Ok(());
     }
@@ -101,8 +101,8 @@ impl Pairs {
         ensures err { IfErr result (λ fault. fault ≡ ReadFault.Memory) }
     {
         let number = self.names.number(name)?;
-        let place = self.ids.number(id)?;
-        add_number(self.alloc, &mut self.groups, place as usize, number)?;
+        let index = self.ids.number(id)?;
+        add_number(self.alloc, &mut self.groups, index as usize, number)?;
         Ok(())
     }
 
@@ -125,11 +125,16 @@ impl Pairs {
         } = later;
         let own = names.into_names()?;
         let names = self.names.numbers_of(&own)?;
-        let places = self.ids.append(ids)?;
+        let indexes = self.ids.append(ids)?;
         let mut numbers = Vec::new(self.alloc);
         for (nth, group) in groups.iter().enumerate() {
             rename(group, &names, &mut numbers)?;
-            add_numbers(self.alloc, &mut self.groups, places[nth] as usize, &numbers)?;
+            add_numbers(
+                self.alloc,
+                &mut self.groups,
+                indexes[nth] as usize,
+                &numbers,
+            )?;
         }
         Ok(())
     }
@@ -157,9 +162,9 @@ impl Pairs {
         if row.len() != 2 || !is_name(id) {
             return None;
         }
-        let place = self.ids.known(id)?;
+        let index = self.ids.known(id)?;
         let number = known_number(row, 1, &self.names)?;
-        Some((place, number))
+        Some((index, number))
     }
 }
 
@@ -169,8 +174,8 @@ impl RecordCollector for Pairs {
     ghost has_read = { λ pairs start rows. HasPairs pairs start.known (pairs_of rows) };
 
     fn add(&mut self, nth: u32, row: &Record<'_>) -> Result<(), ReadFault> {
-        if let Some((place, number)) = self.known_pair(row) {
-            add_number(self.alloc, &mut self.groups, place as usize, number)?;
+        if let Some((index, number)) = self.known_pair(row) {
+            add_number(self.alloc, &mut self.groups, index as usize, number)?;
             return Ok(());
         }
         let Some(id) = text_at(row, 0) else {

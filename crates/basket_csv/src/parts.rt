@@ -71,9 +71,9 @@ pub fn end_of_part(bytes: &[u8], count: usize) -> usize
     if count < 2 {
         return bytes.len();
     }
-    let place = bytes.len() / count;
-    for (more, byte) in bytes[place..].iter().enumerate() {
-        let end = place + more + 1;
+    let index = bytes.len() / count;
+    for (more, byte) in bytes[index..].iter().enumerate() {
+        let end = index + more + 1;
         if *byte == b'\n' && !bytes[end..].starts_with(&MARK) {
             return end;
         }

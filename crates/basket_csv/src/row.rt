@@ -13,11 +13,11 @@ use basket_read::ReadFault;
 
 /// The text of a field, if it is UTF-8. It is empty if there is no such field.
 #[inline]
-pub fn text_at<'r>(row: &'r Record<'_>, place: usize) -> Option<&'r str>
-    ensures { let field = field_in (fields_of row.now) place in
+pub fn text_at<'r>(row: &'r Record<'_>, index: usize) -> Option<&'r str>
+    ensures { let field = field_in (fields_of row.now) index in
         MatchOption result (is_utf8 field ≡ false) (λ text. (text.now ≡ field) × (is_utf8 field ≡ true)) }
 {
-    match row.get(place) {
+    match row.get(index) {
         Some(field) => text_of(field),
         None => Some(""),
     }
@@ -26,10 +26,10 @@ pub fn text_at<'r>(row: &'r Record<'_>, place: usize) -> Option<&'r str>
 /// The number of the name in a field, if the field is the name and no more, and it was found
 /// recently.
 #[inline]
-pub fn known_number(row: &Record<'_>, place: usize, names: &Numbering) -> Option<u32>
-    ensures { IfSome result (IsKnownField names.now (field_in (fields_of row.now) place)) }
+pub fn known_number(row: &Record<'_>, index: usize, names: &Numbering) -> Option<u32>
+    ensures { IfSome result (IsKnownField names.now (field_in (fields_of row.now) index)) }
 {
-    let field = row.get(place)?;
+    let field = row.get(index)?;
     if is_name(field) {
         names.known(field)
     } else {
@@ -37,19 +37,19 @@ pub fn known_number(row: &Record<'_>, place: usize, names: &Numbering) -> Option
     }
 }
 
-/// Whether all fields from a place on are UTF-8.
+/// Whether all fields from an index on are UTF-8.
 pub fn is_text_from(row: &Record<'_>, first: usize) -> bool
     ensures { result ≡ is_text (drop first (fields_of row.now)) }
 {
-    for place in first..row.len() {
-        if text_at(row, place).is_none() {
+    for index in first..row.len() {
+        if text_at(row, index).is_none() {
             return false;
         }
     }
     true
 }
 
-/// Numbers the names in the fields from a place on. If one of these is not UTF-8, or after an
+/// Numbers the names in the fields from an index on. If one of these is not UTF-8, or after an
 /// `Err`, `names` and `numbers` are lost.
 pub fn number_names(
     row: &Record<'_>,
@@ -63,12 +63,12 @@ pub fn number_names(
     ensures err { IfErr result (λ fault. fault ≡ ReadFault.Memory) }
 {
     numbers.clear();
-    for place in first..row.len() {
-        if let Some(number) = known_number(row, place, names) {
+    for index in first..row.len() {
+        if let Some(number) = known_number(row, index, names) {
             numbers.push(number)?;
             continue;
         }
-        let Some(text) = text_at(row, place) else {
+        let Some(text) = text_at(row, index) else {
             return Ok(false);
         };
         let name = trim(text);

@@ -41,12 +41,12 @@ struct ReadPart<C> {
     whole: bool,
 }
 
-/// The parts that were read up to a place, from which on the bytes are not read yet.
+/// The parts that were read up to an index, from which on the bytes are not read yet.
 #[derive(Drop)]
 struct RightParts<C> {
     parts: Vec<C>,
     end: usize,
-    /// How many records come before the place, the header among them.
+    /// How many records come before the index, the header among them.
     before: usize,
     /// Whether the header comes after it.
     header: bool,

@@ -12,7 +12,7 @@ use Rattle.basket_names.proofs.theory.Names.{among_more, among_with, known_name,
 pub numbered_known : (old new : List (List ℕ)) (name : List ℕ) (number : ℕ) → IsUtf8 name → new ≡ with_name old name → number ≡ number_in new name → IsKnown new name number
 numbered_known old new name number text more is =
     let known : is_among new name ≡ true = ap (λ names. is_among names name) more ∙ among_with old name in
-    record { text = is_utf8-from_IsUtf8 name text; stay = sym (known_name new name known); place = is }
+    record { text = is_utf8-from_IsUtf8 name text; stay = sym (known_name new name known); index = is }
 
 -- a known name stays so, with its number
 known_more : (names : List (List ℕ)) (other name : List ℕ) (number : ℕ) → IsKnown names name number → IsKnown (with_name names other) name number
@@ -21,7 +21,7 @@ known_more names other name number h =
     record {
       text = h.text;
       stay = sym (known_name (with_name names other) name (among_more names name other known));
-      place = h.place ∙ sym (number_more names name other known);
+      index = h.index ∙ sym (number_more names name other known);
     }
 
 -- and so do all that are kept

@@ -19,7 +19,7 @@ with_name names name = if is_among names name then names else names ++ name ∷ 
 abbrev pub in_order : List (List ℕ) → List (List ℕ)
 in_order names = fold with_name [] names
 
--- the number of a name: its place, from 0
+-- the number of a name: its index, from 0
 abbrev pub number_in : List (List ℕ) → List ℕ → ℕ
 number_in names name = position_or_len (bytes_eq name) names
 
@@ -27,4 +27,4 @@ number_in names name = position_or_len (bytes_eq name) names
 pub record IsKnown (names : List (List ℕ)) (name : List ℕ) (number : ℕ) : Type 0 where
   pub text : is_utf8 name ≡ true
   pub stay : names ≡ with_name names name
-  pub place : number ≡ number_in names name
+  pub index : number ≡ number_in names name

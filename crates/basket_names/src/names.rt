@@ -11,7 +11,7 @@ use indexmap::IndexSet;
 use std::alloc::{AllocError, Global};
 use std::marker::Model;
 
-/// The names of items. An item's number is the place of its name, from 0.
+/// The names of items. An item's number is the index of its name, from 0.
 #[derive(Debug, Drop)]
 pub struct Names {
     names: Vec<String>,
@@ -105,10 +105,10 @@ impl Numbering {
             return Ok(number);
         }
         let known = self.names.len();
-        let place = self.place(name)?;
-        match u32::try_from(place) {
+        let index = self.index(name)?;
+        match u32::try_from(index) {
             Ok(number) => {
-                self.keep(&key, name.as_bytes(), number, place < known)?;
+                self.keep(&key, name.as_bytes(), number, index < known)?;
                 Ok(number)
             }
             // No input is long enough for that many names.
@@ -149,17 +149,17 @@ impl Numbering {
         Ok(())
     }
 
-    /// The place of a name, which is added at the end if it is new.
+    /// The index of a name, which is added at the end if it is new.
     #[inline]
-    fn place(&mut self, name: &str) -> Result<usize, AllocError>
+    fn index(&mut self, name: &str) -> Result<usize, AllocError>
         ensures names { OnOk result (self.new ≡ with_name self.old name.now) }
-        ensures number { IfOk result (λ place. place ≡ number_in self.new name.now) }
+        ensures number { IfOk result (λ index. index ≡ number_in self.new name.now) }
     {
-        if let Some(place) = self.names.get_index_of(name) {
-            return Ok(place);
+        if let Some(index) = self.names.get_index_of(name) {
+            return Ok(index);
         }
-        let (place, _) = self.names.insert_full(String::from_str(self.alloc, name)?)?;
-        Ok(place)
+        let (index, _) = self.names.insert_full(String::from_str(self.alloc, name)?)?;
+        Ok(index)
     }
 
     /// The numbering of these names, each of which counts once.

@@ -80,7 +80,7 @@ impl Recent {
 
     /// The bucket of a name.
     #[inline(always)]
-    fn place(&self, key: &Key, name: &[u8]) -> usize {
+    fn index(&self, key: &Key, name: &[u8]) -> usize {
         (key.hash(name) >> LEFT_OUT) as usize & self.mask
     }
 
@@ -89,7 +89,7 @@ impl Recent {
     pub fn number(&self, key: &Key, name: &[u8]) -> Option<u32>
         ensures { (names : List (List ℕ)) → KeepsKnown names self.now → IfSome result (IsNumberAt names key.now) }
     {
-        let bucket = self.buckets.get(self.place(key, name))?;
+        let bucket = self.buckets.get(self.index(key, name))?;
         if bucket.newer.has(key) {
             return Some(bucket.newer.number);
         }
@@ -101,8 +101,8 @@ impl Recent {
     pub fn keep(&mut self, key: &Key, name: &[u8], number: u32)
         ensures { (names : List (List ℕ)) → IsNumberAt names key.now number → KeepsKnown names self.old → KeepsKnown names self.new }
     {
-        let place = self.place(key, name);
-        if let Some(bucket) = self.buckets.get_mut(place) {
+        let index = self.index(key, name);
+        if let Some(bucket) = self.buckets.get_mut(index) {
             *bucket = Bucket {
                 newer: RecentName::new(key, number),
                 older: bucket.newer,

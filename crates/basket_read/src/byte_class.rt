@@ -57,9 +57,9 @@ fn blanks_at(bytes: &[u8]) -> usize
     ensures within { result ≤ length bytes.now }
     ensures blanks { list_all is_blank (take result bytes.now) ≡ true }
 {
-    for (place, byte) in bytes.iter().enumerate() {
+    for (index, byte) in bytes.iter().enumerate() {
         if !is_blank(*byte) {
-            return place;
+            return index;
         }
     }
     bytes.len()

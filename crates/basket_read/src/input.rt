@@ -57,9 +57,9 @@ impl Input {
         requires { F.is_ready line_reader.now }
         ensures { TakesOn self.old piece.now result self.new }
     {
-        for (place, byte) in piece.iter().enumerate() {
+        for (index, byte) in piece.iter().enumerate() {
             if let Beginning::Decided = self.beginning {
-                return self.take_text(line_reader, &piece[place..]);
+                return self.take_text(line_reader, &piece[index..]);
             }
             self.take_byte(*byte)?;
         }

@@ -81,9 +81,9 @@ pub fn middle_of(piece: &[u8], workers: u32) -> Option<usize>
     }
     let middle = piece.len() as u128 * u128::from(workers / 2) / u128::from(workers);
     let middle = middle as usize;
-    for (place, byte) in piece[middle..].iter().enumerate() {
+    for (index, byte) in piece[middle..].iter().enumerate() {
         if *byte == b'\n' {
-            return Some(middle + place + 1);
+            return Some(middle + index + 1);
         }
     }
     None

@@ -50,11 +50,11 @@ fn short_number(bytes: &[u8]) -> Digits
     ensures value { value_of (take result.count bytes.now) ≡ result.value }
 {
     let mut value = 0;
-    for (place, byte) in bytes.iter().enumerate() {
+    for (index, byte) in bytes.iter().enumerate() {
         let ByteClass::Digit(digit) = class_of(*byte) else {
             return Digits {
                 value,
-                count: place,
+                count: index,
             };
         };
         value = value * 10 + u32::from(digit);
@@ -75,17 +75,17 @@ pub fn with_digits(before: u32, bytes: &[u8]) -> Digits
     ensures value { (word : List ℕ) → value_of word ≡ before → value_of (word ++ take result.count bytes.now) ≡ result.value }
 {
     let mut value = before;
-    for (place, byte) in bytes.iter().enumerate() {
+    for (index, byte) in bytes.iter().enumerate() {
         let ByteClass::Digit(digit) = class_of(*byte) else {
             return Digits {
                 value,
-                count: place,
+                count: index,
             };
         };
         let Some(longer) = with_digit(value, digit) else {
             return Digits {
                 value,
-                count: place,
+                count: index,
             };
         };
         value = longer;

@@ -17,9 +17,9 @@ front_is scratch text rest start room count made long few =
     take-take count room (drop start scratch) few ∙ ap (take count) made ∙ ap (λ n. take n (text ++ rest)) (sym long) ∙ take-append_seam text rest
 
 -- so many items more
-pub items_further : (items : List ℕ) (place count : ℕ) → items_text (take (place + count) items) ≡ items_text (take place items) ++ items_text (take count (drop place items))
-items_further items place count =
-    ap items_text (take-add place count items) ∙ flat_map-append (λ item. decimal item ++ 32 ∷ []) (take place items) (take count (drop place items))
+pub items_further : (items : List ℕ) (index count : ℕ) → items_text (take (index + count) items) ≡ items_text (take index items) ++ items_text (take count (drop index items))
+items_further items index count =
+    ap items_text (take-add index count items) ∙ flat_map-append (λ item. decimal item ++ 32 ∷ []) (take index items) (take count (drop index items))
 
 -- the parts of the line of a rule
 pub rule_parts : (report sides count ratios : List ℕ) → ((report ++ sides) ++ (40 ∷ count ++ 41 ∷ [])) ++ (32 ∷ ratios ++ 10 ∷ [])

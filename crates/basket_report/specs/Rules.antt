@@ -19,6 +19,6 @@ ReportsRules wording listing confidence text =
 abbrev pub first_rules : Wording → Listing → ℕ × ℕ → ℕ → List ℕ
 first_rules wording listing confidence count = rules_report_of wording (flat_map (λ c. rules_among_with listing confidence c.set) (take count listing.sets))
 
--- the text is that of the rules with the sets from a place up to another as their unions
+-- the text is that of the rules with the sets from an index up to another as their unions
 abbrev pub ReportsUnions : Wording → Listing → ℕ × ℕ → ℕ → ℕ → List ℕ → Type 0
 ReportsUnions wording listing confidence from to text = IsConsistent listing.sets → first_rules wording listing confidence from ++ text ≡ first_rules wording listing confidence to

@@ -3,9 +3,9 @@ use Rattle.std.specs.Prelude.{ℕ, List, ◌∷◌, ◌++◌, ◌≡◌, ◌<◌
 use Rattle.basket_core.specs.Fraction.{Ratio}
 use Rattle.basket_report.specs.declared.item_text.ItemText.{ItemText}
 
--- each text is that of the item of its place
+-- each text is that of the item of its index
 abbrev pub AreTexts : List ItemText → Type 0
-AreTexts texts = (place : ℕ) (none : ItemText) → place < length texts → (slice_index_or texts place none).item ≡ place
+AreTexts texts = (index : ℕ) (none : ItemText) → index < length texts → (slice_index_or texts index none).item ≡ index
 
 -- a numerator, a slash and a denominator
 abbrev pub ratio_text : Ratio → List ℕ

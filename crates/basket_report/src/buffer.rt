@@ -16,7 +16,7 @@ use std::marker::Model;
 /// No buffer takes the line of a set of more items.
 pub const LONGEST: usize = 1_024;
 
-/// The lines of the sets from one place up to another, at the beginning of a room.
+/// The lines of the sets from one index up to another, at the beginning of a room.
 #[derive(Debug, Drop)]
 pub struct LineBuffer {
     counts: CountTexts,
@@ -52,7 +52,7 @@ impl LineBuffer {
         })
     }
 
-    /// Makes the lines of at most this many sets from a place on, and of no more than there is room
+    /// Makes the lines of at most this many sets from an index on, and of no more than there is room
     /// for.
     pub fn fill(&mut self, texts: &Texts, sets: &CountedSets, from: usize, most: usize)
         requires { from ≤ length sets.now }
@@ -64,12 +64,12 @@ impl LineBuffer {
         self.end = 0;
         let last = sets.len().min(from.saturating_add(most));
         let mut room = [0u32; MOST_ITEMS];
-        for place in from..last {
-            let items = sets.items(place, &mut room);
+        for index in from..last {
+            let items = sets.items(index, &mut room);
             if !self.has_room(items.len()) {
                 break;
             }
-            self.put(texts, items, sets.count(place));
+            self.put(texts, items, sets.count(index));
         }
     }
 
@@ -97,14 +97,14 @@ impl LineBuffer {
         self.to += 1;
     }
 
-    /// The place of the first set.
+    /// The index of the first set.
     pub fn from(&self) -> usize
         ensures { result ≡ self.now.from }
     {
         self.from
     }
 
-    /// The place after the last set.
+    /// The index after the last set.
     pub fn to(&self) -> usize
         ensures { result ≡ self.now.to }
     {

@@ -64,7 +64,7 @@ impl<'a> Report<'a> {
         }
     }
 
-    /// Adds the rules with the set at the place as their union.
+    /// Adds the rules with the set at the index as their union.
     pub fn put_rules(
         &mut self,
         frequent: &Frequent,

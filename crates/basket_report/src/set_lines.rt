@@ -59,14 +59,14 @@ impl SetLines {
         ensures flushed { OnOk result (W.ends_in_flush writer.new ≡ true) }
         ensures failed { (W.has_failed writer.new ≡ false) ↔ IsOk result }
     {
-        let mut place = 0;
-        while place < sets.len() {
-            fill_buffers(rt, &mut self.buffers, &self.texts, sets, place, self.share);
-            let next = send_buffers(writer, &self.buffers, sets, place);
-            if next == place {
-                send_set(writer, &self.texts, sets, place);
+        let mut index = 0;
+        while index < sets.len() {
+            fill_buffers(rt, &mut self.buffers, &self.texts, sets, index, self.share);
+            let next = send_buffers(writer, &self.buffers, sets, index);
+            if next == index {
+                send_set(writer, &self.texts, sets, index);
             }
-            place = next.max(place + 1);
+            index = next.max(index + 1);
         }
         if writer.failed() {
             return Err(Failed);
@@ -75,13 +75,13 @@ impl SetLines {
     }
 }
 
-/// Has each worker make the lines of this many sets, from a place on.
+/// Has each worker make the lines of this many sets, from an index on.
 fn fill_buffers<R: Threads + Sync>(
     rt: &R,
     buffers: &mut [LineBuffer],
     texts: &Texts,
     sets: &CountedSets,
-    place: usize,
+    index: usize,
     share: usize,
 )
     ensures { All (HasLines sets.now) buffers.new }
@@ -94,28 +94,28 @@ fn fill_buffers<R: Threads + Sync>(
         &|number, buffer: &mut LineBuffer|
             ensures { HasLines sets.entry.now buffer.exit.now }
         {
-            let from = place.saturating_add(share.saturating_mul(number));
+            let from = index.saturating_add(share.saturating_mul(number));
             buffer.fill(texts, sets, from.min(sets.len()), share)
         },
     );
 }
 
-/// Writes the lines of the buffers, as far as each begins where the one before ends, from a place
-/// on. Returns the place after them.
+/// Writes the lines of the buffers, as far as each begins where the one before ends, from an index
+/// on. Returns the index after them.
 fn send_buffers<W: Sink>(
     writer: &mut W,
     buffers: &[LineBuffer],
     sets: &CountedSets,
-    place: usize,
+    index: usize,
 ) -> usize
-    requires place { place ≤ length sets.now }
+    requires index { index ≤ length sets.now }
     requires buffers { All (HasLines sets.now) buffers.now }
-    ensures place { (place ≤ result) × (result ≤ length sets.now) }
+    ensures index { (index ≤ result) × (result ≤ length sets.now) }
     ensures way { (start : Option (List ℕ))
-        → IsWritten start (W.taken writer.old) (W.has_failed writer.old) (W.ends_in_flush writer.old) (report_of Numbered (take place sets.now))
+        → IsWritten start (W.taken writer.old) (W.has_failed writer.old) (W.ends_in_flush writer.old) (report_of Numbered (take index sets.now))
         → IsWritten start (W.taken writer.new) (W.has_failed writer.new) (W.ends_in_flush writer.new) (report_of Numbered (take result sets.now)) }
 {
-    let mut next = place;
+    let mut next = index;
     for buffer in buffers {
         if buffer.from() != next {
             break;
@@ -127,15 +127,15 @@ fn send_buffers<W: Sink>(
 }
 
 /// Writes the line of a set that no buffer takes.
-fn send_set<W: Sink>(writer: &mut W, texts: &Texts, sets: &CountedSets, place: usize)
-    requires { place < length sets.now }
+fn send_set<W: Sink>(writer: &mut W, texts: &Texts, sets: &CountedSets, index: usize)
+    requires { index < length sets.now }
     ensures { (start : Option (List ℕ))
-        → IsWritten start (W.taken writer.old) (W.has_failed writer.old) (W.ends_in_flush writer.old) (report_of Numbered (take place sets.now))
-        → IsWritten start (W.taken writer.new) (W.has_failed writer.new) (W.ends_in_flush writer.new) (report_of Numbered (take (place + 1) sets.now)) }
+        → IsWritten start (W.taken writer.old) (W.has_failed writer.old) (W.ends_in_flush writer.old) (report_of Numbered (take index sets.now))
+        → IsWritten start (W.taken writer.new) (W.has_failed writer.new) (W.ends_in_flush writer.new) (report_of Numbered (take (index + 1) sets.now)) }
 {
     let mut room = [0u32; MOST_ITEMS];
-    let items = sets.items(place, &mut room);
-    send_line(writer, texts, items, sets.count(place));
+    let items = sets.items(index, &mut room);
+    send_line(writer, texts, items, sets.count(index));
 }
 
 /// Writes the line of a set, a limited number of items at a time.

@@ -20,8 +20,8 @@ pub fn sets_report(
     let texts = Texts::below(alloc, 0)?;
     let mut report = Report::new(alloc, style, &texts);
     let mut room = [0u32; MOST_ITEMS];
-    for place in 0..sets.len() {
-        report.put_set(sets.items(place, &mut room), sets.count(place))?;
+    for index in 0..sets.len() {
+        report.put_set(sets.items(index, &mut room), sets.count(index))?;
     }
     report.into_text()
 }

@@ -37,7 +37,7 @@ impl Texts {
         Ok(Texts { texts })
     }
 
-    /// The texts, each at the place of its item.
+    /// The texts, each at the index of its item.
     pub fn all(&self) -> &[ItemText]
         ensures { AreTexts result.now }
     {

@@ -16,52 +16,52 @@ use Rattle.basket_rules.proofs.SearchLemmas.{none, set_is, stands_once}
 
 -- ---- a set without the item by which it is longer
 
-at_place : (item x : ℕ) (items rest : List ℕ) (place : ℕ) (p q : Bool) → ltb item x ≡ p → eqb item x ≡ q → IsRising (cond p (item ∷ x ∷ items) (cond q (x ∷ items) (x ∷ rest)))
-    → length (cond p (item ∷ x ∷ items) (cond q (x ∷ items) (x ∷ rest))) ≡ suc (suc (length items)) → place < length (cond p (item ∷ x ∷ items) (cond q (x ∷ items) (x ∷ rest)))
-    → get_or (cond p (item ∷ x ∷ items) (cond q (x ∷ items) (x ∷ rest))) place 0 ≡ item
+at_index : (item x : ℕ) (items rest : List ℕ) (index : ℕ) (p q : Bool) → ltb item x ≡ p → eqb item x ≡ q → IsRising (cond p (item ∷ x ∷ items) (cond q (x ∷ items) (x ∷ rest)))
+    → length (cond p (item ∷ x ∷ items) (cond q (x ∷ items) (x ∷ rest))) ≡ suc (suc (length items)) → index < length (cond p (item ∷ x ∷ items) (cond q (x ∷ items) (x ∷ rest)))
+    → get_or (cond p (item ∷ x ∷ items) (cond q (x ∷ items) (x ∷ rest))) index 0 ≡ item
     → ((k : ℕ) → IsRising rest → length rest ≡ suc (length items) → k < length rest → get_or rest k 0 ≡ item → without k rest ≡ items)
-    → without place (cond p (item ∷ x ∷ items) (cond q (x ∷ items) (x ∷ rest))) ≡ x ∷ items
-at_place item x items rest zero true q less same up long within here again = refl
-at_place item x items rest (suc place) true q less same up long within here again =
-    let inside : place < length (x ∷ items) = omega (arith, within) in
-    let above = first_below item (x ∷ items) up (get_or (x ∷ items) place 0) (Member-from_has (x ∷ items) (get_or (x ∷ items) place 0) (has_place (x ∷ items) place inside)) in
+    → without index (cond p (item ∷ x ∷ items) (cond q (x ∷ items) (x ∷ rest))) ≡ x ∷ items
+at_index item x items rest zero true q less same up long within here again = refl
+at_index item x items rest (suc index) true q less same up long within here again =
+    let inside : index < length (x ∷ items) = omega (arith, within) in
+    let above = first_below item (x ∷ items) up (get_or (x ∷ items) index 0) (Member-from_has (x ∷ items) (get_or (x ∷ items) index 0) (has_place (x ∷ items) index inside)) in
     absurd (omega (arith, above, here))
-at_place item x items rest place false true less same up long within here again = absurd (omega (arith, long))
-at_place item x items rest zero false false less same up long within here again = absurd (true≢false (sym (eq-eqb item x (sym here)) ∙ same))
-at_place item x items rest (suc place) false false less same up long within here again =
-    ap (λ l. x ∷ l) (again place (rest_rises x rest up) (omega (arith, long)) (omega (arith, within)) here)
+at_index item x items rest index false true less same up long within here again = absurd (omega (arith, long))
+at_index item x items rest zero false false less same up long within here again = absurd (true≢false (sym (eq-eqb item x (sym here)) ∙ same))
+at_index item x items rest (suc index) false false less same up long within here again =
+    ap (λ l. x ∷ l) (again index (rest_rises x rest up) (omega (arith, long)) (omega (arith, within)) here)
 
-without_item : (item : ℕ) (items : List ℕ) (place : ℕ) → IsRising (with_item item items) → length (with_item item items) ≡ suc (length items) → place < length (with_item item items)
-    → get_or (with_item item items) place 0 ≡ item → without place (with_item item items) ≡ items
+without_item : (item : ℕ) (items : List ℕ) (index : ℕ) → IsRising (with_item item items) → length (with_item item items) ≡ suc (length items) → index < length (with_item item items)
+    → get_or (with_item item items) index 0 ≡ item → without index (with_item item items) ≡ items
 without_item item [] zero up long within here = refl
-without_item item [] (suc place) up long within here = absurd (omega (arith, within))
-without_item item (x ∷ items) place up long within here =
-    at_place item x items (with_item item items) place (ltb item x) (eqb item x) refl refl up long within here (λ k. without_item item items k)
+without_item item [] (suc index) up long within here = absurd (omega (arith, within))
+without_item item (x ∷ items) index up long within here =
+    at_index item x items (with_item item items) index (ltb item x) (eqb item x) refl refl up long within here (λ k. without_item item items k)
 
 -- where a set stands without one of its items
-pub found_below : (list : List Counted) (number place : ℕ) (found : List ℕ) → ArePlacesWithout list (set_at list number) 63 found → place < 63 → place < length (set_at list number)
-    → get_or found place NOWHERE ≢ NOWHERE → (get_or found place NOWHERE < length list) × (set_at list (get_or found place NOWHERE) ≡ without place (set_at list number))
-found_below list number place found all few within said =
-    let at = get_or found place NOWHERE in
+pub found_below : (list : List Counted) (number index : ℕ) (found : List ℕ) → ArePlacesWithout list (set_at list number) 63 found → index < 63 → index < length (set_at list number)
+    → get_or found index NOWHERE ≢ NOWHERE → (get_or found index NOWHERE < length list) × (set_at list (get_or found index NOWHERE) ≡ without index (set_at list number))
+found_below list number index found all few within said =
+    let at = get_or found index NOWHERE in
     let items = set_at list number in
-    let item = get_or items place 0 in
-    let there = all place few within said in
+    let item = get_or items index 0 in
+    let there = all index few within said in
     let longer : IsLongerBy item (get_or list at none).set items = there.1 in
-    let less : without place (with_item item (get_or list at none).set) ≡ (get_or list at none).set = without_item item (get_or list at none).set place (subst IsRising longer.is longer.rises)
-    (sym (ap length longer.is) ∙ longer.size) (subst (λ l. place < length l) longer.is within) (ap (λ l. get_or l place 0) (sym longer.is)) in (
+    let less : without index (with_item item (get_or list at none).set) ≡ (get_or list at none).set = without_item item (get_or list at none).set index (subst IsRising longer.is longer.rises)
+    (sym (ap length longer.is) ∙ longer.size) (subst (λ l. index < length l) longer.is within) (ap (λ l. get_or l index 0) (sym longer.is)) in (
       there.0,
-      set_is list at none there.0 ∙ sym (ap (without place) longer.is ∙ less),
+      set_is list at none there.0 ∙ sym (ap (without index) longer.is ∙ less),
     )
 
 -- ---- what was gone over
 
 -- after a step: what was before, and one item of one set
 abbrev pub SeesOneMore : (ℕ → ℕ → Type 0) → (ℕ → ℕ → Type 0) → ℕ → ℕ → Type 0
-SeesOneMore seen more number item = (above place : ℕ) → more above place → seen above place ⊎ ((above ≡ number) × (place ≡ item))
+SeesOneMore seen more number item = (above index : ℕ) → more above index → seen above index ⊎ ((above ≡ number) × (index ≡ item))
 
 pub sees_one_more : (from number items : ℕ) → SeesOneMore (WasSeen from number items) (WasSeen from number (items + 1)) number items
-sees_one_more from number items above place (after, inl before) = inl (after, inl before)
-sees_one_more from number items above place (after, inr h) = elim (cases_lt place items) [
+sees_one_more from number items above index (after, inl before) = inl (after, inl before)
+sees_one_more from number items above index (after, inr h) = elim (cases_lt index items) [
   | inl less ↦ inl (after, inr (h.0, less))
   | inr more ↦ inr (h.0, (let k = h.1 in omega arith))
 ]
@@ -69,25 +69,25 @@ sees_one_more from number items above place (after, inr h) = elim (cases_lt plac
 module _ (list : List Counted) (supersets : Supersets) where
   -- the same in other words
   seen_alike : (seen other : ℕ → ℕ → Type 0) (marks : List Bool)
-      → ((above place : ℕ) → above < length list → place < length (set_at list above) → other above place → seen above place)
+      → ((above index : ℕ) → above < length list → index < length (set_at list above) → other above index → seen above index)
       → AreMarks list supersets seen marks → AreMarks list supersets other marks
   seen_alike seen other marks alike all = record {
     long = all.long;
     each = λ number below. let old = all.each number below in record {
       some = old.some;
-      each = λ up above place h is. old.each up above place (alike above place is.listed is.within h) is;
+      each = λ up above index h is. old.each up above index (alike above index is.listed is.within h) is;
     };
   }
 
   pub first_item : (from number : ℕ) (marks : List Bool) → AreMarks list supersets (IsBetween from number) marks → AreMarks list supersets (WasSeen from number 0) marks
   first_item from number marks = seen_alike (IsBetween from number) (WasSeen from number 0) marks alike
     where
-      alike : (above place : ℕ) → above < length list → place < length (set_at list above) → WasSeen from number 0 above place → IsBetween from number above place
-      alike above place listed within (after, inl before) = (after, before)
-      alike above place listed within (after, inr h) = absurd (let k = h.1 in omega arith)
+      alike : (above index : ℕ) → above < length list → index < length (set_at list above) → WasSeen from number 0 above index → IsBetween from number above index
+      alike above index listed within (after, inl before) = (after, before)
+      alike above index listed within (after, inr h) = absurd (let k = h.1 in omega arith)
 
   pub all_items : (from number items : ℕ) (marks : List Bool) → length (set_at list number) ≤ items → AreMarks list supersets (WasSeen from number items) marks → AreMarks list supersets (IsBetween from (number + 1)) marks
-  all_items from number items marks whole = seen_alike (WasSeen from number items) (IsBetween from (number + 1)) marks (λ above place listed within (after, before).
+  all_items from number items marks whole = seen_alike (WasSeen from number items) (IsBetween from (number + 1)) marks (λ above index listed within (after, before).
       elim (cases_lt above number) [
         | inl less ↦ (after, inl less)
         | inr more ↦ (let here : above ≡ number = omega (arith, before, more) in
@@ -109,9 +109,9 @@ module _ (list : List Counted) (supersets : Supersets) where
             | inl marked ↦ there.some marked
             | inr unmarked ↦ here.some (sym (ap (λ b. b || get_or marks number false) unmarked) ∙ told)
           ];
-          each = λ sorted above place seen is matters. elim (cases_lt above middle) [
-            | inl less ↦ or_right (get_or others number false) _ (here.each sorted above place (seen.0, less) is matters)
-            | inr more ↦ or_left _ _ (there.each sorted above place (more, seen.1) is matters)
+          each = λ sorted above index seen is matters. elim (cases_lt above middle) [
+            | inl less ↦ or_right (get_or others number false) _ (here.each sorted above index (seen.0, less) is matters)
+            | inr more ↦ or_left _ _ (there.each sorted above index (more, seen.1) is matters)
           ];
         });
   }
@@ -125,8 +125,8 @@ module _ (list : List Counted) (supersets : Supersets) (seen more : ℕ → ℕ 
     long = all.long;
     each = λ number below. let old = all.each number below in record {
       some = old.some;
-      each = λ up above place now is matters. elim (step above place now) [
-        | inl before ↦ old.each up above place before is matters
+      each = λ up above index now is matters. elim (step above index now) [
+        | inl before ↦ old.each up above index before is matters
         | inr here ↦ absurd (missing up number below (sym is.is ∙ (λ i. without (here.1 i) (set_at list (here.0 i)))))
       ];
     };
@@ -153,10 +153,10 @@ module _ (list : List Counted) (supersets : Supersets) (seen more : ℕ → ℕ 
       here = record {
         some = λ told. elim (why told) [
           | inl was ↦ old.some was
-          | inr matters ↦ record { above = sets; place = items; without = is'; matters = matters }
+          | inr matters ↦ record { above = sets; index = items; without = is'; matters = matters }
         ];
-        each = λ up above place now is matters. elim (step above place now) [
-          | inl before ↦ then (inl (old.each up above place before is matters))
+        each = λ up above index now is matters. elim (step above index now) [
+          | inl before ↦ then (inl (old.each up above index before is matters))
           | inr last ↦ then (inr (subst (λ n. Matters supersets (count_at list found) (count_at list n)) last.0 matters))
         ];
       }
@@ -164,8 +164,8 @@ module _ (list : List Counted) (supersets : Supersets) (seen more : ℕ → ℕ 
       there : (number : ℕ) → number < length list → (number ≡ found → ⊥) → IsMark list supersets more number (get_or marks number false)
       there number below other = let kept = all.each number below in record {
         some = kept.some;
-        each = λ up above place now is matters. elim (step above place now) [
-          | inl before ↦ kept.each up above place before is matters
+        each = λ up above index now is matters. elim (step above index now) [
+          | inl before ↦ kept.each up above index before is matters
           | inr last ↦ absurd (other (stands_once list number found up below within
               (sym is.is ∙ (λ i. without (last.1 i) (set_at list (last.0 i))) ∙ is'.is)))
         ];

@@ -15,10 +15,10 @@ use Rattle.basket_sets.proofs.theory.Rising.{contains_each}
 use Rattle.basket_sets.proofs.theory.Subsets.{IsSubset-from_Member}
 use Rattle.basket_rules.specs.declared.association.Rule.{Rule}
 use Rattle.basket_rules.specs.declared.consequents.Consequent.{Consequent}
-use Rattle.basket_rules.specs.declared.consequents.TheConstants.{MOST_PLACES}
+use Rattle.basket_rules.specs.declared.consequents.TheConstants.{MOST_BITS}
 use Rattle.basket_rules.specs.Consistency.{IsConsistent}
 use Rattle.basket_rules.specs.Listed.{set_at}
-use Rattle.basket_rules.specs.Consequents.{has_place, longer, no_places, side_of, with_place}
+use Rattle.basket_rules.specs.Consequents.{has_bit, longer, no_bits, side_of, with_bit}
 use Rattle.basket_rules.specs.Rules.{is_confident_among, rule_among, rules_among_with, rules_among, consequents_of, IsConsequent, IsRuleFor, KeepsConfident}
 use Rattle.basket_rules.proofs.SearchLemmas.{none, set_is}
 use Rattle.basket_rules.proofs.SubsetLemmas.{filter_same}
@@ -88,8 +88,8 @@ pub record IsLevel (listing : Listing) (confidence : ℕ × ℕ) (union : List �
 abbrev pub IsLevelAt : Listing → ℕ × ℕ → ℕ → ℕ → List Consequent → List Rule → Type 0
 IsLevelAt listing confidence number size consequents rules = IsConsistent listing.sets → IsLevel listing confidence (set_at listing.sets number) size consequents rules
 
-pub first_level : (listing : Listing) (confidence : ℕ × ℕ) (number : ℕ) → length (set_at listing.sets number) ≤ MOST_PLACES
-    → IsLevelAt listing confidence number 1 (longer (length (set_at listing.sets number)) (no_places ∷ [])) []
+pub first_level : (listing : Listing) (confidence : ℕ × ℕ) (number : ℕ) → length (set_at listing.sets number) ≤ MOST_BITS
+    → IsLevelAt listing confidence number 1 (longer (length (set_at listing.sets number)) (no_bits ∷ [])) []
 first_level listing confidence number few consistent =
     let union = set_at listing.sets number in
     let all = first_longer union few in
@@ -99,7 +99,7 @@ first_level listing confidence number few consistent =
       smaller = refl;
     }
 
-right_sides : (listing : Listing) (number size : ℕ) (consequents : List Consequent) → IsRising (set_at listing.sets number) → length (set_at listing.sets number) ≤ MOST_PLACES
+right_sides : (listing : Listing) (number size : ℕ) (consequents : List Consequent) → IsRising (set_at listing.sets number) → length (set_at listing.sets number) ≤ MOST_BITS
     → 1 ≤ size → size < length (set_at listing.sets number)
     → ((consequent : Consequent) → Member consequent consequents → Member consequent (sides_of size 0 (set_at listing.sets number))) → AllByRecursion (λ consequent. IsConsequent listing number (side_of (set_at listing.sets number) consequent)) consequents
 right_sides listing number size consequents up few some less within = All-from_Member (λ consequent. IsConsequent listing number (side_of (set_at listing.sets number) consequent)) consequents (λ consequent m.
@@ -121,7 +121,7 @@ filtered_sides test made side (consequent ∷ consequents) = at (test (side cons
     at true e = ap (λ l. made (side consequent) ∷ l) e
     at false e = e
 
-module _ (listing : Listing) (confidence : ℕ × ℕ) (number size : ℕ) (below : number < length listing.sets) (few : length (set_at listing.sets number) ≤ MOST_PLACES) (some : 1 ≤ size)
+module _ (listing : Listing) (confidence : ℕ × ℕ) (number size : ℕ) (below : number < length listing.sets) (few : length (set_at listing.sets number) ≤ MOST_BITS) (some : 1 ≤ size)
     (less : size < length (set_at listing.sets number)) (consequents met : List Consequent) (rules more : List Rule) (keeps : KeepsConfident listing confidence number consequents met rules more)
     (level : IsLevelAt listing confidence number size consequents rules) (consistent : IsConsistent listing.sets) where
   rises : IsRising (set_at listing.sets number)
@@ -131,12 +131,12 @@ module _ (listing : Listing) (confidence : ℕ × ℕ) (number size : ℕ) (belo
   abbrev test : Consequent → Bool
   test consequent = is_met listing confidence (set_at listing.sets number) (side_of (set_at listing.sets number) consequent)
 
-  sides_fall : (place : ℕ) (consequent : Consequent) → test (with_place place consequent) ≡ true → test consequent ≡ true
-  sides_fall place consequent =
+  sides_fall : (index : ℕ) (consequent : Consequent) → test (with_bit index consequent) ≡ true → test consequent ≡ true
+  sides_fall index consequent =
       let set = set_at listing.sets number in
-      met_falls listing number below consistent confidence (side_of set (with_place place consequent)) (side_of set consequent)
-      (chosen_rises (has_place (bit_or consequent.places (2 ^ place))) 0 set rises) (chosen_rises (has_place consequent.places) 0 set rises)
-      (contains_each (side_of set (with_place place consequent)) (side_of set consequent) (side_grows set place consequent))
+      met_falls listing number below consistent confidence (side_of set (with_bit index consequent)) (side_of set consequent)
+      (chosen_rises (has_bit (bit_or consequent.bits (2 ^ index))) 0 set rises) (chosen_rises (has_bit consequent.bits) 0 set rises)
+      (contains_each (side_of set (with_bit index consequent)) (side_of set consequent) (side_grows set index consequent))
 
   kept : (met ≡ filter test (sides_of size 0 (set_at listing.sets number))) × (more ≡ rules ++ map (λ consequent. rule_among listing (set_at listing.sets number) (side_of (set_at listing.sets number) consequent)) met)
   kept =
@@ -194,7 +194,7 @@ all_levels listing confidence number size consequents rules below low high level
 
 -- ---- union after union
 
--- the rules of the sets before a place
+-- the rules of the sets before an index
 abbrev pub AreRulesUpTo : Listing → ℕ × ℕ → ℕ → List Rule → Type 0
 AreRulesUpTo listing confidence number rules =
     IsConsistent listing.sets → rules ≡ flat_map (λ c. rules_among_with listing confidence c.set) (take number listing.sets)

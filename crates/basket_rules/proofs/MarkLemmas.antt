@@ -45,14 +45,14 @@ module _ (list : List Counted) (consistent : IsConsistent list) where
   above_is_superset supersets k a =
       let other = set_at list a.above in
       and_from (contains other (set_at list k)) (not (contains (set_at list k) other))
-      (subst (λ t. contains other t ≡ true) a.without.is (contains_without a.place other))
-      (not_true _ (subst (λ t. contains t other ≡ false) a.without.is (without_lacks a.place other (set_nonempty list consistent a.above a.without.listed).0 a.without.within)))
+      (subst (λ t. contains other t ≡ true) a.without.is (contains_without a.index other))
+      (not_true _ (subst (λ t. contains t other ≡ false) a.without.is (without_lacks a.index other (set_nonempty list consistent a.above a.without.listed).0 a.without.within)))
 
   -- the list has a set with one item more, whose count is between those of both
   pub record IsOneMore (k j : ℕ) : Type 0 where
     pub above : ℕ
-    pub place : ℕ
-    pub without : IsWithout list above place k
+    pub index : ℕ
+    pub without : IsWithout list above index k
     pub no_lower : count_at list j ≤ count_at list above
     pub no_higher : count_at list above ≤ count_at list k
 
@@ -66,11 +66,11 @@ module _ (list : List Counted) (consistent : IsConsistent list) where
       let nonempty = set_nonempty list consistent k below in
       let s = subset_stands list consistent j (with_item more.0 set) there (with_item_nonempty more.0 set nonempty.0) (contains_with_item more.0 set other more.1 tests.0) in
       let p = placed more.0 set more.2 in
-      let back = subset_stands list consistent s.place set s.listed nonempty (subst (λ t. contains t set ≡ true) (sym s.is) (contains_less more.0 set)) in
-      let same = ap (count_at list) (stands_once list back.place k consistent.in_order back.listed below back.is) in
+      let back = subset_stands list consistent s.index set s.listed nonempty (subst (λ t. contains t set ≡ true) (sym s.is) (contains_less more.0 set)) in
+      let same = ap (count_at list) (stands_once list back.index k consistent.in_order back.listed below back.is) in
       record {
-        above = s.place;
-        place = p.0;
+        above = s.index;
+        index = p.0;
         without = record { listed = s.listed; within = subst (λ t. p.0 < length t) (sym s.is) p.1; is = ap (without p.0) s.is ∙ p.2 };
         no_lower = s.enough;
         no_higher = omega (arith, same, back.enough);
@@ -96,7 +96,7 @@ module _ (list : List Counted) (consistent : IsConsistent list) where
           let same = eqb-true (count_at list j) (count_at list k) tests.1 in
           let low = o.no_lower in
           let high = o.no_higher in
-          true≢false (sym (m.each consistent.in_order o.above o.place (omega arith, o.without.listed) o.without (omega (arith, same, low, high))) ∙ true_not mark h))))
+          true≢false (sym (m.each consistent.in_order o.above o.index (omega arith, o.without.listed) o.without (omega (arith, same, low, high))) ∙ true_not mark h))))
 
   maximal_at : (k : ℕ) (mark : Bool) → k < length list → IsMark list All (IsBetween 0 (length list)) k mark → is_maximal_in list (entry list k) ≡ not mark
   maximal_at k mark below m = same_test _ _ into back
@@ -113,7 +113,7 @@ module _ (list : List Counted) (consistent : IsConsistent list) where
       back : not mark ≡ true → is_maximal_in list (entry list k) ≡ true
       back h = all_entries list (λ o. not (is_proper_superset o.set (set_at list k))) (λ j there. not_true _ (false_from_ne_true _ (λ e.
           let o = one_more k j below there e in
-          true≢false (sym (m.each consistent.in_order o.above o.place (omega arith, o.without.listed) o.without tt) ∙ true_not mark h))))
+          true≢false (sym (m.each consistent.in_order o.above o.index (omega arith, o.without.listed) o.without tt) ∙ true_not mark h))))
 
 -- ---- all sets
 

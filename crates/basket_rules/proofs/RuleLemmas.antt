@@ -14,7 +14,7 @@ use Rattle.basket_rules.specs.Listed.{set_at, count_at}
 use Rattle.basket_rules.specs.Confident.{found_rule, rule_in}
 use Rattle.basket_rules.specs.Consequents.{side_of}
 use Rattle.basket_rules.specs.Rules.{difference, is_confident_among, rule_among, IsCountIn, IsConsequent, IsRuleFor}
-use Rattle.basket_rules.proofs.theory.Consistency.{Stands, count_at_place, count_of_standing, set_nonempty, some_count, subset_stands}
+use Rattle.basket_rules.proofs.theory.Consistency.{Stands, count_at_index, count_of_standing, set_nonempty, some_count, subset_stands}
 use Rattle.basket_rules.proofs.theory.Rules.{contains_difference, difference-rises, difference_falls, difference_left, scaled}
 
 -- ---- the antecedent
@@ -49,10 +49,10 @@ module _ (listing : Listing) (number : ℕ) (within : number < length listing.se
       let fewer : length part < length union = omega (arith, less, shorter) in
       let larger = antecedent_stands part rises fewer in
       let smaller = antecedent_stands consequent up less in
-      let below = subset_stands list consistent larger.place (difference union consequent) larger.listed (left_nonempty consequent up less)
+      let below = subset_stands list consistent larger.index (difference union consequent) larger.listed (left_nonempty consequent up less)
       (subst (λ t. contains t (difference union consequent) ≡ true) (sym larger.is) (difference_falls union consequent part h)) in
       let one = count_of_standing list (difference union part) (count_at list number) consistent.in_order larger in
-      let other = count_of_standing list (difference union consequent) (count_at list larger.place) consistent.in_order below in
+      let other = count_of_standing list (difference union consequent) (count_at list larger.index) consistent.in_order below in
       let bound : count_in list (difference union part) ≤ count_in list (difference union consequent) = omega (arith, one, other, below.enough) in
       and_from (ltb (length part) (length union)) (is_confident_among listing confidence union part) (lt-ltb (length part) (length union) fewer)
       (le-leb (confidence.0 * count_in list (difference union part)) (count_in list union * confidence.1)
@@ -77,7 +77,7 @@ module _ (listing : Listing) (number : ℕ) (within : number < length listing.se
     some_consequent count = standing consequent count (subset_stands listing.sets consistent number consequent within (side.0.0, side.0.1) side.0.2)
 
     whole_count : count_at listing.sets number ≡ count_in listing.sets (set_at listing.sets number)
-    whole_count = sym (count_at_place listing.sets number consistent.in_order within)
+    whole_count = sym (count_at_index listing.sets number consistent.in_order within)
 
   -- by the counts that were found, the rule meets the confidence or doesn't
   tested : (confidence : ℕ × ℕ) (antecedent_count : ℕ) (b : Bool) → IsConsistent listing.sets → IsConsequent listing number consequent → IsCountIn listing.sets (difference (set_at listing.sets number) consequent) antecedent_count

@@ -73,7 +73,7 @@ pub compared_at : (list : List Counted) (set : List ℕ) (i : ℕ) (items : List
     → result ≡ report_order items set → result ≡ o → HoldsAt (λ x. report_order x.set set ≡ o) list i
 compared_at list set i items result o below is compared same d = ap (λ s. report_order s set) (sym (is ∙ set_is list i d below)) ∙ sym compared ∙ same
 
--- ---- one set at one place
+-- ---- one set at one index
 
 before_is_other : (list : List Counted) (i j : ℕ) → IsSorted list → i < j → j < length list → set_at list i ≡ set_at list j → ⊥
 before_is_other list i j up less below e =

@@ -24,7 +24,7 @@ use Rattle.basket_sets.proofs.theory.Members.{Member, Member-append, Member-map,
 use Rattle.basket_sets.proofs.theory.Rising.{contains-refl, contains_each, Member-rising}
 use Rattle.basket_sets.proofs.theory.Subsets.{IsSubset-from_Member, size_of_Member}
 use Rattle.basket_sets.proofs.theory.Support.{frequent_items, support-cons}
-use Rattle.basket_rules.specs.declared.consequents.TheConstants.{MOST_PLACES}
+use Rattle.basket_rules.specs.declared.consequents.TheConstants.{MOST_BITS}
 use Rattle.basket_rules.specs.Consistency.{IsConsistent}
 use Rattle.basket_rules.specs.Listed.{sets_in, set_at}
 use Rattle.basket_rules.specs.Rules.{consequents_of}
@@ -88,7 +88,7 @@ module _ (list : List Counted) (consistent : IsConsistent list) (number : ℕ) (
       let sound = sound_of baskets (Count 1) c.0 c.1 in
       let held = contains_each whole c.0.set (λ item n. elim (Member-append item whole [] (Member-rising (all_items baskets) item (frequent_items baskets (Count 1) c.0.set sound.1 item n))) [ inl h ↦ h | inr h ↦ absurd h ]) in
       let s = subset_stands list consistent number c.0.set below sound.0 held in
-      subst (λ t. Member t (sets_in list)) (sym (set_is list s.place none s.listed) ∙ s.is ∙ c.2) (Member-map (λ (x : Counted). x.set) (get_or list s.place none) list (entry_listed list s.place s.listed))
+      subst (λ t. Member t (sets_in list)) (sym (set_is list s.index none s.listed) ∙ s.is ∙ c.2) (Member-map (λ (x : Counted). x.set) (get_or list s.index none) list (entry_listed list s.index s.listed))
 
   many_sets : 2 ^ length (set_at list number) ≤ length list + 1
   many_sets =
@@ -106,7 +106,7 @@ module _ (list : List Counted) (consistent : IsConsistent list) (number : ℕ) (
       let other = length-map (frequent_of baskets (Count 1)) (λ (x : Counted). x.set) in
       omega (arith, many, few, long, other)
 
-  pub none_so_large : length list < 2 ^ 64 → MOST_PLACES < length (set_at list number) → ⊥
+  pub none_so_large : length list < 2 ^ 64 → MOST_BITS < length (set_at list number) → ⊥
   none_so_large fits deep =
       let many = many_sets in
       let grows : 2 ^ 65 ≤ 2 ^ length (set_at list number) = pow_mono {i = 65} {j = length (set_at list number)} (omega (arith, deep)) in

@@ -29,65 +29,65 @@ pub flat_map_same : {X Y : Type 0} (f g : X → List Y) (xs : List X) → ((x : 
 flat_map_same f g [] same = refl
 flat_map_same f g (x ∷ xs) same = λ i. same x (inl refl) i ++ flat_map_same f g xs (λ y m. same y (inr m)) i
 
--- ---- a place left out
+-- ---- an index left out
 
 -- what is left stands in the list
-pub Member-without : (place : ℕ) (items : List ℕ) (x : ℕ) → Member x (without place items) → Member x items
-Member-without place [] x m = m
+pub Member-without : (index : ℕ) (items : List ℕ) (x : ℕ) → Member x (without index items) → Member x items
+Member-without index [] x m = m
 Member-without zero (y ∷ items) x m = inr m
-Member-without (suc place) (y ∷ items) x (inl e) = inl e
-Member-without (suc place) (y ∷ items) x (inr m) = inr (Member-without place items x m)
+Member-without (suc index) (y ∷ items) x (inl e) = inl e
+Member-without (suc index) (y ∷ items) x (inr m) = inr (Member-without index items x m)
 
--- so does each item that stands at another place
-pub Member-into_without : (place : ℕ) (items : List ℕ) (none x : ℕ) → Member x items → (x ≡ get_or items place none → ⊥) → Member x (without place items)
-Member-into_without place [] none x m other = m
+-- so does each item that stands at another index
+pub Member-into_without : (index : ℕ) (items : List ℕ) (none x : ℕ) → Member x items → (x ≡ get_or items index none → ⊥) → Member x (without index items)
+Member-into_without index [] none x m other = m
 Member-into_without zero (y ∷ items) none x (inl e) other = absurd (other (sym e))
 Member-into_without zero (y ∷ items) none x (inr m) other = m
-Member-into_without (suc place) (y ∷ items) none x (inl e) other = inl e
-Member-into_without (suc place) (y ∷ items) none x (inr m) other = inr (Member-into_without place items none x m other)
+Member-into_without (suc index) (y ∷ items) none x (inl e) other = inl e
+Member-into_without (suc index) (y ∷ items) none x (inr m) other = inr (Member-into_without index items none x m other)
 
-pub length-without : (place : ℕ) (items : List ℕ) → place < length items → length (without place items) + 1 ≡ length items
-length-without place [] below = absurd (omega (arith, below))
+pub length-without : (index : ℕ) (items : List ℕ) → index < length items → length (without index items) + 1 ≡ length items
+length-without index [] below = absurd (omega (arith, below))
 length-without zero (y ∷ items) below = omega arith
-length-without (suc place) (y ∷ items) below = let rest = length-without place items (omega (arith, below)) in omega (arith, rest)
+length-without (suc index) (y ∷ items) below = let rest = length-without index items (omega (arith, below)) in omega (arith, rest)
 
-pub without-rises : (place : ℕ) (items : List ℕ) → IsRising items → IsRising (without place items)
-without-rises place [] up = up
+pub without-rises : (index : ℕ) (items : List ℕ) → IsRising items → IsRising (without index items)
+without-rises index [] up = up
 without-rises zero (y ∷ items) up = rest_rises y items up
-without-rises (suc place) (y ∷ items) up =
-    cons_rises y (without place items) (λ x m. first_below y items up x (Member-without place items x m)) (without-rises place items (rest_rises y items up))
+without-rises (suc index) (y ∷ items) up =
+    cons_rises y (without index items) (λ x m. first_below y items up x (Member-without index items x m)) (without-rises index items (rest_rises y items up))
 
--- an item of a rising list is gone when its place is left out
-pub lacks : (place : ℕ) (items : List ℕ) → IsRising items → place < length items → (x : ℕ) × Member x items × (Member x (without place items) → ⊥)
-lacks place [] up below = absurd (omega (arith, below))
+-- an item of a rising list is gone when its index is left out
+pub lacks : (index : ℕ) (items : List ℕ) → IsRising items → index < length items → (x : ℕ) × Member x items × (Member x (without index items) → ⊥)
+lacks index [] up below = absurd (omega (arith, below))
 lacks zero (y ∷ items) up below = (y, inl refl, λ m. let b = first_below y items up y m in absurd (omega arith))
-lacks (suc place) (y ∷ items) up below =
-    let r = lacks place items (rest_rises y items up) (omega (arith, below)) in
+lacks (suc index) (y ∷ items) up below =
+    let r = lacks index items (rest_rises y items up) (omega (arith, below)) in
     (r.0, inr r.1, gone r.0 r.1 r.2)
   where
-    gone : (x : ℕ) → Member x items → (Member x (without place items) → ⊥) → Member x (y ∷ without place items) → ⊥
+    gone : (x : ℕ) → Member x items → (Member x (without index items) → ⊥) → Member x (y ∷ without index items) → ⊥
     gone x m lack (inl e) = let b = first_below y items up x m in omega arith
     gone x m lack (inr n) = lack n
 
 -- a set contains it without an item, and not the other way round
-pub contains_without : (place : ℕ) (items : List ℕ) → contains items (without place items) ≡ true
-contains_without place items = contains_each items (without place items) (Member-without place items)
+pub contains_without : (index : ℕ) (items : List ℕ) → contains items (without index items) ≡ true
+contains_without index items = contains_each items (without index items) (Member-without index items)
 
-pub without_lacks : (place : ℕ) (items : List ℕ) → IsRising items → place < length items → contains (without place items) items ≡ false
-without_lacks place items up below = false_from_ne_true _ (λ h. let r = lacks place items up below in r.2 (has_each (without place items) items h r.0 r.1))
+pub without_lacks : (index : ℕ) (items : List ℕ) → IsRising items → index < length items → contains (without index items) items ≡ false
+without_lacks index items up below = false_from_ne_true _ (λ h. let r = lacks index items up below in r.2 (has_each (without index items) items h r.0 r.1))
 
 -- ---- an item more
 
 placed_at : (item x : ℕ) (items rest : List ℕ) (p q : Bool) → eqb item x ≡ q → has (x ∷ items) item ≡ false
-    → ((place : ℕ) × (place < length rest) × (without place rest ≡ items))
-    → (place : ℕ) × (place < length (cond p (item ∷ x ∷ items) (cond q (x ∷ items) (x ∷ rest)))) × (without place (cond p (item ∷ x ∷ items) (cond q (x ∷ items) (x ∷ rest))) ≡ x ∷ items)
+    → ((index : ℕ) × (index < length rest) × (without index rest ≡ items))
+    → (index : ℕ) × (index < length (cond p (item ∷ x ∷ items) (cond q (x ∷ items) (x ∷ rest)))) × (without index (cond p (item ∷ x ∷ items) (cond q (x ∷ items) (x ∷ rest))) ≡ x ∷ items)
 placed_at item x items rest true q e lack r = (0, omega arith, refl)
 placed_at item x items rest false true e lack r =
     absurd (true≢false (sym (has-from_Member (x ∷ items) item (inl (sym (eqb-true item x e)))) ∙ lack))
 placed_at item x items rest false false e lack r = (suc r.0, omega (arith, r.1), ap (λ l. x ∷ l) r.2)
 
--- a set with an item more is that set without the item's place
-pub placed : (item : ℕ) (items : List ℕ) → has items item ≡ false → (place : ℕ) × (place < length (with_item item items)) × (without place (with_item item items) ≡ items)
+-- a set with an item more is that set without the item's index
+pub placed : (item : ℕ) (items : List ℕ) → has items item ≡ false → (index : ℕ) × (index < length (with_item item items)) × (without index (with_item item items) ≡ items)
 placed item [] lack = (0, omega arith, refl)
 placed item (x ∷ items) lack = placed_at item x items (with_item item items) (ltb item x) (eqb item x) refl lack (placed item items (rest_lacks lack))
   where

@@ -27,7 +27,7 @@ rule_from sides counts = record {
   lift = lift_of counts;
 }
 
--- the rule with the set at a place as its union
+-- the rule with the set at an index as its union
 abbrev pub rule_in : Listing → ℕ → ConfidentRule → Rule
 rule_in listing number met = record {
   antecedent = difference (set_at listing.sets number) (side_of (set_at listing.sets number) met.consequent);

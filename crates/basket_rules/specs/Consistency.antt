@@ -15,7 +15,7 @@ count_in (c ∷ list) set = if pointwise nat_eq c.set set then c.count else coun
 
 -- each nonempty subset with one item less has a count in the list that is no lower
 abbrev pub HasSubsets : List Counted → Counted → Type 0
-HasSubsets list c = (place : ℕ) → place < length c.set → 2 ≤ length c.set → c.count ≤ count_in list (without place c.set)
+HasSubsets list c = (index : ℕ) → index < length c.set → 2 ≤ length c.set → c.count ≤ count_in list (without index c.set)
 
 -- the sets of a list are nonempty and in report order, have counts of at least 1, and their nonempty subsets are there too, with counts that are no lower
 pub record IsConsistent (list : List Counted) : Type 0 where

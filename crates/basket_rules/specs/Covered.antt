@@ -14,22 +14,22 @@ Matters SameCount count above = above ≡ count
 -- some set of the list has one item more, and matters
 pub record HasSuperset (list : List Counted) (supersets : Supersets) (number : ℕ) : Type 0 where
   pub above : ℕ
-  pub place : ℕ
-  pub without : IsWithout list above place number
+  pub index : ℕ
+  pub without : IsWithout list above index number
   pub matters : Matters supersets (count_at list number) (count_at list above)
 
--- the sets from a place up to another were gone over, with all their items
+-- the sets from an index up to another were gone over, with all their items
 abbrev pub IsBetween : ℕ → ℕ → ℕ → ℕ → Type 0
-IsBetween from end above place = (from ≤ above) × (above < end)
+IsBetween from end above index = (from ≤ above) × (above < end)
 
--- so were, of the set at a place, the items before another place
+-- so were, of the set at an index, the items before another index
 abbrev pub WasSeen : ℕ → ℕ → ℕ → ℕ → ℕ → Type 0
-WasSeen from number items above place = (from ≤ above) × ((above < number) ⊎ ((above ≡ number) × (place < items)))
+WasSeen from number items above index = (from ≤ above) × ((above < number) ⊎ ((above ≡ number) × (index < items)))
 
 -- a set is marked only if such a superset is there, and if one was gone over
 pub record IsMark (list : List Counted) (supersets : Supersets) (seen : ℕ → ℕ → Type 0) (number : ℕ) (mark : Bool) : Type 0 where
   pub some : IsTrue mark → HasSuperset list supersets number
-  pub each : IsSorted list → (above place : ℕ) → seen above place → IsWithout list above place number → Matters supersets (count_at list number) (count_at list above) → IsTrue mark
+  pub each : IsSorted list → (above index : ℕ) → seen above index → IsWithout list above index number → Matters supersets (count_at list number) (count_at list above) → IsTrue mark
 
 -- beside each set of the list stands its mark
 pub record AreMarks (list : List Counted) (supersets : Supersets) (seen : ℕ → ℕ → Type 0) (marks : List Bool) : Type 0 where

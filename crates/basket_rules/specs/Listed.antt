@@ -1,4 +1,4 @@
--- The list of the frequent sets of a database, place by place.
+-- The list of the frequent sets of a database, index by index.
 use Rattle.std.specs.Prelude.{◌≡◌, ℕ, List, [], map, slice_index_or}
 use Rattle.basket_core.specs.Listing.{Listing}
 use Rattle.basket_sets.specs.declared.weighted.Weighted.{Weighted}
@@ -21,9 +21,9 @@ sets_in list = map (λ c. c.set) list
 abbrev pub IsSorted : List Counted → Type 0
 IsSorted list = IsInReportOrder (sets_in list)
 
--- the set at a place, and its count
+-- the set at an index, and its count
 abbrev pub set_at : List Counted → ℕ → List ℕ
-set_at list place = slice_index_or (sets_in list) place []
+set_at list index = slice_index_or (sets_in list) index []
 
 abbrev pub count_at : List Counted → ℕ → ℕ
-count_at list place = slice_index_or (map (λ c. c.count) list) place 0
+count_at list index = slice_index_or (map (λ c. c.count) list) index 0

@@ -92,11 +92,11 @@ AreRulesWith listing confidence number rules =
 abbrev pub IsCountIn : List Counted → List ℕ → ℕ → Type 0
 IsCountIn list set count = IsSorted list → count ≡ count_in list set
 
--- a consequent of a rule with the set at a place as its union
+-- a consequent of a rule with the set at an index as its union
 abbrev pub IsConsequent : Listing → ℕ → List ℕ → Type 0
 IsConsequent listing number consequent = IsSublist (set_at listing.sets number) consequent × (length consequent < length (set_at listing.sets number))
 
--- the rule with the set at a place as its union and this consequent, where it meets the confidence
+-- the rule with the set at an index as its union and this consequent, where it meets the confidence
 abbrev pub IsRuleFor : Listing → ℕ × ℕ → ℕ → List ℕ → Option Rule → Type 0
 IsRuleFor listing confidence number consequent found = IsConsistent listing.sets → IsConsequent listing number consequent
     → found ≡ (if is_confident_among listing confidence (set_at listing.sets number) consequent then Some (rule_among listing (set_at listing.sets number) consequent) else None)

@@ -8,7 +8,7 @@ ghost use Rattle.basket_rules.specs.Consequents.{side_of};
 ghost use Rattle.basket_rules.specs.Rules.{KeepsConfident, AreRules, AreRulesWith, IsRuleFor, rules_among, rules_among_with};
 
 use crate::confident::ConfidentRule;
-use crate::consequents::{Consequent, MOST_PLACES, Sides, longer_consequents};
+use crate::consequents::{Consequent, MOST_BITS, Sides, longer_consequents};
 use crate::listed::items_at;
 use crate::query::RuleQuery;
 use crate::rule_counts::RuleCounts;
@@ -51,7 +51,7 @@ pub fn rules(alloc: Global, frequent: &Frequent, confidence: Share) -> Result<Ve
     Ok(rules)
 }
 
-/// The rules that meet the confidence whose union is the set at the place.
+/// The rules that meet the confidence whose union is the set at the index.
 pub fn rules_with(
     alloc: Global,
     frequent: &Frequent,
@@ -70,7 +70,7 @@ pub fn rules_with(
     Ok(rules)
 }
 
-/// Adds the rules with the set at the place as their union.
+/// Adds the rules with the set at the index as their union.
 fn add_rules(
     alloc: Global,
     frequent: &Frequent,
@@ -104,7 +104,7 @@ fn rule_of_sides(alloc: Global, sides: &Sides, counts: &RuleCounts) -> Result<Ru
     })
 }
 
-/// The rules that meet the confidence whose union is the set at the place, without their items.
+/// The rules that meet the confidence whose union is the set at the index, without their items.
 /// Consequents go level by level: those of one more item are the ones that met the confidence, each
 /// with an item before its first.
 pub fn met_rules(
@@ -124,7 +124,7 @@ pub fn met_rules(
     let count = items.len();
     let mut rules = Vec::with_capacity(alloc, sets.len().min(1 << count.min(MOST_ROOM)))?;
     // No list has the subsets of a larger set.
-    if count > MOST_PLACES {
+    if count > MOST_BITS {
         return Ok(rules);
     }
     set_index.hashes.set(items)?;
@@ -181,12 +181,12 @@ fn rule_for(
 ) -> Result<Option<ConfidentRule>, AllocError>
     ensures { IfOk result (λ found. IsRuleFor query.now.frequent.now query.now.confidence query.now.number (side_of (set_at query.now.frequent.now.sets query.now.number) consequent) (found_rule query.now.frequent.now query.now.number found)) }
 {
-    let part = set_index.hashes.side(consequent.places);
-    let antecedent_count = query.count_of(!consequent.places, whole.wrapping_sub(part), set_index)?;
+    let part = set_index.hashes.side(consequent.bits);
+    let antecedent_count = query.count_of(!consequent.bits, whole.wrapping_sub(part), set_index)?;
     if !meets(query.confidence, query.count, antecedent_count) {
         return Ok(None);
     }
-    let consequent_count = query.count_of(consequent.places, part, set_index)?;
+    let consequent_count = query.count_of(consequent.bits, part, set_index)?;
     Ok(ConfidentRule::new(consequent, antecedent_count, consequent_count))
 }
 

@@ -1,70 +1,71 @@
-//! Consequents of the rules with one union, each as the places of its items in the union.
+//! Consequents of the rules with one union, each as the bits of its items in the union.
 ghost use Rattle.std.specs.Prelude.{◌≡◌, ◌≤◌, ◌<◌, ◌++◌, IfOk, OnOk, length, not, take};
-ghost use Rattle.basket_rules.specs.Consequents.{chosen, has_place, longer, longer_by, no_places, with_place};
+ghost use Rattle.basket_rules.specs.Consequents.{chosen, has_bit, longer, longer_by, no_bits, with_bit};
 
 use std::alloc::{AllocError, Global};
 
-/// How many places have a bit in a word. No list has the subsets of a set of this many items.
-pub const MOST_PLACES: usize = 64;
+/// How many indexes have a bit in a word. No list has the subsets of a set of this many items.
+pub const MOST_BITS: usize = 64;
 
-/// A consequent: the bits of its places, and the first of these.
+/// A consequent: a bit for the index of each of its items in the union, and the first of these
+/// indexes.
 #[derive(Clone, Copy, Debug)]
 pub struct Consequent {
-    pub places: u64,
+    pub bits: u64,
     pub first: usize,
 }
 
 impl Consequent {
     /// The empty set.
     pub fn none() -> Self
-        ensures { result ≡ no_places }
+        ensures { result ≡ no_bits }
     {
         Consequent {
-            places: 0,
-            first: MOST_PLACES,
+            bits: 0,
+            first: MOST_BITS,
         }
     }
 
-    /// The set with a place before its first.
-    fn with(&self, place: usize) -> Self
-        requires { place < MOST_PLACES }
-        ensures { result ≡ with_place place self.now }
+    /// The set with an index before its first.
+    fn with(&self, index: usize) -> Self
+        requires { index < MOST_BITS }
+        ensures { result ≡ with_bit index self.now }
     {
         Consequent {
-            places: self.places | (1 << place),
-            first: place,
+            bits: self.bits | (1 << index),
+            first: index,
         }
     }
 }
 
-/// The consequents with one place more before their first, in report order if these are.
+/// The consequents with one index more before their first, in report order if these are.
 pub fn longer_consequents(
     alloc: Global,
     met: &[Consequent],
     count: usize,
 ) -> Result<Vec<Consequent>, AllocError>
-    requires { count ≤ MOST_PLACES }
+    requires { count ≤ MOST_BITS }
     ensures { IfOk result (λ consequents. consequents.items ≡ longer count met.now) }
 {
     let mut consequents = Vec::with_capacity(alloc, met.len())?;
-    for place in 0..count {
-        add_longer(&mut consequents, met, place)?;
+    for index in 0..count {
+        add_longer(&mut consequents, met, index)?;
     }
     Ok(consequents)
 }
 
-/// Adds the consequents with this place before their first.
+/// Adds the consequents with this index before their first.
 fn add_longer(
     consequents: &mut Vec<Consequent>,
     met: &[Consequent],
-    place: usize,
+    index: usize,
 ) -> Result<(), AllocError>
-    requires { place < MOST_PLACES }
-    ensures { OnOk result (consequents.new.items ≡ consequents.old.items ++ longer_by met.now place) }
+    requires { index < MOST_BITS }
+    ensures { OnOk result (consequents.new.items ≡ consequents.old.items ++ longer_by met.now index) }
 {
     for consequent in met {
-        if place < consequent.first {
-            consequents.push(consequent.with(place))?;
+        if index < consequent.first {
+            consequents.push(consequent.with(index))?;
         }
     }
     Ok(())
@@ -86,17 +87,17 @@ impl Sides {
         }
     }
 
-    /// Makes `consequent` the items of the union at the places of a word, and `antecedent` the
+    /// Makes `consequent` the items of the union at the bits of a word, and `antecedent` the
     /// others. Each item is put on both sides, and stays on one: no branch depends on the word.
-    pub(crate) fn fill(&mut self, union: &[u32], places: u64) -> Result<(), AllocError>
-        ensures antecedent { OnOk result (self.new.antecedent.items ≡ chosen (λ place. not (has_place places place)) union.now) }
-        ensures consequent { OnOk result (self.new.consequent.items ≡ chosen (has_place places) union.now) }
+    pub(crate) fn fill(&mut self, union: &[u32], bits: u64) -> Result<(), AllocError>
+        ensures antecedent { OnOk result (self.new.antecedent.items ≡ chosen (λ index. not (has_bit bits index)) union.now) }
+        ensures consequent { OnOk result (self.new.consequent.items ≡ chosen (has_bit bits) union.now) }
     {
         self.antecedent.resize(union.len(), 0)?;
         self.consequent.resize(union.len(), 0)?;
         let (antecedent, consequent) = part(
             union,
-            places,
+            bits,
             &mut self.antecedent,
             &mut self.consequent,
         );
@@ -106,20 +107,15 @@ impl Sides {
     }
 }
 
-/// Puts the items of the union at the places of a word at the beginning of `consequent`, and the
+/// Puts the items of the union at the bits of a word at the beginning of `consequent`, and the
 /// others at the beginning of `antecedent`. Returns how many these and those are.
-fn part(
-    union: &[u32],
-    places: u64,
-    antecedent: &mut [u32],
-    consequent: &mut [u32],
-) -> (usize, usize)
+fn part(union: &[u32], bits: u64, antecedent: &mut [u32], consequent: &mut [u32]) -> (usize, usize)
     requires antecedent { length antecedent.old ≡ length union.now }
     requires consequent { length consequent.old ≡ length union.now }
-    ensures antecedent { take result.0 antecedent.new ≡ chosen (λ place. not (has_place places place)) union.now }
-    ensures consequent { take result.1 consequent.new ≡ chosen (has_place places) union.now }
+    ensures antecedent { take result.0 antecedent.new ≡ chosen (λ index. not (has_bit bits index)) union.now }
+    ensures consequent { take result.1 consequent.new ≡ chosen (has_bit bits) union.now }
 {
-    let mut rest = places;
+    let mut rest = bits;
     let mut in_antecedent = 0;
     let mut in_consequent = 0;
     for item in union {

@@ -66,7 +66,7 @@ pub fn covered(
     covered_between(Covering::new(alloc, sets, supersets), 0, sets.len())
 }
 
-/// Goes over the supersets from a place up to another, those of one size together.
+/// Goes over the supersets from an index up to another, those of one size together.
 pub fn covered_between(
     covering: Covering<'_>,
     from: usize,
@@ -151,47 +151,47 @@ fn mark_subsets(
         ..
     } = covering;
     let count = sets.count(number);
-    for place in 0..sets.size(number) {
-        if let Some(at) = find_below(sets, found, number, place, hint) {
+    for index in 0..sets.size(number) {
+        if let Some(at) = find_below(sets, found, number, index, hint) {
             marks[at] = supersets.marked(marks[at], sets.count(at), count);
         }
     }
 }
 
-/// The place of the set at `number` without the item at the place.
+/// The index of the set at `number` without the item at the index.
 fn find_below(
     sets: &CountedSets,
     found: &[u32; MOST_ITEMS],
     number: usize,
-    place: usize,
+    index: usize,
     hint: &mut usize,
 ) -> Option<usize>
     requires listed { number < length sets.now }
-    requires place { place < length (set_at sets.now number) }
+    requires index { index < length (set_at sets.now number) }
     requires found { ArePlacesWithout sets.now (set_at sets.now number) MOST_ITEMS found.now }
     ensures bound { IfSome result (λ at. at < length sets.now) }
-    ensures found { IfSome result (λ at. set_at sets.now at ≡ without place (set_at sets.now number)) }
-    ensures missing { IfNone result (IsMissing sets.now (without place (set_at sets.now number))) }
+    ensures found { IfSome result (λ at. set_at sets.now at ≡ without index (set_at sets.now number)) }
+    ensures missing { IfNone result (IsMissing sets.now (without index (set_at sets.now number))) }
 {
-    if place < MOST_ITEMS && found[place] != NOWHERE {
-        return Some(found[place] as usize);
+    if index < MOST_ITEMS && found[index] != NOWHERE {
+        return Some(found[index] as usize);
     }
-    search_below(sets, number, place, hint)
+    search_below(sets, number, index, hint)
 }
 
-/// Looks for the set at `number` without the item at the place in the list. The search begins at
-/// the hint, which then becomes the place.
+/// Looks for the set at `number` without the item at the index in the list. The search begins at
+/// the hint, which then becomes the index.
 #[inline(never)]
-fn search_below(sets: &CountedSets, number: usize, place: usize, hint: &mut usize) -> Option<usize>
+fn search_below(sets: &CountedSets, number: usize, index: usize, hint: &mut usize) -> Option<usize>
     requires listed { number < length sets.now }
-    requires place { place < length (set_at sets.now number) }
+    requires index { index < length (set_at sets.now number) }
     ensures bound { IfSome result (λ at. at < length sets.now) }
-    ensures found { IfSome result (λ at. set_at sets.now at ≡ without place (set_at sets.now number)) }
-    ensures missing { IfNone result (IsMissing sets.now (without place (set_at sets.now number))) }
+    ensures found { IfSome result (λ at. set_at sets.now at ≡ without index (set_at sets.now number)) }
+    ensures missing { IfNone result (IsMissing sets.now (without index (set_at sets.now number))) }
 {
     let mut room = [0; MOST_ITEMS];
     let items = items_at(sets, number, &mut room);
-    let found = find_near(sets, &items[..place], &items[place + 1..], *hint);
+    let found = find_near(sets, &items[..index], &items[index + 1..], *hint);
     *hint = found.unwrap_or(*hint);
     found
 }

@@ -27,11 +27,11 @@ impl ItemHashes {
         Ok(())
     }
 
-    /// The hash of the items of the union at the places of a word, which is the sum of theirs. So
+    /// The hash of the items of the union at the bits of a word, which is the sum of theirs. So
     /// that of the other items is the hash of the union less it.
-    pub fn side(&self, places: u64) -> u64 {
+    pub fn side(&self, bits: u64) -> u64 {
         let mut sum: u64 = 0;
-        let mut rest = places;
+        let mut rest = bits;
         for hash in &self.hashes {
             sum = sum.wrapping_add(*hash & (rest % 2).wrapping_neg());
             rest /= 2;

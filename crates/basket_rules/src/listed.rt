@@ -6,15 +6,15 @@ ghost use Rattle.basket_sets.specs.Itemset.{IsRising};
 use basket_core::CountedSets;
 use basket_lists::MOST_ITEMS;
 
-/// The items of the set at a place, written into the room if the set is kept as a word.
+/// The items of the set at an index, written into the room if the set is kept as a word.
 pub fn items_at<'a>(
     sets: &'a CountedSets,
-    place: usize,
+    index: usize,
     room: &'a mut [u32; MOST_ITEMS],
 ) -> &'a [u32]
-    requires { place < length sets.now }
-    ensures is { result.now ≡ set_at sets.now place }
+    requires { index < length sets.now }
+    ensures is { result.now ≡ set_at sets.now index }
     ensures rising { IsRising result.now }
 {
-    sets.items(place, room)
+    sets.items(index, room)
 }

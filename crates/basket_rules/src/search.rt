@@ -1,4 +1,4 @@
-//! A search for a set in the list of the frequent sets, fast if it is close after a given place.
+//! A search for a set in the list of the frequent sets, fast if it is close after a given index.
 //!
 //! The set comes in two parts, the items of `front` and then those of `rest`, so that a set without
 //! one of its items need not be copied.
@@ -13,7 +13,7 @@ use basket_lists::MOST_ITEMS;
 use basket_order::NearSearch;
 use std::cmp::Ordering;
 
-/// The place of the set in a list as it is kept. The search begins at the place `near`; whatever
+/// The index of the set in a list as it is kept. The search begins at the index `near`; whatever
 /// that is, the set is found.
 pub fn find_near(sets: &CountedSets, front: &[u32], rest: &[u32], near: usize) -> Option<usize>
     ensures bound { IfSome result (λ at. at < length sets.now) }

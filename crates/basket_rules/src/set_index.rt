@@ -29,8 +29,8 @@ pub struct SetIndex<'a> {
 pub fn places_of(alloc: Global, sets: &CountedSets) -> Result<PlaceTable, AllocError> {
     let mut places = PlaceTable::with_room(alloc, sets.len())?;
     let mut room = [0; MOST_ITEMS];
-    for place in 0..sets.len() {
-        places.keep(items_hash(items_at(sets, place, &mut room)), place);
+    for index in 0..sets.len() {
+        places.keep(items_hash(items_at(sets, index, &mut room)), index);
     }
     Ok(places)
 }
@@ -46,7 +46,7 @@ impl<'a> SetIndex<'a> {
         }
     }
 
-    /// Puts the items of both sides of a rule of the set at the place into `sides`, and returns its
+    /// Puts the items of both sides of a rule of the set at the index into `sides`, and returns its
     /// counts.
     pub fn rule(
         &mut self,
@@ -61,7 +61,7 @@ impl<'a> SetIndex<'a> {
     {
         let sets = frequent.sets();
         let items = items_at(sets, number, &mut self.room);
-        self.sides.fill(items, met.consequent.places)?;
+        self.sides.fill(items, met.consequent.bits)?;
         Ok(RuleCounts {
             count: sets.count(number),
             total: frequent.total(),

@@ -27,7 +27,7 @@ pub fn covered_shared<R: Threads + Sync>(
     covered_range(rt, covering, 0, sets.len(), workers.clamp(1, 64).ilog2())
 }
 
-/// Goes over the supersets from a place up to another. They are halved this many times, and a
+/// Goes over the supersets from an index up to another. They are halved this many times, and a
 /// thread goes over each of the pieces.
 #[cycle(halves)]
 fn covered_range<R: Threads + Sync>(

@@ -1,53 +1,53 @@
 //! The supports of the sides of rules.
 ghost use Rattle.std.specs.Prelude.{◌≡◌, ◌<◌, ◌≤◌, IfSome, IsTrue, length};
 ghost use Rattle.basket_rules.specs.Listed.{set_at};
-ghost use Rattle.basket_rules.specs.Consequents.{chosen, has_place};
+ghost use Rattle.basket_rules.specs.Consequents.{chosen, has_bit};
 ghost use Rattle.basket_rules.specs.Rules.{IsCountIn};
 
-use crate::consequents::MOST_PLACES;
+use crate::consequents::MOST_BITS;
 use crate::listed::items_at;
 use crate::search::find_near;
 use basket_core::{CountedSets, MOST_ITEMS};
 use basket_order::{MOST_STEPS, PlaceTable};
 
-/// The place of the set with the items of a union at the places of a word, if it is found by its
+/// The index of the set with the items of a union at the bits of a word, if it is found by its
 /// hash.
-pub fn place_of(
+pub fn index_of(
     sets: &CountedSets,
     union: &[u32],
-    places: u64,
+    bits: u64,
     hash: u64,
     kept: &PlaceTable,
     room: &mut [u32; MOST_ITEMS],
 ) -> Option<usize>
-    requires { length union.now ≤ MOST_PLACES }
-    ensures bound { IfSome result (λ place. place < length sets.now) }
-    ensures found { IfSome result (λ place. set_at sets.now place ≡ chosen (has_place places) union.now) }
+    requires { length union.now ≤ MOST_BITS }
+    ensures bound { IfSome result (λ index. index < length sets.now) }
+    ensures found { IfSome result (λ index. set_at sets.now index ≡ chosen (has_bit bits) union.now) }
 {
     for step in 0..MOST_STEPS {
-        let place = kept.at(hash, step) as usize;
-        if place >= sets.len() {
+        let index = kept.at(hash, step) as usize;
+        if index >= sets.len() {
             return None;
         }
-        if is_side(items_at(sets, place, room), union, places) {
-            return Some(place);
+        if is_side(items_at(sets, index, room), union, bits) {
+            return Some(index);
         }
     }
     None
 }
 
-/// Whether a set has just the items of a union at the places of a word.
-fn is_side(set: &[u32], union: &[u32], places: u64) -> bool
-    requires { length union.now ≤ MOST_PLACES }
-    ensures { IsTrue result → set.now ≡ chosen (has_place places) union.now }
+/// Whether a set has just the items of a union at the bits of a word.
+fn is_side(set: &[u32], union: &[u32], bits: u64) -> bool
+    requires { length union.now ≤ MOST_BITS }
+    ensures { IsTrue result → set.now ≡ chosen (has_bit bits) union.now }
 {
-    let mut rest = places;
+    let mut rest = bits;
     for item in set {
-        let place = rest.trailing_zeros();
-        if place as usize >= union.len() || union[place as usize] != *item {
+        let index = rest.trailing_zeros();
+        if index as usize >= union.len() || union[index as usize] != *item {
             return false;
         }
-        rest &= !(1 << place);
+        rest &= !(1 << index);
     }
     rest.trailing_zeros() as usize >= union.len()
 }

@@ -49,17 +49,17 @@ front_range ranks start end k within =
 
 -- ---- the baskets that have a rank
 
-module _ (rank : ℕ) (place : Weighted) where
+module _ (rank : ℕ) (index : Weighted) where
   abbrev keeps : ℕ → Bool
   keeps other = ltb other rank
 
-  pub below_with : (done : List Weighted) → has place.basket rank ≡ true → below rank (done ++ place ∷ []) ≡ below rank done ++ weighted (filter keeps place.basket) place.weight ∷ []
-  below_with done here = flat_map-append (kept_place keeps rank) done (place ∷ [])
-      ∙ ap (λ l. below rank done ++ l) (append-nil (kept_place keeps rank place) ∙ ap (λ b. cond b (weighted (filter keeps place.basket) place.weight ∷ []) []) here)
+  pub below_with : (done : List Weighted) → has index.basket rank ≡ true → below rank (done ++ index ∷ []) ≡ below rank done ++ weighted (filter keeps index.basket) index.weight ∷ []
+  below_with done here = flat_map-append (kept_place keeps rank) done (index ∷ [])
+      ∙ ap (λ l. below rank done ++ l) (append-nil (kept_place keeps rank index) ∙ ap (λ b. cond b (weighted (filter keeps index.basket) index.weight ∷ []) []) here)
 
-  pub below_without : (done : List Weighted) → has place.basket rank ≡ false → below rank (done ++ place ∷ []) ≡ below rank done
-  below_without done none = flat_map-append (kept_place keeps rank) done (place ∷ [])
-      ∙ ap (λ l. below rank done ++ l) (append-nil (kept_place keeps rank place) ∙ ap (λ b. cond b (weighted (filter keeps place.basket) place.weight ∷ []) []) none)
+  pub below_without : (done : List Weighted) → has index.basket rank ≡ false → below rank (done ++ index ∷ []) ≡ below rank done
+  below_without done none = flat_map-append (kept_place keeps rank) done (index ∷ [])
+      ∙ ap (λ l. below rank done ++ l) (append-nil (kept_place keeps rank index) ∙ ap (λ b. cond b (weighted (filter keeps index.basket) index.weight ∷ []) []) none)
       ∙ append-nil (below rank done)
 
 -- ---- one run more, or a heavier one
@@ -80,32 +80,32 @@ pushed_within n (first ∷ runs) run all one = (all.0, pushed_within n runs run 
 
 pub raised_repeats : (weight : ℕ) (places : List Weighted) (basket : List ℕ) → repeats_last (with_last_raised weight places) basket ≡ repeats_last places basket
 raised_repeats weight [] basket = refl
-raised_repeats weight (place ∷ []) basket = refl
-raised_repeats weight (place ∷ next ∷ []) basket = refl
-raised_repeats weight (place ∷ next ∷ third ∷ places) basket = raised_repeats weight (next ∷ third ∷ places) basket
+raised_repeats weight (index ∷ []) basket = refl
+raised_repeats weight (index ∷ next ∷ []) basket = refl
+raised_repeats weight (index ∷ next ∷ third ∷ places) basket = raised_repeats weight (next ∷ third ∷ places) basket
 
-pub pushed_repeats : (places : List Weighted) (place : Weighted) → repeats_last (places ++ place ∷ []) place.basket ≡ true
-pushed_repeats [] place = (bytes_decides place.basket place.basket).1 refl
-pushed_repeats (first ∷ []) place = (bytes_decides place.basket place.basket).1 refl
-pushed_repeats (first ∷ second ∷ places) place = pushed_repeats (second ∷ places) place
+pub pushed_repeats : (places : List Weighted) (index : Weighted) → repeats_last (places ++ index ∷ []) index.basket ≡ true
+pushed_repeats [] index = (bytes_decides index.basket index.basket).1 refl
+pushed_repeats (first ∷ []) index = (bytes_decides index.basket index.basket).1 refl
+pushed_repeats (first ∷ second ∷ places) index = pushed_repeats (second ∷ places) index
 
-heavier_place : (rank : ℕ) (place : Weighted) (weight : ℕ) → IsRankBasket rank place → IsRankBasket rank (weighted place.basket (place.weight + weight))
-heavier_place rank place weight is = record { rises = is.rises; below = is.below; weighs = (let some = is.weighs in omega arith) }
+heavier_place : (rank : ℕ) (index : Weighted) (weight : ℕ) → IsRankBasket rank index → IsRankBasket rank (weighted index.basket (index.weight + weight))
+heavier_place rank index weight is = record { rises = is.rises; below = is.below; weighs = (let some = is.weighs in omega arith) }
 
 abbrev weigh : (List ℕ → Bool) → Weighted → ℕ
-weigh test place = cond (test place.basket) place.weight 0
+weigh test index = cond (test index.basket) index.weight 0
 
 -- the runs of a rank after a basket that has it at a depth
-module _ (ranks : List ℕ) (rank : ℕ) (done : List Weighted) (place : Weighted) (run : Span) (runs : List Span) (here : has place.basket rank ≡ true) (is : IsRankBasket rank (basket_at ranks run))
-    (run_is : basket_at ranks run ≡ weighted (filter (λ other. ltb other rank) place.basket) place.weight) (inside : IsWithin (length ranks) run) (are : AreRunsOf ranks done rank runs) where
-  more_weight : (test : List ℕ → Bool) → weight_where test (below rank (done ++ place ∷ [])) ≡ weight_where test (baskets_at ranks runs) + cond (test (basket_at ranks run).basket) run.weight 0
+module _ (ranks : List ℕ) (rank : ℕ) (done : List Weighted) (index : Weighted) (run : Span) (runs : List Span) (here : has index.basket rank ≡ true) (is : IsRankBasket rank (basket_at ranks run))
+    (run_is : basket_at ranks run ≡ weighted (filter (λ other. ltb other rank) index.basket) index.weight) (inside : IsWithin (length ranks) run) (are : AreRunsOf ranks done rank runs) where
+  more_weight : (test : List ℕ → Bool) → weight_where test (below rank (done ++ index ∷ [])) ≡ weight_where test (baskets_at ranks runs) + cond (test (basket_at ranks run).basket) run.weight 0
   more_weight test =
-      ap (weight_where test) (below_with rank place done here) ∙ sum_by-append (weigh test) (below rank done) (weighted (filter (λ other. ltb other rank) place.basket) place.weight ∷ [])
-      ∙ ap (λ n. weight_where test (below rank done) + n) (sum_by-cons (weigh test) (weighted (filter (λ other. ltb other rank) place.basket) place.weight) [] ∙ add-zero (weigh test (weighted (filter (λ other. ltb other rank) place.basket) place.weight)))
+      ap (weight_where test) (below_with rank index done here) ∙ sum_by-append (weigh test) (below rank done) (weighted (filter (λ other. ltb other rank) index.basket) index.weight ∷ [])
+      ∙ ap (λ n. weight_where test (below rank done) + n) (sum_by-cons (weigh test) (weighted (filter (λ other. ltb other rank) index.basket) index.weight) [] ∙ add-zero (weigh test (weighted (filter (λ other. ltb other rank) index.basket) index.weight)))
       ∙ ap (λ (p : Weighted). weight_where test (below rank done) + cond (test p.basket) p.weight 0) (sym run_is)
       ∙ ap (λ n. n + cond (test (basket_at ranks run).basket) run.weight 0) (are.weights test)
 
-  pub pushed_are : AreRunsOf ranks (done ++ place ∷ []) rank (runs ++ run ∷ [])
+  pub pushed_are : AreRunsOf ranks (done ++ index ∷ []) rank (runs ++ run ∷ [])
   pushed_are = record {
     within = All-from_recursion (IsWithin (length ranks)) (runs ++ run ∷ []) (pushed_within (length ranks) runs run (recursion_from_All (IsWithin (length ranks)) runs are.within) inside);
     places = subst (All (IsRankBasket rank)) (sym (map-append (basket_at ranks) runs (run ∷ [])))
@@ -116,7 +116,7 @@ module _ (ranks : List ℕ) (rank : ℕ) (done : List Weighted) (place : Weighte
         ∙ ap (λ n. weight_where test (baskets_at ranks runs) + n) (sum_by-cons (weigh test) (basket_at ranks run) [] ∙ add-zero (weigh test (basket_at ranks run))));
   }
 
-  pub heavier_are : repeats_last (baskets_at ranks runs) (basket_at ranks run).basket ≡ true → AreRunsOf ranks (done ++ place ∷ []) rank (with_last_heavier run.weight runs)
+  pub heavier_are : repeats_last (baskets_at ranks runs) (basket_at ranks run).basket ≡ true → AreRunsOf ranks (done ++ index ∷ []) rank (with_last_heavier run.weight runs)
   heavier_are again = record {
     within = All-from_recursion (IsWithin (length ranks)) (with_last_heavier run.weight runs) (heavier_within (length ranks) run.weight runs (recursion_from_All (IsWithin (length ranks)) runs are.within));
     places = subst (All (IsRankBasket rank)) (sym (heavier_baskets ranks run.weight runs))

@@ -23,30 +23,30 @@ use Rattle.mine_pairs.proofs.RunStepLemmas.{front_is}
 
 -- ---- the ranks before one of a basket
 
-module _ (ranks : List ℕ) (place : ℕ) (up : IsRising ranks) (here : place < length ranks) where
+module _ (ranks : List ℕ) (index : ℕ) (up : IsRising ranks) (here : index < length ranks) where
   abbrev rank : ℕ
-  rank = get_or ranks place 0
+  rank = get_or ranks index 0
 
   -- of the ranks below it the basket has those that stand before it
-  pub front_has : (lesser : ℕ) → lesser < rank → has (take place ranks) lesser ≡ has ranks lesser
+  pub front_has : (lesser : ℕ) → lesser < rank → has (take index ranks) lesser ≡ has ranks lesser
   front_has lesser less =
       let below : ℕ → Bool = λ other. ltb other rank in
-      let front = front_is ranks place up here in
-      same_test (has (take place ranks) lesser) (has ranks lesser)
-      (λ h. has-from_Member ranks lesser (Member-filter below lesser ranks (subst (Member lesser) (sym front) (Member-from_has (take place ranks) lesser h))).0)
-      (λ h. has-from_Member (take place ranks) lesser (subst (Member lesser) front (Member-from_filter below lesser ranks (Member-from_has ranks lesser h) (lt-ltb lesser rank less))))
+      let front = front_is ranks index up here in
+      same_test (has (take index ranks) lesser) (has ranks lesser)
+      (λ h. has-from_Member ranks lesser (Member-filter below lesser ranks (subst (Member lesser) (sym front) (Member-from_has (take index ranks) lesser h))).0)
+      (λ h. has-from_Member (take index ranks) lesser (subst (Member lesser) front (Member-from_filter below lesser ranks (Member-from_has ranks lesser h) (lt-ltb lesser rank less))))
 
-  pub before_rises : IsRising (take place ranks)
-  before_rises = subst IsRising (front_is ranks place up here) (filter_rises (λ other. ltb other rank) ranks up)
+  pub before_rises : IsRising (take index ranks)
+  before_rises = subst IsRising (front_is ranks index up here) (filter_rises (λ other. ltb other rank) ranks up)
 
-  pub before_all_below : AllBelow rank (take place ranks)
+  pub before_all_below : AllBelow rank (take index ranks)
   before_all_below lesser h =
-      let m = subst (Member lesser) (sym (front_is ranks place up here)) (Member-from_has (take place ranks) lesser h) in
+      let m = subst (Member lesser) (sym (front_is ranks index up here)) (Member-from_has (take index ranks) lesser h) in
       ltb-true lesser rank (Member-filter (λ other. ltb other rank) lesser ranks m).1
 
-  pub other_front : (greater : ℕ) → greater ≢ rank → has (take place ranks) greater ≡ has (take (place + 1) ranks) greater
+  pub other_front : (greater : ℕ) → greater ≢ rank → has (take index ranks) greater ≡ has (take (index + 1) ranks) greater
   other_front greater differ =
-      sym (has_more ranks place greater here ∙ ap (λ b. has (take place ranks) greater || b) (ne_eqb rank greater (λ e. differ (sym e))) ∙ or-false (has (take place ranks) greater))
+      sym (has_more ranks index greater here ∙ ap (λ b. has (take index ranks) greater || b) (ne_eqb rank greater (λ e. differ (sym e))) ∙ or-false (has (take index ranks) greater))
 
 -- ---- the rows, one rank of a basket after another
 
@@ -57,15 +57,15 @@ module _ (first weight : ℕ) (ranks : List ℕ) (old now : List (List ℕ)) whe
     added = λ k below. subst (λ b. WithBasket (cond b ranks []) weight (row_at old k) (row_at now k)) (same k below) (with.added k below);
   }
 
-  module _ (place k : ℕ) (up : IsRising ranks) (here : place < length ranks) (within : k < length old) (is : first + k ≡ get_or ranks place 0) (with : WithPairs first (take place ranks) ranks weight old now) where
+  module _ (index k : ℕ) (up : IsRising ranks) (here : index < length ranks) (within : k < length old) (is : first + k ≡ get_or ranks index 0) (with : WithPairs first (take index ranks) ranks weight old now) where
     -- the row of the next rank is as it was
     pub as_was : (lesser : ℕ) → lesser < length (row_at old k) → get_or (row_at now k) lesser 0 ≡ get_or (row_at old k) lesser 0
     as_was lesser below = with.added k within lesser below
-        ∙ ap (λ b. get_or (row_at old k) lesser 0 + cond (has (cond b ranks []) lesser) weight 0) (ap (has (take place ranks)) is ∙ not_before ranks place (rising_distinct ranks up) here)
+        ∙ ap (λ b. get_or (row_at old k) lesser 0 + cond (has (cond b ranks []) lesser) weight 0) (ap (has (take index ranks)) is ∙ not_before ranks index (rising_distinct ranks up) here)
         ∙ add-zero (get_or (row_at old k) lesser 0)
 
-    pub row_more : (row : List ℕ) → length now ≡ length old → length (row_at old k) ≡ first + k → length row ≡ length (row_at now k) → WithBasket (take place ranks) weight (row_at now k) row
-        → WithPairs first (take (place + 1) ranks) ranks weight old (set now k row)
+    pub row_more : (row : List ℕ) → length now ≡ length old → length (row_at old k) ≡ first + k → length row ≡ length (row_at now k) → WithBasket (take index ranks) weight (row_at now k) row
+        → WithPairs first (take (index + 1) ranks) ranks weight old (set now k row)
     row_more row same wide long added = record {
       long = λ j below. elim (cases_eq j k) [
         | inl e ↦ subst (λ n. length (row_at (set now k row) n) ≡ length (row_at old n)) (sym e) (ap length (get_or-set_same now k row [] (omega arith)) ∙ long ∙ with.long k within)
@@ -73,22 +73,22 @@ module _ (first weight : ℕ) (ranks : List ℕ) (old now : List (List ℕ)) whe
       ];
       added = λ j below. elim (cases_eq j k) [
         | inl e ↦
-            subst (λ n. WithBasket (cond (has (take (place + 1) ranks) (first + n)) ranks []) weight (row_at old n) (row_at (set now k row) n)) (sym e)
+            subst (λ n. WithBasket (cond (has (take (index + 1) ranks) (first + n)) ranks []) weight (row_at old n) (row_at (set now k row) n)) (sym e)
             (λ lesser less. ap (λ l. get_or l lesser 0) (get_or-set_same now k row [] (omega arith)) ∙ whole lesser less
             ∙ ap (λ b. get_or (row_at old k) lesser 0 + cond (has (cond b ranks []) lesser) weight 0) (sym there))
         | inr differ ↦
             λ lesser less. ap (λ l. get_or l lesser 0) (get_or-set_other now k j row [] differ) ∙ with.added j below lesser less
-            ∙ ap (λ b. get_or (row_at old j) lesser 0 + cond (has (cond b ranks []) lesser) weight 0) (other_front ranks place up here (first + j) (λ e. differ (omega arith)))
+            ∙ ap (λ b. get_or (row_at old j) lesser 0 + cond (has (cond b ranks []) lesser) weight 0) (other_front ranks index up here (first + j) (λ e. differ (omega arith)))
       ];
     }
       where
-        there : has (take (place + 1) ranks) (first + k) ≡ true
-        there = has_more ranks place (first + k) here ∙ ap (λ b. has (take place ranks) (first + k) || b) (eq-eqb (get_or ranks place 0) (first + k) (sym is)) ∙ or-true (has (take place ranks) (first + k))
+        there : has (take (index + 1) ranks) (first + k) ≡ true
+        there = has_more ranks index (first + k) here ∙ ap (λ b. has (take index ranks) (first + k) || b) (eq-eqb (get_or ranks index 0) (first + k) (sym is)) ∙ or-true (has (take index ranks) (first + k))
 
         whole : WithBasket ranks weight (row_at old k) row
         whole lesser below = added lesser (omega (arith, with.long k within))
-            ∙ ap (λ n. n + cond (has (take place ranks) lesser) weight 0) (as_was lesser below)
-            ∙ ap (λ b. get_or (row_at old k) lesser 0 + cond b weight 0) (front_has ranks place up here lesser (omega arith))
+            ∙ ap (λ n. n + cond (has (take index ranks) lesser) weight 0) (as_was lesser below)
+            ∙ ap (λ b. get_or (row_at old k) lesser 0 + cond b weight 0) (front_has ranks index up here lesser (omega arith))
 
 pub none_added : (first weight : ℕ) (ranks : List ℕ) (rows : List (List ℕ)) → WithPairs first [] ranks weight rows rows
 none_added first weight ranks rows = record { long = λ k below. refl; added = λ k below lesser less. sym (add-zero (get_or (row_at rows k) lesser 0)) }
@@ -120,12 +120,12 @@ module _ (baskets : List Weighted) (i : ℕ) (d : Weighted) (first : ℕ) (now :
   counts_more new same with = record {
     long = λ k within. with.long k (omega arith) ∙ have.long k (omega arith);
     counts = λ k lesser within less.
-        let place = get_or baskets i d in
+        let index = get_or baskets i d in
         let inside : k < length now = omega arith in
         let before = have.counts k lesser inside less in
         let more = sum_by_more (weight_at (lesser ∷ (first + k) ∷ [])) baskets i d here in
         let added = with.added k inside lesser (omega (arith, have.long k inside))
-        ∙ ap (λ b. get_or (row_at now k) lesser 0 + cond b place.weight 0) (both (has place.basket (first + k)) (has place.basket lesser) place.basket lesser refl) in
+        ∙ ap (λ b. get_or (row_at now k) lesser 0 + cond b index.weight 0) (both (has index.basket (first + k)) (has index.basket lesser) index.basket lesser refl) in
         omega (arith, before, more, added);
   }
 

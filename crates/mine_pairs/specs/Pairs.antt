@@ -36,6 +36,6 @@ pub record ArePairs (coding : Coding) (lists : List (List (ℕ × ℕ))) : Type 
   pub settles : IsLeastSupport coding.minimum (total_of coding.baskets) least
   pub pairs : lists ≡ pairs_by_greater coding.baskets least (length coding.items)
 
--- a pair with the rank that stands at its place in a list
+-- a pair with the rank that stands at its index in a list
 abbrev pub named_pair : List ℕ → ℕ × ℕ → ℕ × ℕ
 named_pair list pair = (slice_index list pair.0, pair.1)

@@ -1,4 +1,4 @@
--- The runs of a rank: the places where it stands in baskets that lie one after another.
+-- The runs of a rank: the indexes where it stands in baskets that lie one after another.
 use Rattle.std.specs.Prelude.{◌≡◌, ◌<◌, ◌+◌, ◌++◌, ℕ, Bool, List, [], ◌∷◌, All, length, map, nat_lt, if◌then◌else◌, slice_index, slice_index_or}
 use Rattle.std.specs.List.{flat_map}
 use Rattle.std.specs.declared.vec.Vec.{Vec}

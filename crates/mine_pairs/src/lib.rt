@@ -1,7 +1,7 @@
 //! Frequent pairs of ranks, for all miners.
 //!
 //! `pairs` finds them by a count for each pair, in `triangle`, over baskets as `ranked` has them, if
-//! the ranks are few, else rank by rank, by `sums` over `runs`: the places of each rank in the prefix
+//! the ranks are few, else rank by rank, by `sums` over `runs`: the indexes of each rank in the prefix
 //! tree of the baskets, which `rank_runs` finds.
 #![tactic(auto)]
 

@@ -52,9 +52,9 @@ fn shared(a: &[u32], b: &[u32]) -> usize
     ensures same { take result a.now ≡ take result b.now }
 {
     let most = a.len().min(b.len());
-    for place in 0..most {
-        if a[place] != b[place] {
-            return place;
+    for index in 0..most {
+        if a[index] != b[index] {
+            return index;
         }
     }
     most

@@ -15,10 +15,10 @@ pub trait RankedBaskets {
     fn basket_count(&self) -> usize
         ensures { result ≡ length (baskets self.now) };
 
-    /// The ranks of the basket at a place, which rise, and its weight.
-    fn basket_at(&self, place: usize) -> (&[u32], u64)
-        requires { place < length (baskets self.now) }
-        ensures basket { weighted result.0.now result.1 ≡ slice_index_or (baskets self.now) place (weighted [] 0) }
+    /// The ranks of the basket at an index, which rise, and its weight.
+    fn basket_at(&self, index: usize) -> (&[u32], u64)
+        requires { index < length (baskets self.now) }
+        ensures basket { weighted result.0.now result.1 ≡ slice_index_or (baskets self.now) index (weighted [] 0) }
         ensures rises { IsRising result.0.now }
         ensures light { total_of (baskets self.now) ≤ MOST_WEIGHT };
 }
@@ -30,9 +30,9 @@ impl RankedBaskets for Coded {
         self.baskets().len()
     }
 
-    fn basket_at(&self, place: usize) -> (&[u32], u64) {
-        let place = &self.baskets()[place];
-        (place.basket.items(), place.weight)
+    fn basket_at(&self, index: usize) -> (&[u32], u64) {
+        let basket = &self.baskets()[index];
+        (basket.basket.items(), basket.weight)
     }
 }
 
@@ -43,7 +43,7 @@ impl RankedBaskets for ListBaskets {
         self.len()
     }
 
-    fn basket_at(&self, place: usize) -> (&[u32], u64) {
-        self.basket(place)
+    fn basket_at(&self, index: usize) -> (&[u32], u64) {
+        self.basket(index)
     }
 }

@@ -1,4 +1,4 @@
-//! The places of each rank in baskets that follow one another.
+//! The indexes of each rank in baskets that follow one another.
 ghost use Rattle.std.specs.Prelude.{◌≡◌, ◌≤◌, ◌<◌, ◌+◌, ◌-◌, ℕ, [], ◌∷◌, All, IfOk, IsTrue, OnOk, length, replicate, take, slice_index, slice_index_or, sum_by};
 ghost use Rattle.std.specs.List.{slice_range};
 ghost use Rattle.basket_sets.specs.Counts.{AllBelow};
@@ -100,7 +100,7 @@ impl Runs {
         self.count
     }
 
-    /// The ranks of all baskets, and the places of the runs of a rank among them.
+    /// The ranks of all baskets, and the indexes of the runs of a rank among them.
     pub fn of_rank(&self, rank: u32) -> (&[u32], &[Span])
         requires { rank < self.now.ranks }
         ensures runs { AreRunsOf result.0.now self.now.baskets rank result.1.now }

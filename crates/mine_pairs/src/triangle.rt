@@ -55,8 +55,8 @@ fn count_pairs<B: RankedBaskets>(rows: &mut [Vec<u64>], first: u32, baskets: &B)
     requires { HaveCounts [] first (lists_of rows.old) }
     ensures { HaveCounts (B.baskets baskets.now) first (lists_of rows.new) }
 {
-    for place in 0..baskets.basket_count() {
-        let (ranks, weight) = baskets.basket_at(place);
+    for index in 0..baskets.basket_count() {
+        let (ranks, weight) = baskets.basket_at(index);
         count_basket(rows, first, ranks, weight);
     }
 }
@@ -69,7 +69,7 @@ fn count_basket(rows: &mut [Vec<u64>], first: u32, ranks: &[u32], weight: u64)
     requires light { (k lesser : ℕ) → k < length rows.old → lesser < first + k → slice_index (row_at (lists_of rows.old) k) lesser + weight ≤ MOST_WEIGHT }
     ensures { WithPairs first ranks.now ranks.now weight (lists_of rows.old) (lists_of rows.new) }
 {
-    for (place, rank) in ranks.iter().enumerate() {
+    for (index, rank) in ranks.iter().enumerate() {
         if *rank < first {
             continue;
         }
@@ -77,7 +77,7 @@ fn count_basket(rows: &mut [Vec<u64>], first: u32, ranks: &[u32], weight: u64)
         if row >= rows.len() {
             break;
         }
-        count_below(&mut rows[row], &ranks[..place], weight);
+        count_below(&mut rows[row], &ranks[..index], weight);
     }
 }
 

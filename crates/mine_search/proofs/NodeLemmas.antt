@@ -87,7 +87,7 @@ module _ (node : Node) where
       let less = sum_by-take-le (λ rank. length (branch test node.set rank)) (kept node) i in
       omega (arith, whole, some, less, part.told, length-map (found_by (take i (kept node))) (found_at node.over))
 
--- one of the ranks that extend a node's set, at a place
+-- one of the ranks that extend a node's set, at an index
 pub record IsTurn (set : List ℕ) (node : Node) (i rank : ℕ) : Type 0 where
   pub is : IsNode set node
   pub here : i < length (kept node)
@@ -169,18 +169,18 @@ module _ {set : List ℕ} {node : Node} {i rank : ℕ} (turn : IsTurn set node i
     pub found : one ≡ found_at node.over (rank ∷ node.set)
     pub inner : IsNode longer (child node rank)
 
-  pub extended : {longer item count : ℕ} {before now : Reached} {with_one : List Counted} (place : ℕ)
-      → place < length before.sets → set ≡ set_at before.sets place → item ≡ get_or node.over.items rank 0 → count ≡ node.over.support (rank ∷ node.set) → FindsPart node i before now
-      → longer ≡ length now.sets → with_one ≡ now.sets ++ record { set = with_item item (set_at now.sets place); count = count } ∷ []
-      → IsExtended (record { set = with_item item (set_at now.sets place); count = count }) (set_at with_one longer)
-  extended {longer} {item} {count} {before} {now} {with_one} place here of_set is_item is_count part at adds =
-      let named = ap (with_item item) (set_kept before.sets (map (found_at node.over) (found_by node (take i (kept node)))) now.sets place here part.sets ∙ sym of_set) ∙ ap (λ x. with_item x set) is_item in
+  pub extended : {longer item count : ℕ} {before now : Reached} {with_one : List Counted} (index : ℕ)
+      → index < length before.sets → set ≡ set_at before.sets index → item ≡ get_or node.over.items rank 0 → count ≡ node.over.support (rank ∷ node.set) → FindsPart node i before now
+      → longer ≡ length now.sets → with_one ≡ now.sets ++ record { set = with_item item (set_at now.sets index); count = count } ∷ []
+      → IsExtended (record { set = with_item item (set_at now.sets index); count = count }) (set_at with_one longer)
+  extended {longer} {item} {count} {before} {now} {with_one} index here of_set is_item is_count part at adds =
+      let named = ap (with_item item) (set_kept before.sets (map (found_at node.over) (found_by node (take i (kept node)))) now.sets index here part.sets ∙ sym of_set) ∙ ap (λ x. with_item x set) is_item in
       let items_are = named ∙ ap (with_item (get_or node.over.items rank 0)) is.of_set in
       record {
         found = λ k. record { set = items_are k; count = is_count k };
         inner = record {
           falls = is.falls;
-          of_set = set_added now.sets with_one (record { set = with_item item (set_at now.sets place); count = count }) longer at adds ∙ items_are;
+          of_set = set_added now.sets with_one (record { set = with_item item (set_at now.sets index); count = count }) longer at adds ∙ items_are;
           few = is.few;
           within = (let low = lower in let most = is.within in omega arith);
         };

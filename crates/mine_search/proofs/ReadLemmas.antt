@@ -18,7 +18,7 @@ use Rattle.mine_search.proofs.NodeLemmas.{FindsPart, IsTurn, found_by, lower}
 use Rattle.mine_search.proofs.StraightLemmas.{choices, choose}
 use Rattle.mine_search.proofs.theory.Walk.{branch_work, kept_before, kept_passes, sets_are_branches, work_is_branches}
 
--- one more of the sets between two places
+-- one more of the sets between two indexes
 pub chosen_more : (item support start from : ℕ) (old now new : List Counted) → start ≤ from → from < length old → now ≡ old ++ map (chosen item support) (between start from old)
     → new ≡ now ++ record { set = with_item item (set_at now from); count = support } ∷ [] → new ≡ old ++ map (chosen item support) (between start (from + 1) old)
 chosen_more item support start from old now new order here so_far adds =
@@ -69,8 +69,8 @@ module _ {set : List ℕ} {node : Node} {i rank : ℕ} (turn : IsTurn set node i
     abbrev found : List Counted
     found = map (found_at node.over) (found_by node (take i (kept node)))
 
-    pub places : end - start ≡ length (sets_at (child node rank))
-    places = omega (arith, start_is, end_is, ap length part.sets, length-append before.sets found, length-map (found_by node (take i (kept node))) (found_at node.over), as_many)
+    pub bounds : end - start ≡ length (sets_at (child node rank))
+    bounds = omega (arith, start_is, end_is, ap length part.sets, length-append before.sets found, length-map (found_by node (take i (kept node))) (found_at node.over), as_many)
 
     pub order : start ≤ end
     order = omega (arith, start_is, end_is, ap length part.sets, length-append before.sets found)
@@ -93,6 +93,6 @@ module _ {set : List ℕ} {node : Node} {i rank : ℕ} (turn : IsTurn set node i
         record {
           sets = adds ∙ ap (λ l. with_one.sets ++ l) all;
           worked = omega (arith, work, free);
-          told = omega (arith, told, places, length-map (sets_at (child node rank)) (found_at node.over));
+          told = omega (arith, told, bounds, length-map (sets_at (child node rank)) (found_at node.over));
           going = record { going = over; few = omega (arith, work, going.few, ap length adds, length-append with_one.sets (map (chosen item support) (between start end with_one.sets))) };
         }

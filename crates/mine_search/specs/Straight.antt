@@ -15,6 +15,6 @@ pub record IsStraight (node : Node) : Type 0 where
 abbrev pub chosen : ℕ → ℕ → Counted → Counted
 chosen item support c = record { set = with_item item c.set; count = support }
 
--- the sets between two places of a list
+-- the sets between two indexes of a list
 abbrev pub between : ℕ → ℕ → List Counted → List Counted
 between start end sets = take (end - start) (drop start sets)

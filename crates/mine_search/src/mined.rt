@@ -55,20 +55,20 @@ impl<S: Drop> Mined<S> {
         Ok(())
     }
 
-    /// Reports a frequent set to the tally, and adds it: the set at a place with one more item.
-    /// Returns the place of the new set.
+    /// Reports a frequent set to the tally, and adds it: the set at an index with one more item.
+    /// Returns the index of the new set.
     pub fn add_longer<T: Tally>(
         &mut self,
         alloc: Global,
-        place: usize,
+        index: usize,
         item: u32,
         count: u64,
         tally: &mut T,
     ) -> Result<usize, MineFault>
-        requires found { place < length self.old.sets }
+        requires found { index < length self.old.sets }
         requires going { T.is_over tally.old ≡ false }
-        ensures place { IfOk result (λ longer. longer ≡ length self.old.sets) }
-        ensures sets { OnOk result (self.new.sets ≡ self.old.sets ++ record { set = with_item item (set_at self.old.sets place); count = count } ∷ []) }
+        ensures index { IfOk result (λ longer. longer ≡ length self.old.sets) }
+        ensures sets { OnOk result (self.new.sets ≡ self.old.sets ++ record { set = with_item item (set_at self.old.sets index); count = count } ∷ []) }
         ensures steps { self.new.steps ≡ self.old.steps }
         ensures few { OnOk result (length self.new.sets ≤ 4294967295) }
         ensures going_on { OnOk result (T.is_over tally.new ≡ false) }
@@ -83,7 +83,7 @@ impl<S: Drop> Mined<S> {
             return Err(MineFault::TooMany { limit });
         }
         let longer = self.sets.len();
-        self.sets.push_longer(alloc, place, item, count)?;
+        self.sets.push_longer(alloc, index, item, count)?;
         if self.sets.len() > limit as usize {
             return Err(MineFault::TooMany { limit });
         }

@@ -35,21 +35,21 @@ pub trait Projected: Drop + Sized {
     fn len(&self) -> usize
         ensures { result ≡ length (ranks self.now) };
 
-    /// The item of the rank at a place.
+    /// The item of the rank at an index.
     fn item(&self, at: usize) -> u32
         requires inside { at < length (ranks self.now) }
         requires given { (node : Node) × gives self.now node }
         ensures { (node : Node) → gives self.now node
             → result ≡ slice_index_or node.over.items (slice_index_or (ranks self.now) at 0) 0 };
 
-    /// The support of the set with the rank at a place.
+    /// The support of the set with the rank at an index.
     fn support(&self, at: usize) -> u64
         requires inside { at < length (ranks self.now) }
         requires given { (node : Node) × gives self.now node }
         ensures { (node : Node) → gives self.now node
             → result ≡ node.over.support (slice_index_or (ranks self.now) at 0 ∷ node.set) };
 
-    /// The conditional database of the set with the rank at a place, unless it has no frequent rank.
+    /// The conditional database of the set with the rank at an index, unless it has no frequent rank.
     fn narrowed(
         &self,
         alloc: Global,

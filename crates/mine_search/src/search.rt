@@ -10,32 +10,32 @@ use crate::projected::Projected;
 use mine_limit::{MineFault, Tally};
 use std::alloc::Global;
 
-/// Adds the frequent sets that extend the set at a place, whose conditional database this is, depth
+/// Adds the frequent sets that extend the set at an index, whose conditional database this is, depth
 /// first. Each set is reported to the tally once it is known to be frequent.
 pub fn extend<P: Projected, T: Tally>(
     alloc: Global,
     base: &P,
-    place: usize,
+    index: usize,
     scratch: &mut P::Scratch,
     mined: &mut Mined<P::Steps>,
     tally: &mut T,
 ) -> Result<(), MineFault>
-    requires found { place < length mined.old.sets }
-    requires given { (node : Node) × IsOf P.gives base.now (set_at mined.old.sets place) node }
+    requires found { index < length mined.old.sets }
+    requires given { (node : Node) × IsOf P.gives base.now (set_at mined.old.sets index) node }
     requires going { GoesOn (reached P.number T.told_of T.limit_of T.is_over mined.old tally.old) }
     requires lent { P.serves scratch.old base.now }
-    ensures done { IsDone P.gives base.now (set_at mined.old.sets place)
+    ensures done { IsDone P.gives base.now (set_at mined.old.sets index)
         (reached P.number T.told_of T.limit_of T.is_over mined.old tally.old)
         (reached P.number T.told_of T.limit_of T.is_over mined.new tally.new) result }
     ensures lent { OnOk result (P.keeps base.now scratch.old scratch.new) }
 {
     if base.is_straight() {
-        return read_off(alloc, base, place, mined, tally);
+        return read_off(alloc, base, index, mined, tally);
     }
     for at in 0..base.len() {
         let item = base.item(at);
         let support = base.support(at);
-        let longer = mined.add_longer(alloc, place, item, support, tally)?;
+        let longer = mined.add_longer(alloc, index, item, support, tally)?;
         let below = base.narrowed(alloc, at, scratch, &mut mined.steps)?;
         if let Some(inner) = below {
             extend(alloc, &inner, longer, scratch, mined, tally)?;

@@ -42,13 +42,13 @@ at_any p (x ∷ xs) e = at (p x) (at_any p xs) e
     at true later e = omega arith
     at false later e = let h = later e in omega arith
 
-place_found : (b : Bool) (n place : ℕ) → cond b (Some n) None ≡ Some place → (b ≡ true) × (n ≡ place)
-place_found true n place e = (refl, cc)
-place_found false n place e = absurd cc
+place_found : (b : Bool) (n index : ℕ) → cond b (Some n) None ≡ Some index → (b ≡ true) × (n ≡ index)
+place_found true n index e = (refl, cc)
+place_found false n index e = absurd cc
 
-found : {X : Type 0} (p : X → Bool) (xs : List X) (place : ℕ) → position p xs ≡ Some place → (list_any p xs ≡ true) × (position_or_len p xs ≡ place)
-found p xs place e =
-    let h = place_found (ltb (position_or_len p xs) (length xs)) (position_or_len p xs) place e in
+found : {X : Type 0} (p : X → Bool) (xs : List X) (index : ℕ) → position p xs ≡ Some index → (list_any p xs ≡ true) × (position_or_len p xs ≡ index)
+found p xs index e =
+    let h = place_found (ltb (position_or_len p xs) (length xs)) (position_or_len p xs) index e in
     (any_at p xs (ltb-true (position_or_len p xs) (length xs) h.0), h.1)
 
 -- ---- names with one more
@@ -83,57 +83,57 @@ inserted keys key = (rw (any_of_map string_bytes (bytes_eq (string_bytes key)) k
     at true = refl
     at false = map-append string_bytes keys (key ∷ [])
 
--- ---- the place of a name among texts
+-- ---- the index of a name among texts
 
--- the place of a name that is among them
-pub known_place : {Z : Type 0} (keys : List (String Z)) (names : List (List ℕ)) (name : List ℕ) (place : ℕ)
-    → names ≡ map string_bytes keys → position (λ key. bytes_eq name (string_bytes key)) keys ≡ Some place
-    → (names ≡ with_name names name) × (place ≡ number_in names name)
-known_place keys names name place view e =
-    let h = found (λ key. bytes_eq name (string_bytes key)) keys place e in
+-- the index of a name that is among them
+pub known_place : {Z : Type 0} (keys : List (String Z)) (names : List (List ℕ)) (name : List ℕ) (index : ℕ)
+    → names ≡ map string_bytes keys → position (λ key. bytes_eq name (string_bytes key)) keys ≡ Some index
+    → (names ≡ with_name names name) × (index ≡ number_in names name)
+known_place keys names name index view e =
+    let h = found (λ key. bytes_eq name (string_bytes key)) keys index e in
     let among : list_any (bytes_eq name) names ≡ true = ap (list_any (bytes_eq name)) view ∙ any_of_map string_bytes (bytes_eq name) keys ∙ h.0 in
     (sym (known_name names name among), sym (ap (λ ns. number_in ns name) view ∙ place_of_map string_bytes (bytes_eq name) keys ∙ h.1))
 
--- the place of a name that was inserted
-pub new_place : {Z : Type 0} (keys new_keys : List (String Z)) (key : String Z) (names : List (List ℕ)) (name : List ℕ) (place : ℕ)
-    → names ≡ map string_bytes keys → string_bytes key ≡ name → new_keys ≡ insert_key string_eq keys key → place ≡ position_or_len (string_eq key) keys
-    → (map string_bytes new_keys ≡ with_name names name) × (place ≡ number_in (map string_bytes new_keys) name)
-new_place keys new_keys key names name place view text new e =
+-- the index of a name that was inserted
+pub new_place : {Z : Type 0} (keys new_keys : List (String Z)) (key : String Z) (names : List (List ℕ)) (name : List ℕ) (index : ℕ)
+    → names ≡ map string_bytes keys → string_bytes key ≡ name → new_keys ≡ insert_key string_eq keys key → index ≡ position_or_len (string_eq key) keys
+    → (map string_bytes new_keys ≡ with_name names name) × (index ≡ number_in (map string_bytes new_keys) name)
+new_place keys new_keys key names name index view text new e =
     let same : map string_bytes new_keys ≡ with_name names name = ap (map string_bytes) new ∙ inserted keys key ∙ ap (λ ns. with_name ns (string_bytes key)) (sym view) ∙ ap (with_name names) text in
-    let old : place ≡ number_in names name = e ∙ sym (place_of_map string_bytes (bytes_eq (string_bytes key)) keys) ∙ ap (λ ns. number_in ns (string_bytes key)) (sym view) ∙ ap (number_in names) text in
+    let old : index ≡ number_in names name = e ∙ sym (place_of_map string_bytes (bytes_eq (string_bytes key)) keys) ∙ ap (λ ns. number_in ns (string_bytes key)) (sym view) ∙ ap (number_in names) text in
     (same, old ∙ sym (number_stays names name) ∙ ap (λ ns. number_in ns name) (sym same))
 
--- among keys of which no two are equal, a key's place is the one at which it is found
-own_place : {K : Type 0} {eq : K → K → Bool} → IsEquivalence eq → (keys : List K) (place : ℕ) (key : K) → IsDistinct eq keys → slice_get keys place ≡ Some key → position_or_len (eq key) keys ≡ place
-own_place laws [] place key d e = absurd (true≢false (sym (ap is_some e)))
+-- among keys of which no two are equal, a key's index is the one at which it is found
+own_place : {K : Type 0} {eq : K → K → Bool} → IsEquivalence eq → (keys : List K) (index : ℕ) (key : K) → IsDistinct eq keys → slice_get keys index ≡ Some key → position_or_len (eq key) keys ≡ index
+own_place laws [] index key d e = absurd (true≢false (sym (ap is_some e)))
 own_place {K} {eq} laws (k ∷ keys) zero key d e =
     let same : k ≡ key = ap (λ found. unwrap_or found k) e in
     ap (λ b. cond (not b) (1 + position_or_len (eq key) keys) 0) (ap (eq key) same ∙ laws.refl key)
-own_place {K} {eq} laws (k ∷ keys) (suc place) key d e =
-    let apart = All-from_recursion (λ other. eq k other ≡ false) keys (IsDistinct-head eq k keys d) place key (slice_get_within keys place key e) in
-    let other : eq key k ≡ false = laws.symm key k ∙ ap (eq k) (sym (get_or_from_slice_get keys place key key e)) ∙ apart in
-    let rest = own_place laws keys place key (IsDistinct-tail eq k keys d) e in
+own_place {K} {eq} laws (k ∷ keys) (suc index) key d e =
+    let apart = All-from_recursion (λ other. eq k other ≡ false) keys (IsDistinct-head eq k keys d) index key (slice_get_within keys index key e) in
+    let other : eq key k ≡ false = laws.symm key k ∙ ap (eq k) (sym (get_or_from_slice_get keys index key key e)) ∙ apart in
+    let rest = own_place laws keys index key (IsDistinct-tail eq k keys d) e in
     ap (λ b. cond (not b) (1 + position_or_len (eq key) keys) 0) other ∙ omega (arith, rest)
 
--- the place of a name that is found at it
-pub place_of_key : {Z : Type 0} (keys : List (String Z)) (names : List (List ℕ)) (key : String Z) (place : ℕ)
-    → names ≡ map string_bytes keys → IsDistinct string_eq keys → slice_get keys place ≡ Some key
-    → (names ≡ with_name names (string_bytes key)) × (place ≡ number_in names (string_bytes key))
-place_of_key keys names key place view distinct e =
-    let at = own_place string_eq_equiv keys place key distinct e in
-    let below = slice_get_within keys place key e in
-    known_place keys names (string_bytes key) place view
+-- the index of a name that is found at it
+pub place_of_key : {Z : Type 0} (keys : List (String Z)) (names : List (List ℕ)) (key : String Z) (index : ℕ)
+    → names ≡ map string_bytes keys → IsDistinct string_eq keys → slice_get keys index ≡ Some key
+    → (names ≡ with_name names (string_bytes key)) × (index ≡ number_in names (string_bytes key))
+place_of_key keys names key index view distinct e =
+    let at = own_place string_eq_equiv keys index key distinct e in
+    let below = slice_get_within keys index key e in
+    known_place keys names (string_bytes key) index view
     (ap (λ b. cond b (Some (position_or_len (string_eq key) keys)) None) (lt-ltb (position_or_len (string_eq key) keys) (length keys) (omega arith)) ∙ ap Some at)
 
--- what is returned of a name that is found at a place: the place, if it is the name that was asked for
-pub place_if_same : {Z : Type 0} (keys : List (String Z)) (names : List (List ℕ)) (name : List ℕ) (key : String Z) (place : ℕ) (same : Bool)
-    → names ≡ map string_bytes keys → IsDistinct string_eq keys → slice_get keys place ≡ Some key → IsUtf8 (string_bytes key) → same ≡ bytes_eq (string_bytes key) name
-    → IfSome (then_some same place) (IsKnown names name)
-place_if_same keys names name key place true view distinct e text is =
-    let found = place_of_key keys names key place view distinct e in
-    subst (λ bytes. IsKnown names bytes place) ((bytes_eq-Decides (string_bytes key) name).0 (sym is))
-    (record { text = is_utf8-from_IsUtf8 (string_bytes key) text; stay = found.0; place = found.1 })
-place_if_same keys names name key place false view distinct e text is = tt
+-- what is returned of a name that is found at an index: the index, if it is the name that was asked for
+pub place_if_same : {Z : Type 0} (keys : List (String Z)) (names : List (List ℕ)) (name : List ℕ) (key : String Z) (index : ℕ) (same : Bool)
+    → names ≡ map string_bytes keys → IsDistinct string_eq keys → slice_get keys index ≡ Some key → IsUtf8 (string_bytes key) → same ≡ bytes_eq (string_bytes key) name
+    → IfSome (then_some same index) (IsKnown names name)
+place_if_same keys names name key index true view distinct e text is =
+    let found = place_of_key keys names key index view distinct e in
+    subst (λ bytes. IsKnown names bytes index) ((bytes_eq-Decides (string_bytes key) name).0 (sym is))
+    (record { text = is_utf8-from_IsUtf8 (string_bytes key) text; stay = found.0; index = found.1 })
+place_if_same keys names name key index false view distinct e text is = tt
 
 -- ---- a name keeps its number
 

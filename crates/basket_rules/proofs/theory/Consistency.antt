@@ -26,10 +26,10 @@ use Rattle.basket_rules.proofs.SearchLemmas.{none, set_is, count_is, stands_once
 
 -- the set stands in the list, with a count that is no lower
 pub record Stands (list : List Counted) (set : List ℕ) (least : ℕ) : Type 0 where
-  pub place : ℕ
-  pub listed : place < length list
-  pub is : set_at list place ≡ set
-  pub enough : least ≤ count_at list place
+  pub index : ℕ
+  pub listed : index < length list
+  pub is : set_at list index ≡ set
+  pub enough : least ≤ count_at list index
 
 -- a set with a count stands in the list
 pub stands_counted : (list : List Counted) (set : List ℕ) → 1 ≤ count_in list set → Stands list set (count_in list set)
@@ -38,33 +38,33 @@ stands_counted (c ∷ list) set some = at (λ more. stands_counted list set more
   where
     at : (1 ≤ count_in list set → Stands list set (count_in list set)) → (b : Bool) → pointwise nat_eq c.set set ≡ b → 1 ≤ cond b c.count (count_in list set)
         → Stands (c ∷ list) set (cond b c.count (count_in list set))
-    at later true e more = record { place = 0; listed = omega arith; is = (bytes_decides c.set set).0 e; enough = omega arith }
-    at later false e more = let s = later more in record { place = suc s.place; listed = omega (arith, s.listed); is = s.is; enough = s.enough }
+    at later true e more = record { index = 0; listed = omega arith; is = (bytes_decides c.set set).0 e; enough = omega arith }
+    at later false e more = let s = later more in record { index = suc s.index; listed = omega (arith, s.listed); is = s.is; enough = s.enough }
 
--- the count of the set at a place is the one there
-pub count_at_place : (list : List Counted) (place : ℕ) → IsSorted list → place < length list → count_in list (set_at list place) ≡ count_at list place
-count_at_place [] place up below = absurd (omega (arith, below))
-count_at_place (c ∷ list) zero up below = ap (λ b. cond b c.count (count_in list c.set)) ((bytes_decides c.set c.set).1 refl)
-count_at_place (c ∷ list) (suc place) up below =
-    ap (λ b. cond b c.count (count_in list (set_at list place))) apart
-    ∙ count_at_place list place (rest_is_sorted report_order_total c.set (sets_in list) up) (omega (arith, below))
+-- the count of the set at an index is the one there
+pub count_at_index : (list : List Counted) (index : ℕ) → IsSorted list → index < length list → count_in list (set_at list index) ≡ count_at list index
+count_at_index [] index up below = absurd (omega (arith, below))
+count_at_index (c ∷ list) zero up below = ap (λ b. cond b c.count (count_in list c.set)) ((bytes_decides c.set c.set).1 refl)
+count_at_index (c ∷ list) (suc index) up below =
+    ap (λ b. cond b c.count (count_in list (set_at list index))) apart
+    ∙ count_at_index list index (rest_is_sorted report_order_total c.set (sets_in list) up) (omega (arith, below))
   where
-    apart : pointwise nat_eq c.set (set_at list place) ≡ false
+    apart : pointwise nat_eq c.set (set_at list index) ≡ false
     apart = false_from_ne_true _ (λ e.
-        let same = stands_once (c ∷ list) 0 (suc place) up (omega arith) below ((bytes_decides c.set (set_at list place)).0 e) in absurd (omega (arith, same)))
+        let same = stands_once (c ∷ list) 0 (suc index) up (omega arith) below ((bytes_decides c.set (set_at list index)).0 e) in absurd (omega (arith, same)))
 
 -- so is that of a set that stands there
-pub count_of_standing : (list : List Counted) (set : List ℕ) (least : ℕ) → IsSorted list → (s : Stands list set least) → count_in list set ≡ count_at list s.place
-count_of_standing list set least up s = ap (count_in list) (sym s.is) ∙ count_at_place list s.place up s.listed
+pub count_of_standing : (list : List Counted) (set : List ℕ) (least : ℕ) → IsSorted list → (s : Stands list set least) → count_in list set ≡ count_at list s.index
+count_of_standing list set least up s = ap (count_in list) (sym s.is) ∙ count_at_index list s.index up s.listed
 
 -- a count that is read where the set stands
-pub counted_there : (list : List Counted) (set : List ℕ) (place count : ℕ) → place < length list → set_at list place ≡ set → count ≡ (get_or list place none).count → IsCountIn list set count
-counted_there list set place count there is says up = says ∙ sym (count_is list place none there) ∙ sym (count_at_place list place up there) ∙ ap (count_in list) is
+pub counted_there : (list : List Counted) (set : List ℕ) (index count : ℕ) → index < length list → set_at list index ≡ set → count ≡ (get_or list index none).count → IsCountIn list set count
+counted_there list set index count there is says up = says ∙ sym (count_is list index none there) ∙ sym (count_at_index list index up there) ∙ ap (count_in list) is
 
 -- that of a set which is missing is 0
 pub count_of_missing : (list : List Counted) (set : List ℕ) → IsSorted list → IsMissing list set → 0 ≡ count_in list set
 count_of_missing list set up missing = elim (cases_lt 0 (count_in list set)) [
-  | inl some ↦ absurd (let s = stands_counted list set some in missing up s.place s.listed s.is)
+  | inl some ↦ absurd (let s = stands_counted list set some in missing up s.index s.listed s.is)
   | inr less ↦ omega (arith, less)
 ]
 
@@ -84,19 +84,19 @@ module _ (list : List Counted) (consistent : IsConsistent list) where
   some_count k below = subst (λ n. 1 ≤ n) (sym (count_is list k none below)) (consistent.counted k none below)
 
   -- a subset with one item less stands in the list
-  less_stands : (k place : ℕ) → k < length list → place < length (set_at list k) → 2 ≤ length (set_at list k) → Stands list (without place (set_at list k)) (count_at list k)
-  less_stands k place below within more =
+  less_stands : (k index : ℕ) → k < length list → index < length (set_at list k) → 2 ≤ length (set_at list k) → Stands list (without index (set_at list k)) (count_at list k)
+  less_stands k index below within more =
       let count = count_is list k none below in
-      let low = subst (λ s. place < length s → 2 ≤ length s → (get_or list k none).count ≤ count_in list (without place s)) (sym (set_is list k none below)) (consistent.subsets k none below place) within more in
+      let low = subst (λ s. index < length s → 2 ≤ length s → (get_or list k none).count ≤ count_in list (without index s)) (sym (set_is list k none below)) (consistent.subsets k none below index) within more in
       let some = some_count k below in
-      let s = stands_counted list (without place (set_at list k)) (omega (arith, count, low, some)) in
-      record { place = s.place; listed = s.listed; is = s.is; enough = omega (arith, count, low, s.enough) }
+      let s = stands_counted list (without index (set_at list k)) (omega (arith, count, low, some)) in
+      record { index = s.index; listed = s.listed; is = s.is; enough = omega (arith, count, low, s.enough) }
 
   stands_by_size : (size k : ℕ) (set : List ℕ) → k < length list → IsNonemptySet set → contains (set_at list k) set ≡ true → length (set_at list k) ≤ size → Stands list set (count_at list k)
   stands_by_size zero k set below nonempty h long = absurd (let some = contains_some (set_at list k) set nonempty.1 h in omega (arith, some, long))
   stands_by_size (suc size) k set below nonempty h long = elim (cases_Bool (contains set (set_at list k))) [
     | inl whole ↦ record {
-      place = k;
+      index = k;
       listed = below;
       is = same_rising (set_at list k) set (set_nonempty k below).0 nonempty.0 (has_each set (set_at list k) whole) (has_each (set_at list k) set h);
       enough = omega arith;
@@ -113,8 +113,8 @@ module _ (list : List Counted) (consistent : IsConsistent list) where
         let some = contains_some rest set nonempty.1 kept in
         let less = less_stands k at.0 below at.1 (omega (arith, shorter, some)) in
         let same = ap length less.is in
-        let s = stands_by_size size less.place set less.listed nonempty (subst (λ t. contains t set ≡ true) (sym less.is) kept) (omega (arith, same, shorter, long)) in
-        record { place = s.place; listed = s.listed; is = s.is; enough = omega (arith, s.enough, less.enough) })
+        let s = stands_by_size size less.index set less.listed nonempty (subst (λ t. contains t set ≡ true) (sym less.is) kept) (omega (arith, same, shorter, long)) in
+        record { index = s.index; listed = s.listed; is = s.is; enough = omega (arith, s.enough, less.enough) })
   ]
 
   -- each nonempty subset of a set of the list stands in the list
@@ -138,16 +138,16 @@ module _ (baskets : List Weighted) (minimum : Minimum) where
       let lists = lists_frequent baskets minimum in
       let c = lists.complete set nonempty often in
       let here = set_is list c.0 (counted baskets set) c.1 ∙ ap (λ (x : Counted). x.set) c.2 in
-      ap (count_in list) (sym here) ∙ count_at_place list c.0 lists.in_order c.1
+      ap (count_in list) (sym here) ∙ count_at_index list c.0 lists.in_order c.1
       ∙ count_is list c.0 (counted baskets set) c.1 ∙ ap (λ (x : Counted). x.count) c.2
 
   -- a subset of one item less is frequent
   has_subsets : (c : Counted) → IsSound baskets minimum c → HasSubsets (frequent_of baskets minimum) c
-  has_subsets c sound place within more =
-      let less = without place c.set in
-      let held = contains_without place c.set in
-      let shorter = length-without place c.set within in
-      let nonempty : IsNonemptySet less = (without-rises place c.set sound.0.0, λ e. let no = ap length e in absurd (omega (arith, no, shorter, more))) in
+  has_subsets c sound index within more =
+      let less = without index c.set in
+      let held = contains_without index c.set in
+      let shorter = length-without index c.set within in
+      let nonempty : IsNonemptySet less = (without-rises index c.set sound.0.0, λ e. let no = ap length e in absurd (omega (arith, no, shorter, more))) in
       let count = count_is_support less nonempty (subsets_are_frequent baskets minimum c.set less held sound.1) in
       let falls = support_falls baskets c.set less held in
       let own = sound.2 in

@@ -26,14 +26,14 @@ use Rattle.mine_baskets.proofs.theory.Weights.{changed_weight}
 
 -- ---- weights of baskets that a function changes
 
-same_tests_weigh : (P : Weighted → Type 0) (p q : List ℕ → Bool) (places : List Weighted) → ((place : Weighted) → P place → p place.basket ≡ q place.basket) → AllByRecursion P places
+same_tests_weigh : (P : Weighted → Type 0) (p q : List ℕ → Bool) (places : List Weighted) → ((index : Weighted) → P index → p index.basket ≡ q index.basket) → AllByRecursion P places
     → weight_where p places ≡ weight_where q places
 same_tests_weigh P p q [] same all = refl
-same_tests_weigh P p q (place ∷ places) same all =
-    sum_by-cons (λ (x : Weighted). cond (p x.basket) x.weight 0) place places
-    ∙ ap (λ b. cond b place.weight 0 + weight_where p places) (same place all.0)
-    ∙ ap (λ n. cond (q place.basket) place.weight 0 + n) (same_tests_weigh P p q places same all.1)
-    ∙ sym (sum_by-cons (λ (x : Weighted). cond (q x.basket) x.weight 0) place places)
+same_tests_weigh P p q (index ∷ places) same all =
+    sum_by-cons (λ (x : Weighted). cond (p x.basket) x.weight 0) index places
+    ∙ ap (λ b. cond b index.weight 0 + weight_where p places) (same index all.0)
+    ∙ ap (λ n. cond (q index.basket) index.weight 0 + n) (same_tests_weigh P p q places same all.1)
+    ∙ sym (sum_by-cons (λ (x : Weighted). cond (q x.basket) x.weight 0) index places)
 
 -- ---- the ranks that are kept
 
@@ -50,7 +50,7 @@ module _ (baskets : List Weighted) (least rank : ℕ) where
   -- a rising basket coded by the kept ranks and decoded again is kept to them
   pub back_again : (basket : List ℕ) → IsRising basket → decoded kept (coded kept basket) ≡ filter keeps basket
   back_again basket up = same_rising (decoded kept (coded kept basket)) (filter keeps basket)
-      (rising-rises (map (λ place. get_or kept place 0) (coded kept basket))) (IsStrictlySortedBy-filter nat_cmp keeps basket up)
+      (rising-rises (map (λ index. get_or kept index 0) (coded kept basket))) (IsStrictlySortedBy-filter nat_cmp keeps basket up)
       (λ item m.
       let d = from_decoded kept (coded kept basket) item m in
       let r = from_ranks 0 kept basket d.0 d.1 in
@@ -60,8 +60,8 @@ module _ (baskets : List Weighted) (least rank : ℕ) where
       let f = Member-filter keeps item basket m in
       let c = Contains-from_Member item kept (Member-kept baskets least rank item f.1) in
       let at : get_or kept c.0 0 ≡ item = get_or_default kept c.0 0 item c.1 ∙ c.2 in
-      let place = into_ranks 0 kept basket c.0 c.1 (has-from_Member basket (get_or kept c.0 0) (subst (λ x. Member x basket) (sym at) f.0)) in
-      subst (λ x. Member x (decoded kept (coded kept basket))) at (into_decoded kept (coded kept basket) c.0 (subst (λ n. Member n (coded kept basket)) (zero-add c.0) place)))
+      let index = into_ranks 0 kept basket c.0 c.1 (has-from_Member basket (get_or kept c.0 0) (subst (λ x. Member x basket) (sym at) f.0)) in
+      subst (λ x. Member x (decoded kept (coded kept basket))) at (into_decoded kept (coded kept basket) c.0 (subst (λ n. Member n (coded kept basket)) (zero-add c.0) index)))
 
   -- ---- the baskets
 
@@ -78,16 +78,16 @@ module _ (baskets : List Weighted) (least rank : ℕ) where
 
   below_weight : (test : List ℕ → Bool) (places : List Weighted) → weight_where (λ basket. test (filter keeps basket)) (below rank places) ≡ weight_where test (flat_map (kept_place keeps rank) places)
   below_weight test [] = refl
-  below_weight test (place ∷ places) = at (has place.basket rank) (below rank places) (flat_map (kept_place keeps rank) places) (below_weight test places)
+  below_weight test (index ∷ places) = at (has index.basket rank) (below rank places) (flat_map (kept_place keeps rank) places) (below_weight test places)
     where
       at : (h : Bool) (ls ms : List Weighted) → weight_where (λ basket. test (filter keeps basket)) ls ≡ weight_where test ms
-          → weight_where (λ basket. test (filter keeps basket)) (cond h (weighted (filter (λ other. ltb other rank) place.basket) place.weight ∷ []) [] ++ ls)
-          ≡ weight_where test (cond h (weighted (filter keeps place.basket) place.weight ∷ []) [] ++ ms)
+          → weight_where (λ basket. test (filter keeps basket)) (cond h (weighted (filter (λ other. ltb other rank) index.basket) index.weight ∷ []) [] ++ ls)
+          ≡ weight_where test (cond h (weighted (filter keeps index.basket) index.weight ∷ []) [] ++ ms)
       at true ls ms rest =
-          sum_by-cons (λ (p : Weighted). cond (test (filter keeps p.basket)) p.weight 0) (weighted (filter (λ other. ltb other rank) place.basket) place.weight) ls
-          ∙ ap (λ l. cond (test l) place.weight 0 + weight_where (λ basket. test (filter keeps basket)) ls) (filter_twice place.basket)
-          ∙ ap (λ n. cond (test (filter keeps place.basket)) place.weight 0 + n) rest
-          ∙ sym (sum_by-cons (λ (p : Weighted). cond (test p.basket) p.weight 0) (weighted (filter keeps place.basket) place.weight) ms)
+          sum_by-cons (λ (p : Weighted). cond (test (filter keeps p.basket)) p.weight 0) (weighted (filter (λ other. ltb other rank) index.basket) index.weight) ls
+          ∙ ap (λ l. cond (test l) index.weight 0 + weight_where (λ basket. test (filter keeps basket)) ls) (filter_twice index.basket)
+          ∙ ap (λ n. cond (test (filter keeps index.basket)) index.weight 0 + n) rest
+          ∙ sym (sum_by-cons (λ (p : Weighted). cond (test p.basket) p.weight 0) (weighted (filter keeps index.basket) index.weight) ms)
       at false ls ms rest = rest
 
   pub conditional_weights : (ranks : List ℕ) (runs : List Span) → AreRunsOf ranks baskets rank runs → (others : List Weighted)
@@ -96,7 +96,7 @@ module _ (baskets : List Weighted) (least rank : ℕ) where
       sym (below_weight test baskets)
       ∙ are.weights (λ basket. test (filter keeps basket))
       ∙ sym (same_tests_weigh (IsRankBasket rank) (λ basket. test (decoded kept (coded kept basket))) (λ basket. test (filter keeps basket)) (baskets_at ranks runs)
-      (λ place is. ap test (back_again place.basket is.rises)) (recursion_from_All (IsRankBasket rank) (baskets_at ranks runs) are.places))
+      (λ index is. ap test (back_again index.basket is.rises)) (recursion_from_All (IsRankBasket rank) (baskets_at ranks runs) are.places))
       ∙ sym (changed_weight (λ basket. test (decoded kept basket)) (coded kept) (baskets_at ranks runs))
       ∙ same (λ basket. test (decoded kept basket))
       ∙ sym (changed_weight test (decoded kept) others)

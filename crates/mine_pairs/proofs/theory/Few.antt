@@ -43,15 +43,15 @@ module _ (keeps : ℕ → Bool) (x rank : ℕ) (only : (y : ℕ) → keeps y ≡
     pub all : support_of baskets (x ∷ []) + rest ≡ support_of baskets []
     pub weight : weight_where test baskets ≡ cond (test (x ∷ [])) (support_of baskets (x ∷ [])) 0 + cond (test []) rest 0
 
-  pub weighs_few : (test : List ℕ → Bool) (baskets : List Weighted) → AllByRecursion (λ (place : Weighted). IsRising place.basket) baskets → WeighsFew test (places baskets)
+  pub weighs_few : (test : List ℕ → Bool) (baskets : List Weighted) → AllByRecursion (λ (index : Weighted). IsRising index.basket) baskets → WeighsFew test (places baskets)
   weighs_few test [] up = record { rest = 0; all = refl; weight = omega (arith, same_cond (test (x ∷ [])) 0, same_cond (test []) 0) }
-  weighs_few test (place ∷ baskets) up = at (has place.basket rank) (weighs_few test baskets up.1)
+  weighs_few test (index ∷ baskets) up = at (has index.basket rank) (weighs_few test baskets up.1)
     where
       -- its own weight, with the rank or without it
       own_weight : (b : Bool) (basket : List ℕ) → basket ≡ cond b (x ∷ []) []
-          → cond (test basket) place.weight 0 ≡ cond (test (x ∷ [])) (cond b place.weight 0) 0 + cond (test []) (cond b 0 place.weight) 0
-      own_weight true basket is = let other = same_cond (test []) 0 in let own = ap (λ l. cond (test l) place.weight 0) is in omega (arith, other, own)
-      own_weight false basket is = let other = same_cond (test (x ∷ [])) 0 in let own = ap (λ l. cond (test l) place.weight 0) is in omega (arith, other, own)
+          → cond (test basket) index.weight 0 ≡ cond (test (x ∷ [])) (cond b index.weight 0) 0 + cond (test []) (cond b 0 index.weight) 0
+      own_weight true basket is = let other = same_cond (test []) 0 in let own = ap (λ l. cond (test l) index.weight 0) is in omega (arith, other, own)
+      own_weight false basket is = let other = same_cond (test (x ∷ [])) 0 in let own = ap (λ l. cond (test l) index.weight 0) is in omega (arith, other, own)
 
       contained : (b : Bool) (basket : List ℕ) → basket ≡ cond b (x ∷ []) [] → contains basket (x ∷ []) ≡ b
       contained true basket is = ap (λ l. contains l (x ∷ [])) is ∙ contains-refl (x ∷ [])
@@ -61,27 +61,27 @@ module _ (keeps : ℕ → Bool) (x rank : ℕ) (only : (y : ℕ) → keeps y ≡
       parts true weight = omega arith
       parts false weight = omega arith
 
-      more : (b : Bool) (basket : List ℕ) → basket ≡ cond b (x ∷ []) [] → WeighsFew test (places baskets) → WeighsFew test (weighted basket place.weight ∷ places baskets)
+      more : (b : Bool) (basket : List ℕ) → basket ≡ cond b (x ∷ []) [] → WeighsFew test (places baskets) → WeighsFew test (weighted basket index.weight ∷ places baskets)
       more b basket is few =
           let others = places baskets in
-          let own = weighted basket place.weight in
+          let own = weighted basket index.weight in
           let with_one = support-cons own others (x ∷ []) in
           let with_none = support-cons own others [] in
-          let here = ap (λ c. cond c place.weight 0) (contained b basket is) in
-          let together : cond b place.weight 0 + support_of others (x ∷ []) ≡ support_of (own ∷ others) (x ∷ []) = omega (arith, with_one, here) in
-          let with = cond_sum (test (x ∷ [])) (cond b place.weight 0) (support_of others (x ∷ [])) ∙ ap (λ n. cond (test (x ∷ [])) n 0) together in
-          let without = cond_sum (test []) (cond b 0 place.weight) few.rest in
+          let here = ap (λ c. cond c index.weight 0) (contained b basket is) in
+          let together : cond b index.weight 0 + support_of others (x ∷ []) ≡ support_of (own ∷ others) (x ∷ []) = omega (arith, with_one, here) in
+          let with = cond_sum (test (x ∷ [])) (cond b index.weight 0) (support_of others (x ∷ [])) ∙ ap (λ n. cond (test (x ∷ [])) n 0) together in
+          let without = cond_sum (test []) (cond b 0 index.weight) few.rest in
           let cons = sum_by-cons (λ (p : Weighted). cond (test p.basket) p.weight 0) own others in
           let own_parts = own_weight b basket is in
-          let both = parts b place.weight in
+          let both = parts b index.weight in
           record {
-            rest = cond b 0 place.weight + few.rest;
+            rest = cond b 0 index.weight + few.rest;
             all = omega (arith, with_none, together, few.all, both);
             weight = omega (arith, cons, own_parts, few.weight, with, without);
           }
 
-      at : (h : Bool) → WeighsFew test (places baskets) → WeighsFew test (cond h (weighted (filter keeps place.basket) place.weight ∷ []) [] ++ places baskets)
-      at true few = elim (kept_to place.basket up.0) [ inl is ↦ more true (filter keeps place.basket) is few | inr is ↦ more false (filter keeps place.basket) is few ]
+      at : (h : Bool) → WeighsFew test (places baskets) → WeighsFew test (cond h (weighted (filter keeps index.basket) index.weight ∷ []) [] ++ places baskets)
+      at true few = elim (kept_to index.basket up.0) [ inl is ↦ more true (filter keeps index.basket) is few | inr is ↦ more false (filter keeps index.basket) is few ]
       at false few = few
 
 module _ (baskets : List Weighted) (least rank : ℕ) where
@@ -89,7 +89,7 @@ module _ (baskets : List Weighted) (least rank : ℕ) where
   kept = kept_ranks baskets least rank
 
   -- what weighs as the conditional database: the baskets with the one rank and those without it
-  weighs_so : AllByRecursion (λ (place : Weighted). IsRising place.basket) baskets → (x with without : ℕ) → ((y : ℕ) → is_kept baskets least rank y ≡ true → y ≡ x) → support_of (conditional least baskets rank) (x ∷ []) ≡ with
+  weighs_so : AllByRecursion (λ (index : Weighted). IsRising index.basket) baskets → (x with without : ℕ) → ((y : ℕ) → is_kept baskets least rank y ≡ true → y ≡ x) → support_of (conditional least baskets rank) (x ∷ []) ≡ with
       → with + without ≡ support_of baskets (rank ∷ []) → (test : List ℕ → Bool) → weight_where test (conditional least baskets rank) ≡ cond (test (x ∷ [])) with 0 + cond (test []) without 0
   weighs_so up x with without only paired all test =
       let few = weighs_few (is_kept baskets least rank) x rank only test baskets up in
@@ -108,7 +108,7 @@ module _ (baskets : List Weighted) (least rank : ℕ) where
       at [] = omega arith
       at (x ∷ ranks) = support_falls baskets (x ∷ rank ∷ []) (rank ∷ []) (contains_each (x ∷ rank ∷ []) (rank ∷ []) (λ z m. inr m))
 
-  pub few_weights : AllByRecursion (λ (place : Weighted). IsRising place.basket) baskets → (ranks : List ℕ) → kept ≡ ranks → length ranks ≤ 1 → (with without : ℕ) → with ≡ first_support (supports ranks) → with + without ≡ support_of baskets (rank ∷ [])
+  pub few_weights : AllByRecursion (λ (index : Weighted). IsRising index.basket) baskets → (ranks : List ℕ) → kept ≡ ranks → length ranks ≤ 1 → (with without : ℕ) → with ≡ first_support (supports ranks) → with + without ≡ support_of baskets (rank ∷ [])
       → (others : List Weighted) → ((test : List ℕ → Bool) → weight_where test others ≡ cond (test (0 ∷ [])) with 0 + cond (test []) without 0)
       → HaveSameWeights (conditional least baskets rank) (map (decoded_place ranks) others)
   few_weights up [] are few with without is all others weigh test =

@@ -31,8 +31,8 @@ pub coding_of : (items : List ℕ) (least : ℕ) (value : RankBaskets) → IsRis
 coding_of items least value up few are long = record {
   distinct = rising_distinct items up;
   few = few;
-  places = All-weaker (IsRankBasket value.ranks) (IsCodedPlace items) (λ place is. (is.rises, subst (λ n. AllBelow n place.basket) long is.below)) value.baskets are.places;
-  weights = All-weaker (IsRankBasket value.ranks) HasWeight (λ place is. is.weighs) value.baskets are.places;
+  places = All-weaker (IsRankBasket value.ranks) (IsCodedPlace items) (λ index is. (is.rises, subst (λ n. AllBelow n index.basket) long is.below)) value.baskets are.places;
+  weights = All-weaker (IsRankBasket value.ranks) HasWeight (λ index is. is.weighs) value.baskets are.places;
   light = are.light;
 }
 

@@ -27,7 +27,7 @@ use Rattle.mine_classes.proofs.theory.Conditional.{kept_support}
 -- ---- sums
 
 abbrev weigh : ℕ → Weighted → ℕ
-weigh rank place = cond (has place.basket rank) place.weight 0
+weigh rank index = cond (has index.basket rank) index.weight 0
 
 at_most_weight : (b : Bool) (n : ℕ) → cond b n 0 ≤ n
 at_most_weight true n = omega arith
@@ -35,7 +35,7 @@ at_most_weight false n = omega arith
 
 pub sum_light : (baskets : List Weighted) (i rank : ℕ) (d : Weighted) → i < length baskets → total_of baskets ≤ MOST_WEIGHT → weight_with rank (take i baskets) + (get_or baskets i d).weight ≤ MOST_WEIGHT
 sum_light baskets i rank d here light =
-    let at_most = sum_by-le-sum_by (weigh rank) (weight_at []) (take i baskets) (λ place. at_most_weight (has place.basket rank) place.weight) in
+    let at_most = sum_by-le-sum_by (weigh rank) (weight_at []) (take i baskets) (λ index. at_most_weight (has index.basket rank) index.weight) in
     let more = sum_by_more_le (weight_at []) baskets i d here in
     omega arith
 
@@ -90,10 +90,10 @@ met_is count least sums found baskets are added =
 
 -- ---- two sums over the same baskets
 
-same_sums : (f g : Weighted → ℕ) (places : List Weighted) → ((place : Weighted) → f place ≡ g place) → sum_by f places ≡ sum_by g places
+same_sums : (f g : Weighted → ℕ) (places : List Weighted) → ((index : Weighted) → f index ≡ g index) → sum_by f places ≡ sum_by g places
 same_sums f g [] same = refl
-same_sums f g (place ∷ places) same =
-    sum_by-cons f place places ∙ ap (λ n. n + sum_by f places) (same place) ∙ ap (λ n. g place + n) (same_sums f g places same) ∙ sym (sum_by-cons g place places)
+same_sums f g (index ∷ places) same =
+    sum_by-cons f index places ∙ ap (λ n. n + sum_by f places) (same index) ∙ ap (λ n. g index + n) (same_sums f g places same) ∙ sym (sum_by-cons g index places)
 
 and_every : (b : Bool) → (b && true) ≡ b
 and_every true = refl
@@ -110,7 +110,7 @@ module _ (ranks : List ℕ) (baskets : List Weighted) (rank : ℕ) (runs : List 
   pair_weight : (other : ℕ) → weight_with other (baskets_at ranks runs) ≡ cond (ltb other rank) (support_of baskets (other ∷ rank ∷ [])) 0
   pair_weight other =
       sym (are.weights (λ basket. has basket other))
-      ∙ same_sums (weigh other) (weight_at (other ∷ [])) (below rank baskets) (λ place. ap (λ b. cond b place.weight 0) (sym (and_every (has place.basket other))))
+      ∙ same_sums (weigh other) (weight_at (other ∷ [])) (below rank baskets) (λ index. ap (λ b. cond b index.weight 0) (sym (and_every (has index.basket other))))
       ∙ kept_support (λ o. ltb o rank) rank (other ∷ []) baskets
       ∙ ap (λ b. cond b (support_of baskets (other ∷ rank ∷ [])) 0) (and_every (ltb other rank))
 
@@ -155,7 +155,7 @@ module _ (ranks : List ℕ) (baskets : List Weighted) (rank : ℕ) (runs : List 
   pub runs_ranked : (count : ℕ) → rank ≤ count → total_of baskets ≤ MOST_WEIGHT → AreRankBaskets (record { ranks = count; baskets = baskets_at ranks runs })
   runs_ranked count within light = record {
     places = All-weaker (IsRankBasket rank) (IsRankBasket count)
-        (λ place is. record { rises = is.rises; below = λ item h. (let less = is.below item h in omega arith); weighs = is.weighs }) (baskets_at ranks runs) are.places;
+        (λ index is. record { rises = is.rises; below = λ item h. (let less = is.below item h in omega arith); weighs = is.weighs }) (baskets_at ranks runs) are.places;
     light = (let all = are.weights (λ basket. contains basket []) in
         let kept = kept_support (λ o. ltb o rank) rank [] baskets in
         let falls = support_falls baskets (rank ∷ []) [] refl in

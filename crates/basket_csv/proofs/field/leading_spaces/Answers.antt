@@ -5,14 +5,14 @@ use Rattle.basket_csv.proofs.field.leading_spaces.Goals as goal
 
 pub returns-then-not-is_space-clause-value : goal.returns-then-not-is_space-clause-value
 returns-then-not-is_space-clause-value c =
-    sym (prefix_len_is is_space c.args.bytes.now c.loop-place.place 0 (omega arith) c.loop-place.invariant (λ _. sym (c.if-not-is_space.ensures)))
+    sym (prefix_len_is is_space c.args.bytes.now c.loop-index.index 0 (omega arith) c.loop-index.invariant (λ _. sym (c.if-not-is_space.ensures)))
 
 pub returns-clause-value : goal.returns-clause-value
 returns-clause-value c =
-    let all = c.loop-place-test.false in
-    let most = c.loop-place.auto.place-end in
-    let same = prefix_len_is is_space c.args.bytes.now c.loop-place.place 0 most c.loop-place.invariant (λ h. absurd (omega arith)) in
+    let all = c.loop-index-test.false in
+    let most = c.loop-index.auto.index-end in
+    let same = prefix_len_is is_space c.args.bytes.now c.loop-index.index 0 most c.loop-index.invariant (λ h. absurd (omega arith)) in
     omega (arith, same)
 
 pub returns-clause-space : goal.returns-clause-space
-returns-clause-space c = λ some. let all = c.loop-place-test.false in c.loop-place.invariant _ (omega arith)
+returns-clause-space c = λ some. let all = c.loop-index-test.false in c.loop-index.invariant _ (omega arith)

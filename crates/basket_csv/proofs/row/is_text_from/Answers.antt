@@ -7,14 +7,14 @@ use Rattle.basket_csv.proofs.row.is_text_from.Goals as goal
 pub returns-then-is_none : goal.returns-then-is_none
 returns-then-is_none c =
     let fields = fields_of c.args.row.now in
-    let no = text_missing c.text_at.result fields c.loop-place.place c.text_at.ensures c.if-is_none.ensures in
-    sym (c.loop-place.invariant ∙ text_goes_on fields c.loop-place.place (rw c.len-place-end.ensures at c.loop-place-test.true) ∙ ap (λ b. b && is_text (drop (c.loop-place.place + 1) fields)) no)
+    let no = text_missing c.text_at.result fields c.loop-index.index c.text_at.ensures c.if-is_none.ensures in
+    sym (c.loop-index.invariant ∙ text_goes_on fields c.loop-index.index (rw c.len-index-end.ensures at c.loop-index-test.true) ∙ ap (λ b. b && is_text (drop (c.loop-index.index + 1) fields)) no)
 
-pub loop-place-preserved : goal.loop-place-preserved
-loop-place-preserved c =
+pub loop-index-preserved : goal.loop-index-preserved
+loop-index-preserved c =
     let fields = fields_of c.args.row.now in
-    let yes = text_found c.text_at.result fields c.loop-place.place c.text_at.ensures c.if-is_none.ensures in
-    c.loop-place.invariant ∙ text_goes_on fields c.loop-place.place (rw c.len-place-end.ensures at c.loop-place-test.true) ∙ ap (λ b. b && is_text (drop (c.loop-place.place + 1) fields)) yes
+    let yes = text_found c.text_at.result fields c.loop-index.index c.text_at.ensures c.if-is_none.ensures in
+    c.loop-index.invariant ∙ text_goes_on fields c.loop-index.index (rw c.len-index-end.ensures at c.loop-index-test.true) ∙ ap (λ b. b && is_text (drop (c.loop-index.index + 1) fields)) yes
 
 pub returns : goal.returns
-returns c = sym (c.loop-place.invariant ∙ text_ends (fields_of c.args.row.now) c.loop-place.place (rw c.len-place-end.ensures at c.loop-place-test.false))
+returns c = sym (c.loop-index.invariant ∙ text_ends (fields_of c.args.row.now) c.loop-index.index (rw c.len-index-end.ensures at c.loop-index-test.false))

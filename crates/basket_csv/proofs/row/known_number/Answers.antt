@@ -8,5 +8,5 @@ pub returns-then-is_name : goal.returns-then-is_name
 returns-then-is_name c =
     let fields = fields_of c.args.row.now in
     let field = c.in_ok-field.field.now in
-    known_field c.known.result c.args.names.now (field_in fields c.args.place) field (field_found fields c.args.place field c.in_ok-field.ensures)
+    known_field c.known.result c.args.names.now (field_in fields c.args.index) field (field_found fields c.args.index field c.in_ok-field.ensures)
     (c.if-is_name.ensures.trimmed refl) (c.if-is_name.ensures.some refl) c.known.ensures

@@ -6,10 +6,10 @@ use Rattle.basket_csv.proofs.row.text_at.Goals as goal
 
 pub returns-in-Some : goal.returns-in-Some
 returns-in-Some c =
-    let e = field_found (fields_of c.args.row.now) c.args.place c.in-Some.field.now c.in-Some.ensures in
+    let e = field_found (fields_of c.args.row.now) c.args.index c.in-Some.field.now c.in-Some.ensures in
     rw (e) c.text_of.ensures
 
 pub returns-in-None : goal.returns-in-None
 returns-in-None c =
-    let e = field_missing (fields_of c.args.row.now) c.args.place c.in-None.ensures in
+    let e = field_missing (fields_of c.args.row.now) c.args.index c.in-None.ensures in
     (sym e, ap is_utf8 e ∙ nothing_is_text)

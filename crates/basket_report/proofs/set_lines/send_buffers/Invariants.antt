@@ -6,9 +6,9 @@ use Rattle.basket_report.proofs.set_lines.send_buffers.Given as goal
 
 abbrev pub invariant-loop-buffer : goal.invariant-loop-buffer
 invariant-loop-buffer g l = record {
-  after : l.place ≤ l.next;
+  after : l.index ≤ l.next;
   within : l.next ≤ length l.sets;
   way : (start : Option (List ℕ))
-      → IsWritten start (g.W.Sink.taken l.fn.writer) (g.W.Sink.has_failed l.fn.writer) (g.W.Sink.ends_in_flush l.fn.writer) (report_of Numbered (take l.place l.sets))
+      → IsWritten start (g.W.Sink.taken l.fn.writer) (g.W.Sink.has_failed l.fn.writer) (g.W.Sink.ends_in_flush l.fn.writer) (report_of Numbered (take l.index l.sets))
       → IsWritten start (g.W.Sink.taken l.writer) (g.W.Sink.has_failed l.writer) (g.W.Sink.ends_in_flush l.writer) (report_of Numbered (take l.next l.sets));
 }

@@ -20,9 +20,9 @@ loop-consequent-preserved c =
     let old = rules_in listing number c.args.rules.now.items in
     let before = c.loop-consequent.rules.items in
     let met = c.loop-consequent.met.items in
-    let consequent : Consequent = get_or tried at (record { places = 0; first = 0 }) in
+    let consequent : Consequent = get_or tried at (record { bits = 0; first = 0 }) in
     let below : at < length tried = c.loop-consequent-test.true in
-    let here : consequent ≡ get_or tried at consequent = get_or_default tried at (record { places = 0; first = 0 }) consequent below in
+    let here : consequent ≡ get_or tried at consequent = get_or_default tried at (record { bits = 0; first = 0 }) consequent below in
     elim c.match-branch-3.branch [
       | in-Some+in_ok-push+in_ok-push-2 w ↦
           (let rule = w.in-Some.rule in

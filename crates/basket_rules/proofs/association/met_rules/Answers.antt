@@ -1,8 +1,8 @@
 use Rattle.std.proofs.Common.{arith, ◌≡◌, ◌≤◌, ◌<◌, ◌+◌, ◌-◌, ◌^◌, [], ◌∷◌, length, sym, ap, ◌∙◌, subst}
-use Rattle.basket_rules.specs.declared.consequents.TheConstants.{MOST_PLACES}
+use Rattle.basket_rules.specs.declared.consequents.TheConstants.{MOST_BITS}
 use Rattle.basket_rules.specs.Consistency.{IsConsistent}
 use Rattle.basket_rules.specs.Listed.{set_at}
-use Rattle.basket_rules.specs.Consequents.{longer, no_places}
+use Rattle.basket_rules.specs.Consequents.{longer, no_bits}
 use Rattle.basket_rules.specs.Confident.{rules_in}
 use Rattle.basket_rules.specs.Rules.{KeepsConfident, rules_among_with}
 use Rattle.basket_rules.proofs.LevelLemmas.{IsLevelAt, first_level, next_level, all_levels}
@@ -10,13 +10,13 @@ use Rattle.basket_rules.proofs.SizeLemmas.{none_so_large}
 use Rattle.basket_rules.proofs.theory.Rules.{rules_with_of_baskets}
 use Rattle.basket_rules.proofs.association.met_rules.Goals as goal
 
-pub returns-then-count-gt-MOST_PLACES : goal.returns-then-count-gt-MOST_PLACES
-returns-then-count-gt-MOST_PLACES c =
+pub returns-then-count-gt-MOST_BITS : goal.returns-then-count-gt-MOST_BITS
+returns-then-count-gt-MOST_BITS c =
     let listing = c.args.frequent.now in
     let number = c.args.number in
     let same = c.sets-sets.ensures in
     let sized = ap length (c.items_at-items.ensures.is ∙ ap (λ l. set_at l number) same) in
-    let deep : MOST_PLACES < length (set_at listing.sets number) = subst (λ n. MOST_PLACES < n) sized c.if-count-gt-MOST_PLACES.true in
+    let deep : MOST_BITS < length (set_at listing.sets number) = subst (λ n. MOST_BITS < n) sized c.if-count-gt-MOST_BITS.true in
     let fits : length listing.sets < 2 ^ 64 = subst (λ l. length l < 2 ^ 64) same (omega (arith, c.len.ensures)) in
     let rules = rules_in listing number c.in_ok-rules.rules.items in
     let lists : IsConsistent listing.sets → rules ≡ rules_among_with listing c.args.confidence (set_at listing.sets number) = λ consistent.
@@ -28,10 +28,10 @@ loop-size-init c =
     let listing = c.args.frequent.now in
     let number = c.args.number in
     let sized = ap length (c.items_at-items.ensures.is ∙ ap (λ l. set_at l number) c.sets-sets.ensures) in
-    let made : c.in_ok-consequents.consequents.items ≡ longer (length (set_at listing.sets number)) (no_places ∷ []) =
+    let made : c.in_ok-consequents.consequents.items ≡ longer (length (set_at listing.sets number)) (no_bits ∷ []) =
     c.in_ok-consequents.ensures ∙ (λ i. longer (sized i) (c.none.ensures i ∷ [])) in
     subst (λ l. IsLevelAt listing c.args.confidence number 1 c.in_ok-consequents.consequents.items (rules_in listing number l)) (sym c.in_ok-rules.ensures.items)
-    (subst (λ l. IsLevelAt listing c.args.confidence number 1 l []) (sym made) (first_level listing c.args.confidence number (subst (λ n. n ≤ MOST_PLACES) sized c.if-count-gt-MOST_PLACES.false)))
+    (subst (λ l. IsLevelAt listing c.args.confidence number 1 l []) (sym made) (first_level listing c.args.confidence number (subst (λ n. n ≤ MOST_BITS) sized c.if-count-gt-MOST_BITS.false)))
 
 pub loop-size-preserved : goal.loop-size-preserved
 loop-size-preserved c =
@@ -41,7 +41,7 @@ loop-size-preserved c =
     let size = c.loop-size.size + 1 in
     let met = c.in_ok-met.met.items in
     let made : c.in_ok-consequents-2.consequents.items ≡ longer (length (set_at listing.sets number)) met = c.in_ok-consequents-2.ensures ∙ (λ i. longer (sized i) (c.deref-in-loop-size.ensures.value i)) in
-    let few : length (set_at listing.sets number) ≤ MOST_PLACES = subst (λ n. n ≤ MOST_PLACES) sized c.if-count-gt-MOST_PLACES.false in
+    let few : length (set_at listing.sets number) ≤ MOST_BITS = subst (λ n. n ≤ MOST_BITS) sized c.if-count-gt-MOST_BITS.false in
     let most : c.most_consequent_items-size-end.result ≡ length (set_at listing.sets number) - 1 = c.most_consequent_items-size-end.ensures ∙ ap (λ n. n - 1) sized in
     let some : 1 ≤ size = omega arith in
     let less : size < length (set_at listing.sets number) = omega (arith, most, c.loop-size-test.true) in

@@ -8,9 +8,9 @@ use Rattle.basket_sets.proofs.theory.Without.{around_is}
 pub returns-clause-found : goal.returns-clause-found
 returns-clause-found c =
     subst (λ set. IfSome c.find_near-found.result (λ at. set_at c.args.sets.now at ≡ set))
-    (around_is c.args.place c.items_at-items.result.now ∙ ap (without c.args.place) c.items_at-items.ensures.is) c.find_near-found.ensures.found
+    (around_is c.args.index c.items_at-items.result.now ∙ ap (without c.args.index) c.items_at-items.ensures.is) c.find_near-found.ensures.found
 
 pub returns-clause-missing : goal.returns-clause-missing
 returns-clause-missing c =
     subst (λ set. IfNone c.find_near-found.result (IsMissing c.args.sets.now set))
-    (around_is c.args.place c.items_at-items.result.now ∙ ap (without c.args.place) c.items_at-items.ensures.is) c.find_near-found.ensures.missing
+    (around_is c.args.index c.items_at-items.result.now ∙ ap (without c.args.index) c.items_at-items.ensures.is) c.find_near-found.ensures.missing

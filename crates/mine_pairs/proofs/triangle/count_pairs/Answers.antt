@@ -11,26 +11,26 @@ use Rattle.mine_pairs.proofs.triangle.count_pairs.Goals as goal
 
 pub count_basket-requires-clause-light : goal.count_basket-requires-clause-light
 count_basket-requires-clause-light g c = λ k lesser within less.
-    let rows = c.loop-place.rows in
+    let rows = c.loop-index.rows in
     let baskets = g.B.RankedBaskets.baskets c.args.baskets.now in
-    let here : c.loop-place.place < length baskets = omega (arith, c.loop-place-test.true, c.basket_count-place-end.ensures) in
-    let light = counts_light baskets c.loop-place.place (weighted [] 0) c.args.first (lists_of rows) here c.loop-place.invariant
+    let here : c.loop-index.index < length baskets = omega (arith, c.loop-index-test.true, c.basket_count-index-end.ensures) in
+    let light = counts_light baskets c.loop-index.index (weighted [] 0) c.args.first (lists_of rows) here c.loop-index.invariant
     c.basket_at-weight.ensures.light k lesser (omega (arith, within, length-map rows (λ (v : Vec ℕ Global). v.items))) less in
     omega (arith, light, ap (λ (p : Weighted). p.weight) c.basket_at-weight.ensures.basket)
 
-pub loop-place-preserved : goal.loop-place-preserved
-loop-place-preserved g c =
+pub loop-index-preserved : goal.loop-index-preserved
+loop-index-preserved g c =
     let baskets = g.B.RankedBaskets.baskets c.args.baskets.now in
-    let now = lists_of c.loop-place.rows in
+    let now = lists_of c.loop-index.rows in
     let new = lists_of c.count_basket.new.rows in
     let items = λ (v : Vec ℕ Global). v.items in
-    let here : c.loop-place.place < length baskets = omega (arith, c.loop-place-test.true, c.basket_count-place-end.ensures) in
-    counts_more baskets c.loop-place.place (weighted [] 0) c.args.first now here c.loop-place.invariant new
-    (length-map c.count_basket.new.rows items ∙ c.count_basket.auto.rows ∙ sym (length-map c.loop-place.rows items))
+    let here : c.loop-index.index < length baskets = omega (arith, c.loop-index-test.true, c.basket_count-index-end.ensures) in
+    counts_more baskets c.loop-index.index (weighted [] 0) c.args.first now here c.loop-index.invariant new
+    (length-map c.count_basket.new.rows items ∙ c.count_basket.auto.rows ∙ sym (length-map c.loop-index.rows items))
     (subst (λ (p : Weighted). WithPairs c.args.first p.basket p.basket p.weight now new) c.basket_at-weight.ensures.basket c.count_basket.ensures)
 
 pub returns : goal.returns
 returns g c =
     let baskets = g.B.RankedBaskets.baskets c.args.baskets.now in
-    subst (λ l. HaveCounts l c.args.first (lists_of c.loop-place.rows))
-    (take_all c.loop-place.place baskets (omega (arith, c.loop-place-test.false, c.basket_count-place-end.ensures))) c.loop-place.invariant
+    subst (λ l. HaveCounts l c.args.first (lists_of c.loop-index.rows))
+    (take_all c.loop-index.index baskets (omega (arith, c.loop-index-test.false, c.basket_count-index-end.ensures))) c.loop-index.invariant

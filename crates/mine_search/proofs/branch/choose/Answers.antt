@@ -11,7 +11,7 @@ loop-from-preserved g c =
     let made = c.in_ok-add_longer.ensures in
     let one : Counted = record { set = with_item c.args.one.0 (set_at c.loop-from.mined.sets c.loop-from.from); count = c.args.one.1 } in
     record {
-      sets = chosen_more c.args.one.0 c.args.one.1 c.args.places.0 c.loop-from.from c.args.mined.now.sets c.loop-from.mined.sets _ c.loop-from.auto.from (omega (arith, c.loop-from-test.true, c.requires.within)) before.sets made.sets;
+      sets = chosen_more c.args.one.0 c.args.one.1 c.args.bounds.0 c.loop-from.from c.args.mined.now.sets c.loop-from.mined.sets _ c.loop-from.auto.from (omega (arith, c.loop-from-test.true, c.requires.within)) before.sets made.sets;
       long = omega (arith, before.long, c.loop-from.auto.from, ap length made.sets, length-append c.loop-from.mined.sets (one ∷ []));
       steps = c.add_longer.ensures.steps ∙ before.steps;
       told = omega (arith, before.told, made.told, c.loop-from.auto.from);

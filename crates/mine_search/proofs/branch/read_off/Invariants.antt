@@ -12,5 +12,5 @@ invariant-loop-at g l =
       start : l.start ≡ length l.initial.mined.sets;
       limit : g.T.Tally.limit_of l.tally ≡ g.T.Tally.limit_of l.initial.tally;
       going : GoesOn (at l.mined l.tally);
-      found : (node : Node) → IsOf g.P.Projected.gives l.base (set_at l.initial.mined.sets l.place) node → FindsPart node l.at (at l.initial.mined l.initial.tally) (at l.mined l.tally);
+      found : (node : Node) → IsOf g.P.Projected.gives l.base (set_at l.initial.mined.sets l.index) node → FindsPart node l.at (at l.initial.mined l.initial.tally) (at l.mined l.tally);
     }

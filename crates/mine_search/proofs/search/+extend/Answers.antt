@@ -41,18 +41,18 @@ extend-requires g t c = λ κs lives.
     let rank = get_or (g.P.Projected.ranks c.args.base.now) c.loop-at.at 0 in
     let turn = turn_at g.P.Projected.ranks g.met.P.Projected.ranks_are is c.loop-at.at inside in
     let now = c.loop-at.mined in
-    let one : Counted = record { set = with_item c.item-item.result (set_at now.sets c.args.place); count = c.support-support.result } in
+    let one : Counted = record { set = with_item c.item-item.result (set_at now.sets c.args.index); count = c.support-support.result } in
     let at = reached g.P.Projected.number g.T.Tally.told_of g.T.Tally.limit_of g.T.Tally.is_over in
     let with_one = at (record { sets = c.add_longer.new.self.sets; steps = c.narrowed.new.steps }) c.add_longer.new.tally in
     let adds = adds_one one (node.over.work (rank ∷ node.set)) (at now c.loop-at.tally) with_one c.in_ok-longer.ensures.sets
     (omega (arith, c.in_ok-below.ensures.work node is.given, ap g.P.Projected.number c.add_longer.ensures.steps)) c.in_ok-longer.ensures.told c.in_ok-longer.ensures.going_on
     (omega (arith, c.in_ok-below.ensures.work node is.given, c.in_ok-below.ensures.little)) c.loop-at.invariant.going in
-    let below = extended turn c.args.place c.requires.found refl (c.item-item.ensures node is.given) (c.support-support.ensures node is.given) (c.loop-at.invariant.found node is)
-    c.in_ok-longer.ensures.place c.in_ok-longer.ensures.sets in
+    let below = extended turn c.args.index c.requires.found refl (c.item-item.ensures node is.given) (c.support-support.ensures node is.given) (c.loop-at.invariant.found node is)
+    c.in_ok-longer.ensures.index c.in_ok-longer.ensures.sets in
     let inner : g.P.Projected.gives c.in-Some.inner (child node rank) = (rw c.in-Some.is at c.in_ok-below.ensures.below) node is.given in
     let less = fewer turn in
     let more = ap length c.in_ok-longer.ensures.sets ∙ length-append now.sets (one ∷ []) in
-    (omega (arith, c.decreases, less, ap length (g.met.P.Projected.ranks_are c.in-Some.inner (child node rank) inner), ap length (g.met.P.Projected.ranks_are c.args.base.now node is.given)), (lives.0, (lives.1.0, (lives.1.1.0, (lives.1.1.1, (omega (arith, c.in_ok-longer.ensures.place, more), ((child node rank, record { given = inner; is = below.inner }), (adds.going, rw c.in-Some.is at c.in_ok-below.ensures.inner))))))))
+    (omega (arith, c.decreases, less, ap length (g.met.P.Projected.ranks_are c.in-Some.inner (child node rank) inner), ap length (g.met.P.Projected.ranks_are c.args.base.now node is.given)), (lives.0, (lives.1.0, (lives.1.1.0, (lives.1.1.1, (omega (arith, c.in_ok-longer.ensures.index, more), ((child node rank, record { given = inner; is = below.inner }), (adds.going, rw c.in-Some.is at c.in_ok-below.ensures.inner))))))))
 
 pub returns-in_err-extend-clause-done : goal.returns-in_err-extend-clause-done
 returns-in_err-extend-clause-done g t c =
@@ -60,14 +60,14 @@ returns-in_err-extend-clause-done g t c =
     let inside : c.loop-at.at < length (g.P.Projected.ranks c.args.base.now) = omega (arith, c.loop-at-test.true, c.len-at-end.ensures) in
     let rank = get_or (g.P.Projected.ranks c.args.base.now) c.loop-at.at 0 in
     let now = c.loop-at.mined in
-    let one : Counted = record { set = with_item c.item-item.result (set_at now.sets c.args.place); count = c.support-support.result } in
+    let one : Counted = record { set = with_item c.item-item.result (set_at now.sets c.args.index); count = c.support-support.result } in
     let done = c.extend.ensures.done in
     fails _ _ _ _ _ _ p.0 p.1
     (λ limit e node is.
     let turn = turn_at g.P.Projected.ranks g.met.P.Projected.ranks_are is c.loop-at.at inside in
     let part = c.loop-at.invariant.found node is in
-    let below = extended turn c.args.place c.requires.found refl (c.item-item.ensures node is.given) (c.support-support.ensures node is.given) part
-    c.in_ok-longer.ensures.place c.in_ok-longer.ensures.sets in
+    let below = extended turn c.args.index c.requires.found refl (c.item-item.ensures node is.given) (c.support-support.ensures node is.given) part
+    c.in_ok-longer.ensures.index c.in_ok-longer.ensures.sets in
     let inner : IsOf g.P.Projected.gives c.in-Some.inner _ (child node rank) = record { given = (rw c.in-Some.is at c.in_ok-below.ensures.below) node is.given; is = below.inner } in
     let within = turn_within turn _ _ part in
     let more = ap length c.in_ok-longer.ensures.sets ∙ length-append now.sets (one ∷ []) in
@@ -76,8 +76,8 @@ returns-in_err-extend-clause-done g t c =
     (λ node is.
     let turn = turn_at g.P.Projected.ranks g.met.P.Projected.ranks_are is c.loop-at.at inside in
     let part = c.loop-at.invariant.found node is in
-    let below = extended turn c.args.place c.requires.found refl (c.item-item.ensures node is.given) (c.support-support.ensures node is.given) part
-    c.in_ok-longer.ensures.place c.in_ok-longer.ensures.sets in
+    let below = extended turn c.args.index c.requires.found refl (c.item-item.ensures node is.given) (c.support-support.ensures node is.given) part
+    c.in_ok-longer.ensures.index c.in_ok-longer.ensures.sets in
     let within = turn_within turn _ _ part in
     omega (arith, within.0, c.in_ok-longer.ensures.told, done.at_most (child node rank) (record { given = (rw c.in-Some.is at c.in_ok-below.ensures.below) node is.given; is = below.inner })))
     (done.limit ∙ c.add_longer.ensures.limit ∙ c.loop-at.invariant.limit)
@@ -87,10 +87,10 @@ loop-at-preserved g t c =
     let inside : c.loop-at.at < length (g.P.Projected.ranks c.args.base.now) = omega (arith, c.loop-at-test.true, c.len-at-end.ensures) in
     let rank = get_or (g.P.Projected.ranks c.args.base.now) c.loop-at.at 0 in
     let now = c.loop-at.mined in
-    let one : Counted = record { set = with_item c.item-item.result (set_at now.sets c.args.place); count = c.support-support.result } in
+    let one : Counted = record { set = with_item c.item-item.result (set_at now.sets c.args.index); count = c.support-support.result } in
     let at = reached g.P.Projected.number g.T.Tally.told_of g.T.Tally.limit_of g.T.Tally.is_over in
     let with_one = at (record { sets = c.add_longer.new.self.sets; steps = c.narrowed.new.steps }) c.add_longer.new.tally in
-    let found : (node : Node) → IsOf g.P.Projected.gives c.args.base.now (set_at c.args.mined.now.sets c.args.place) node
+    let found : (node : Node) → IsOf g.P.Projected.gives c.args.base.now (set_at c.args.mined.now.sets c.args.index) node
     → FindsPart node (c.loop-at.at + 1) (at c.args.mined.now c.args.tally.now) (at c.match-below.mined c.match-below.tally)
     = λ node is.
     let turn = turn_at g.P.Projected.ranks g.met.P.Projected.ranks_are is c.loop-at.at inside in
@@ -98,8 +98,8 @@ loop-at-preserved g t c =
     let adds = adds_one one (node.over.work (rank ∷ node.set)) (at now c.loop-at.tally) with_one c.in_ok-longer.ensures.sets
     (omega (arith, c.in_ok-below.ensures.work node is.given, ap g.P.Projected.number c.add_longer.ensures.steps)) c.in_ok-longer.ensures.told c.in_ok-longer.ensures.going_on
     (omega (arith, c.in_ok-below.ensures.work node is.given, c.in_ok-below.ensures.little)) c.loop-at.invariant.going in
-    let all = extended turn c.args.place c.requires.found refl (c.item-item.ensures node is.given) (c.support-support.ensures node is.given) part
-    c.in_ok-longer.ensures.place c.in_ok-longer.ensures.sets in
+    let all = extended turn c.args.index c.requires.found refl (c.item-item.ensures node is.given) (c.support-support.ensures node is.given) part
+    c.in_ok-longer.ensures.index c.in_ok-longer.ensures.sets in
     let below : FindsAll with_one (at c.match-below.mined c.match-below.tally) (child node rank) = elim c.match-below.branch [
       | in-Some+in_ok-extend w ↦
           subst (λ m. FindsAll with_one (at m c.match-below.tally) (child node rank)) (sym w.mined-is)

@@ -15,5 +15,5 @@ invariant-loop-at g l =
       lent : g.P.Projected.keeps l.base l.initial.scratch l.scratch;
       limit : g.T.Tally.limit_of l.tally ≡ g.T.Tally.limit_of l.initial.tally;
       going : GoesOn (at l.mined l.tally);
-      found : (node : Node) → IsOf g.P.Projected.gives l.base (set_at l.initial.mined.sets l.place) node → FindsPart node l.at (at l.initial.mined l.initial.tally) (at l.mined l.tally);
+      found : (node : Node) → IsOf g.P.Projected.gives l.base (set_at l.initial.mined.sets l.index) node → FindsPart node l.at (at l.initial.mined l.initial.tally) (at l.mined l.tally);
     }

@@ -10,7 +10,7 @@ pub returns-clause-fault : goal.returns-clause-fault
 returns-clause-fault c = λ nth.
     let fields = fields_of c.args.row.now in
     let id = field_found fields 0 c.in_ok-id.id.now c.in_ok-id.ensures in
-    no_fault nth fields (sym c.len.ensures ∙ c.if-len-ne2.false) (ap is_utf8 id ∙ c.in_ok-place.ensures.text) c.in_ok-number.ensures.known.text
+    no_fault nth fields (sym c.len.ensures ∙ c.if-len-ne2.false) (ap is_utf8 id ∙ c.in_ok-index.ensures.text) c.in_ok-number.ensures.known.text
 
 pub returns-clause-known : goal.returns-clause-known
 returns-clause-known c =
@@ -18,7 +18,7 @@ returns-clause-known c =
     let id = field_found fields 0 c.in_ok-id.id.now c.in_ok-id.ensures in
     record {
       two = sym c.len.ensures ∙ c.if-len-ne2.false;
-      id = subst (λ field. IsKnownField c.args.self.now.ids field c.in_ok-place.place) (sym id)
-          (record { known = c.in_ok-place.ensures; trimmed = c.if-not-is_name.ensures.trimmed refl; some = c.if-not-is_name.ensures.some refl });
+      id = subst (λ field. IsKnownField c.args.self.now.ids field c.in_ok-index.index) (sym id)
+          (record { known = c.in_ok-index.ensures; trimmed = c.if-not-is_name.ensures.trimmed refl; some = c.if-not-is_name.ensures.some refl });
       name = c.in_ok-number.ensures;
     }

@@ -13,7 +13,7 @@ pub returns-in-Some-clause-read : goal.returns-in-Some-clause-read
 returns-in-Some-clause-read c = λ start rows _ h.
     let pairs = c.args.self.now in
     known_paired pairs (record { alloc = pairs.alloc; names = pairs.names; ids = pairs.ids; groups = c.add_number.new.groups }) start.known rows (fields_of c.args.row.now)
-    c.in-Some.place c.in-Some.number refl refl c.in_ok-add_number.ensures c.in-Some.ensures.known h
+    c.in-Some.index c.in-Some.number refl refl c.in_ok-add_number.ensures c.in-Some.ensures.known h
 
 pub returns-in_default-text_at-clause-fault : goal.returns-in_default-text_at-clause-fault
 returns-in_default-text_at-clause-fault c = λ start rows h _. text_fault c.args.nth (fields_of c.args.row.now) _ 0 c.in_default-text_at.ensures

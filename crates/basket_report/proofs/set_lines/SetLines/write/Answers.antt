@@ -10,7 +10,7 @@ pub returns-clause-err : goal.returns-clause-err
 returns-clause-err g c =
     let sets = c.args.sets.now in
     let start = g.W.Sink.taken c.args.writer.now in
-    let fresh : g.W.Sink.has_failed c.loop-place.writer ≡ false = sym c.failed.ensures ∙ c.if-failed.false in
-    let all : take c.loop-place.place sets ≡ sets = take_all c.loop-place.place sets (omega (arith, c.len.ensures, c.loop-place-test.false)) in
-    front_on_err c.flush.result start (g.W.Sink.taken c.loop-place.writer) (g.W.Sink.taken c.flush.new.self) (report_of Numbered sets)
-    (subst (λ some. Appends start (g.W.Sink.taken c.loop-place.writer) (report_of Numbered some)) all (c.loop-place.invariant.way.working fresh)) c.flush.ensures.bytes
+    let fresh : g.W.Sink.has_failed c.loop-index.writer ≡ false = sym c.failed.ensures ∙ c.if-failed.false in
+    let all : take c.loop-index.index sets ≡ sets = take_all c.loop-index.index sets (omega (arith, c.len.ensures, c.loop-index-test.false)) in
+    front_on_err c.flush.result start (g.W.Sink.taken c.loop-index.writer) (g.W.Sink.taken c.flush.new.self) (report_of Numbered sets)
+    (subst (λ some. Appends start (g.W.Sink.taken c.loop-index.writer) (report_of Numbered some)) all (c.loop-index.invariant.way.working fresh)) c.flush.ensures.bytes

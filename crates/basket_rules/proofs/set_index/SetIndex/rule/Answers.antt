@@ -2,7 +2,7 @@ use Rattle.std.proofs.Common.{◌≡◌, ◌*◌, ℕ, Bool, get_or, not, sym, a
 use Rattle.basket_core.specs.Fraction.{lowest}
 use Rattle.basket_sets.specs.Itemset.{IsRising}
 use Rattle.basket_rules.specs.Listed.{set_at, count_at}
-use Rattle.basket_rules.specs.Consequents.{has_place, side_of}
+use Rattle.basket_rules.specs.Consequents.{has_bit, side_of}
 use Rattle.basket_rules.specs.Rules.{difference}
 use Rattle.basket_rules.proofs.ConsequentLemmas.{chosen_rises, others_are}
 use Rattle.basket_rules.proofs.SearchLemmas.{none, count_is}
@@ -19,16 +19,16 @@ returns-clause-rule c =
     c.count.ensures ∙ ap (λ list. (get_or list number none).count) same ∙ sym (count_is listing.sets number none c.requires) in
     let items : c.items_at-items.result.now ≡ union = c.items_at-items.ensures.is ∙ ap (λ list. set_at list number) same in
     let antecedent : c.fill.new.self.antecedent.items ≡ difference union (side_of union met.consequent) = c.in_ok-fill.ensures.antecedent
-    ∙ others_are (has_place met.consequent.places) 0 c.items_at-items.result.now c.items_at-items.ensures.rising
+    ∙ others_are (has_bit met.consequent.bits) 0 c.items_at-items.result.now c.items_at-items.ensures.rising
     ∙ ap (λ l. difference l (side_of l met.consequent)) items in
     let filled : c.fill.new.self.consequent.items ≡ side_of union met.consequent = c.in_ok-fill.ensures.consequent ∙ ap (λ l. side_of l met.consequent) items in
     λ i. record { antecedent = antecedent i; consequent = filled i; count = counted i; confidence = lowest (counted i) met.antecedent_count; lift = lowest (counted i * c.total.ensures i) (met.antecedent_count * met.consequent_count) }
 
 pub returns-clause-antecedent : goal.returns-clause-antecedent
 returns-clause-antecedent c =
-    let other : ℕ → Bool = λ place. not (has_place c.args.met.now.consequent.places place) in
+    let other : ℕ → Bool = λ index. not (has_bit c.args.met.now.consequent.bits index) in
     subst IsRising (sym c.in_ok-fill.ensures.antecedent) (chosen_rises other 0 c.items_at-items.result.now c.items_at-items.ensures.rising)
 
 pub returns-clause-consequent : goal.returns-clause-consequent
 returns-clause-consequent c =
-    subst IsRising (sym c.in_ok-fill.ensures.consequent) (chosen_rises (has_place c.args.met.now.consequent.places) 0 c.items_at-items.result.now c.items_at-items.ensures.rising)
+    subst IsRising (sym c.in_ok-fill.ensures.consequent) (chosen_rises (has_bit c.args.met.now.consequent.bits) 0 c.items_at-items.result.now c.items_at-items.ensures.rising)
