@@ -162,6 +162,24 @@ class Workers(unittest.TestCase):
                         self.counted(text.encode(), words, workers), wanted
                     )
 
+    def test_records_are_right_before_and_after_the_first_field_in_quotes(self) -> None:
+        source = random.Random("quotes")
+        parts = ("a", "é", ' in "the" middle', "two words", "𝄞", "x" * 17)
+        names = [part * times for part in parts for times in range(1, 6)]
+        for first, line_end in itertools.product(
+            (0, 1, 15, 7_000, 8_000), ("\n", "\r\n", "\r", "\n\n")
+        ):
+            rows = [source.sample(names, source.randint(1, 9)) for _ in range(8_000)]
+            lines = [",".join(row) for row in rows]
+            lines.insert(first, '"in ""quotes"", at last","two\nlines"')
+            counts = Counter(name.strip() for row in rows for name in {*row})
+            wanted = {name: str(n) for name, n in counts.items()}
+            for workers in (1, 4):
+                with self.subTest(first=first, line_end=line_end, workers=workers):
+                    given = line_end.join(lines).encode()
+                    found = self.counted(given, ["baskets"], workers)
+                    self.assertEqual({name: n for n, name in found}, wanted)
+
     def test_a_record_may_go_on_over_many_parts(self) -> None:
         lines = "bread\n" * 100_000
         given = f'tea\ntea\n"{lines}",tea\ntea\n'.encode()
