@@ -8,7 +8,7 @@ use Rattle.std.specs.Prelude.{nat_eq}
 use Rattle.std.specs.List.{IsDistinct, filter}
 use Rattle.std.specs.List.Sorted.{IsBinarySearchResult, IsStrictlySortedBy, IsPermutation, IsSorted}
 use Rattle.std.proofs.lemmas.Cmp.{then_total, on_total, back_total}
-use Rattle.std.proofs.lemmas.Bool.{cases_Bool, cases_eq, cases_order, or_cases, eqb-true, eq-eqb, ne_eqb, true≢false}
+use Rattle.std.proofs.lemmas.Bool.{cases_eq, cases_order, or_cases, eqb-true, eq-eqb, ne_eqb, true≢false}
 use Rattle.std.proofs.lemmas.Bool.Decides.{nat_tests}
 use Rattle.std.proofs.lemmas.List.{take_more, take_all, get_or-take, get_or_default, get_or-set_same, get_or-set_other, length-take, length-set}
 use Rattle.std.proofs.lemmas.List.Sorted.{IsPermutation-map}
@@ -17,6 +17,7 @@ use Rattle.basket_ranks.specs.Codes.{rank_order, with_entry, ranked, rank_from, 
 use Rattle.basket_sets.specs.Itemset.{IsRising, has, rising}
 use Rattle.basket_ranks.specs.declared.ranks.RankedItem.{RankedItem}
 use Rattle.basket_ranks.specs.Ranks.{AreSlots, AreRanksAt, entries_of}
+use Rattle.basket_sets.proofs.theory.Counts.{is_at_eqb}
 use Rattle.basket_sets.proofs.theory.Members.{Member, All-from_Member, at_Member, Member-map, Member-from_map, Member-filter, Member-from_Contains, Contains-from_Member}
 use Rattle.basket_sets.proofs.theory.Rising.{Member-into_rising, Member-rising, cons_rises, first_below, found_at, found_nowhere, has-from_Member, has_more, nil_rises, rest_rises, rising-rises, rising_distinct}
 use Rattle.basket_sets.proofs.theory.Sorting.{sorted_is}
@@ -26,31 +27,14 @@ use Rattle.basket_sets.proofs.theory.Sorting.{sorted_is}
 pub rank_order_total : IsTotalOrder rank_order
 rank_order_total = then_total (back_total (on_total (λ (e : ℕ × ℕ). e.1) nat_cmp_total)) (on_total (λ (e : ℕ × ℕ). e.0) nat_cmp_total)
 
-second_equal : (r s : Ordering) → ordering_then r s ≡ Equal → s ≡ Equal
-second_equal Less s e = absurd (not_equal e)
-  where
-    not_equal : Less ≡ Equal → ⊥
-    not_equal p = cc
-second_equal Equal s e = e
-second_equal Greater s e = absurd (not_equal e)
-  where
-    not_equal : Greater ≡ Equal → ⊥
-    not_equal p = cc
-
-equal_from : (r : Ordering) → is_eq r ≡ true → r ≡ Equal
-equal_from Less e = absurd (true≢false (sym e))
-equal_from Equal e = refl
-equal_from Greater e = absurd (true≢false (sym e))
-
-same_number : (x y : ℕ) → nat_cmp x y ≡ Equal → x ≡ y
-same_number x y e = grind (arith, nat_tests)
-
 -- entries of two items are told apart
 apart_entries : (a b : ℕ × ℕ) → a.0 ≢ b.0 → eq_by_cmp rank_order a b ≡ false
-apart_entries a b ne = elim (cases_Bool (eq_by_cmp rank_order a b)) [
-  | inl e ↦ absurd (ne (same_number a.0 b.0 (second_equal (nat_cmp b.1 a.1) (nat_cmp a.0 b.0) (equal_from (rank_order a b) e))))
-  | inr e ↦ e
-]
+apart_entries a b ne = at (nat_cmp b.1 a.1)
+  where
+    at : (r : Ordering) → is_eq (ordering_then r (nat_cmp a.0 b.0)) ≡ false
+    at Less = refl
+    at Equal = is_at_eqb a.0 b.0 ∙ ne_eqb b.0 a.0 (λ e. ne (sym e))
+    at Greater = refl
 
 -- entries whose items rise are distinct
 pub distinct_entries : (entries : List (ℕ × ℕ)) → IsRising (map (λ e. e.0) entries) → IsDistinct (eq_by_cmp rank_order) entries
