@@ -1,11 +1,11 @@
 -- Counting items in a table: its slots while the places are added, and the entries that it gives in the end.
-use Rattle.std.proofs.Common.{◌≡◌, ℕ, ◌+◌, ◌<◌, ◌≤◌, Bool, true, false, ◌&&◌, ◌||◌, List, [], ◌∷◌, ◌++◌, length, take, get_or, set, map, cond, Option, Some, None, unwrap_or, refl, sym, ap, ◌∙◌, subst, inl, inr, arith, add-zero, zero-add, ◌-◌, zero, suc}
+use Rattle.std.proofs.Common.{◌≡◌, ℕ, ◌+◌, ◌<◌, ◌≤◌, Bool, true, false, ◌&&◌, ◌||◌, List, [], ◌∷◌, ◌++◌, length, take, get_or, map, cond, Option, Some, None, unwrap_or, refl, sym, ap, ◌∙◌, subst, inl, inr, arith, add-zero, zero-add, ◌-◌, zero, suc}
 use Rattle.std.specs.List.{IsDistinct}
 use Rattle.std.specs.Prelude.{nat_eq}
-use Rattle.std.proofs.lemmas.List.{append-nil, length-take, take_more, get_or-set_same, get_or-set_other, get_or_default, get_or_past}
+use Rattle.std.proofs.lemmas.List.{append-nil, length-take, take_more, get_or_default, get_or_past}
 use Rattle.std.proofs.lemmas.List.Concat.{flat_map-append}
-use Rattle.std.proofs.Math.Bool.{or-false, or-true}
-use Rattle.std.proofs.lemmas.Bool.{cases_eq, cases_lt, or_cases, cond-true, cond-false, eq-eqb, ne_eqb}
+use Rattle.std.proofs.Math.Bool.{or-true}
+use Rattle.std.proofs.lemmas.Bool.{cases_lt, or_cases, cond-false, eq-eqb, ne_eqb}
 use Rattle.std.proofs.lemmas.Map.Keys.{below_from_sorted}
 use Rattle.basket_sets.specs.declared.weighted.Weighted.{Weighted}
 use Rattle.basket_sets.specs.Itemset.{IsRising, has}
@@ -15,7 +15,7 @@ use Rattle.basket_sets.specs.Slot.{slot_with, slots_joined}
 use Rattle.basket_sets.specs.Support.{weight_at, support_of, all_items}
 use Rattle.basket_sets.proofs.theory.Counts.{found, is_at_eqb, items-append, supports_are, tally-append}
 use Rattle.basket_sets.proofs.theory.Members.{Member, Contains-from_Member}
-use Rattle.basket_sets.proofs.theory.Rising.{has-append, has_more, not_before, Member-from_has, nil_rises, cons_rises}
+use Rattle.basket_sets.proofs.theory.Rising.{has-append, not_before, Member-from_has, nil_rises, cons_rises}
 use Rattle.basket_sets.proofs.theory.Support.{support-append}
 
 -- ---- the items of the baskets so far
@@ -52,26 +52,6 @@ HasAdded old weight items table =
 pub slot_before : (items : List ℕ) (old table : List (Option ℕ)) (i weight : ℕ) → IsDistinct nat_eq items → i < length items → HasAdded old weight (take i items) table
     → get_or table (get_or items i 0) None ≡ get_or old (get_or items i 0) None
 slot_before items old table i weight distinct below added = added (get_or items i 0) ∙ cond-false _ _ _ (not_before items i distinct below)
-
-pub added_more : (items : List ℕ) (old table : List (Option ℕ)) (i weight : ℕ) → IsDistinct nat_eq items → i < length items → get_or items i 0 < length table
-    → HasAdded old weight (take i items) table
-    → HasAdded old weight (take (i + 1) items) (set table (get_or items i 0) (slot_with weight (get_or table (get_or items i 0) None)))
-added_more items old table i weight distinct below within added number = elim (cases_eq (get_or items i 0) number) [
-  | inl same ↦ subst At same
-      (get_or-set_same table (get_or items i 0) more None within
-      ∙ ap (slot_with weight) (slot_before items old table i weight distinct below added)
-      ∙ sym (cond-true _ _ _ (has_more items i (get_or items i 0) below ∙ ap (λ t. has (take i items) (get_or items i 0) || t) (eq-eqb _ _ refl) ∙ or-true (has (take i items) (get_or items i 0)))))
-  | inr apart ↦ get_or-set_other table (get_or items i 0) number more None (λ e. apart (sym e))
-      ∙ added number
-      ∙ ap (λ t. cond t (slot_with weight (get_or old number None)) (get_or old number None))
-      (sym (has_more items i number below ∙ ap (λ t. has (take i items) number || t) (ne_eqb _ _ apart) ∙ or-false (has (take i items) number)))
-]
-  where
-    more : Option ℕ
-    more = slot_with weight (get_or table (get_or items i 0) None)
-
-    At : ℕ → Type 0
-    At n = get_or (set table (get_or items i 0) more) n None ≡ cond (has (take (i + 1) items) n) (slot_with weight (get_or old n None)) (get_or old n None)
 
 -- ---- the table after so many places
 
