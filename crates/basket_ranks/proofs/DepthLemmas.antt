@@ -4,8 +4,8 @@ use Rattle.std.specs.Prelude.{nat_eq}
 use Rattle.std.specs.Ordering.{nat_cmp}
 use Rattle.std.specs.List.Sorted.{IsBinarySearchResult}
 use Rattle.std.specs.List.{Contains, IsDistinct}
-use Rattle.std.proofs.lemmas.Bool.{cases_Bool, cond-false, eqb-true, cond-true, le-leb, lt-leb, lt-ltb, ltb-true}
-use Rattle.std.proofs.lemmas.List.{append-nil, append_assoc, take_rest, take_more, get_or_default, length-append, take-append-drop}
+use Rattle.std.proofs.lemmas.Bool.{cases_Bool, le-ltb, cond-false, eqb-true, cond-true, le-leb, lt-leb, lt-ltb, ltb-true}
+use Rattle.std.proofs.lemmas.List.{append-nil, append_assoc, take_rest, take_more, get_or_default, length-append}
 use Rattle.std.proofs.lemmas.List.Concat.{flat_map-append}
 use Rattle.std.proofs.lemmas.List.Elements.{filter-append}
 use Rattle.std.proofs.lemmas.List.Kept.{IsStrictlySortedBy-filter}
@@ -22,6 +22,7 @@ use Rattle.basket_sets.specs.Counts.{item_supports, AllBelow}
 use Rattle.basket_sets.specs.Minimum.{meets}
 use Rattle.basket_ranks.proofs.theory.Decoding.{rank_from_decoded, ranks_below, decoded_sound}
 use Rattle.basket_sets.proofs.theory.Rising.{same_test, contains_each, has_each, Less-from_lt, nil_rises, cons_rises, first_below, rest_rises, found_at, found_nowhere, has-from_Member, Member-from_has}
+use Rattle.basket_sets.proofs.theory.Tests.{Member-at}
 use Rattle.basket_sets.proofs.theory.Support.{support_falls, support-append, support-cons, in_items, at_least_one, meets_more}
 
 -- ---- baskets kept to the ranks above one that they have
@@ -32,25 +33,19 @@ narrowed_more rank baskets i place below is =
     ap (narrowed rank) (take_more baskets i place below) ∙ flat_map-append (narrowed_place rank) (take i baskets) (get_or baskets i place ∷ [])
     ∙ ap (λ l. narrowed rank (take i baskets) ++ l) (append-nil (narrowed_place rank (get_or baskets i place))) ∙ ap (λ p. narrowed rank (take i baskets) ++ narrowed_place rank p) (sym is)
 
-not_below : (x y : ℕ) → y ≤ x → ltb x y ≡ false
-not_below x y le = elim (cases_Bool (ltb x y)) [ inl e ↦ absurd (let b = ltb-true x y e in omega arith) | inr e ↦ e ]
-
 all_above : (rank : ℕ) (ranks : List ℕ) → ((y : ℕ) → Member y ranks → rank < y) → above rank ranks ≡ ranks
 all_above rank [] h = refl
 all_above rank (x ∷ ranks) h =
     ap (λ b. cond b (x ∷ above rank ranks) (above rank ranks)) (lt-ltb rank x (h x (inl refl))) ∙ ap (λ l. x ∷ l) (all_above rank ranks (λ y m. h y (inr m)))
 
-member_at : (items : List ℕ) (k : ℕ) → k < length items → Member (get_or items k 0) items
-member_at items k below = Member-from_Contains (get_or items k 0) items (k, below, get_or_default items k (get_or items k 0) 0 below)
-
 above_is : (ranks : List ℕ) (at rank : ℕ) → IsRising ranks → at < length ranks → get_or ranks at 0 ≡ rank → above rank ranks ≡ drop (at + 1) ranks
 above_is [] at rank up below is = absurd (omega arith)
 above_is (x ∷ ranks) zero rank up below is =
-    cond-false (ltb rank x) (x ∷ above rank ranks) (above rank ranks) (not_below rank x (omega (arith, is)))
+    cond-false (ltb rank x) (x ∷ above rank ranks) (above rank ranks) (le-ltb rank x (omega (arith, is)))
     ∙ all_above rank ranks (λ y m. let b = first_below x ranks up y m in omega (arith, is))
 above_is (x ∷ ranks) (suc k) rank up below is =
     cond-false (ltb rank x) (x ∷ above rank ranks) (above rank ranks)
-    (not_below rank x (let b = first_below x ranks up (get_or ranks k 0) (member_at ranks k (omega arith)) in omega (arith, is)))
+    (le-ltb rank x (let b = first_below x ranks up (get_or ranks k 0) (Member-at ranks k (omega arith)) in omega (arith, is)))
     ∙ above_is ranks k rank (rest_rises x ranks up) (omega arith) is ∙ ap (λ n. drop n (x ∷ ranks)) (next k)
   where
     next : (n : ℕ) → suc (n + 1) ≡ suc n + 1
@@ -94,7 +89,7 @@ module _ (rank at : ℕ) (ranks kept : List ℕ) (up : IsRising ranks) (found : 
   found_place : (weight : ℕ) → narrowed_place rank (weighted ranks weight) ≡ weighted kept weight ∷ []
   found_place weight =
       let here = found_at ranks rank at up found in
-      cond-true (has ranks rank) (weighted (above rank ranks) weight ∷ []) [] (has-from_Member ranks rank (subst (λ r. Member r ranks) here.1 (member_at ranks at here.0)))
+      cond-true (has ranks rank) (weighted (above rank ranks) weight ∷ []) [] (has-from_Member ranks rank (subst (λ r. Member r ranks) here.1 (Member-at ranks at here.0)))
       ∙ ap (λ l. weighted l weight ∷ []) (sym kept_above)
 
   pub kept_rises : IsRising kept
@@ -180,14 +175,6 @@ fewer_items p (place ∷ baskets) x m = at (p place) (fewer_items p baskets x) m
       | inr there ↦ Member-append_right x place.basket (all_items baskets) (rest there)
     ]
     at false rest n = Member-append_right x place.basket (all_items baskets) (rest n)
-
-pub weight_more : (baskets : List Weighted) (i : ℕ) (place : Weighted) → i < length baskets → place ≡ get_or baskets i place → total_of (take (i + 1) baskets) ≡ total_of (take i baskets) + place.weight
-weight_more baskets i place below is =
-    ap total_of (take_more baskets i place below) ∙ support-append (take i baskets) (get_or baskets i place ∷ []) []
-    ∙ ap (λ n. total_of (take i baskets) + n) (ap (λ p. support_of (p ∷ []) []) (sym is) ∙ support-cons place [] [] ∙ add-zero place.weight)
-
-pub weight_within : (baskets : List Weighted) (i : ℕ) → total_of (take i baskets) ≤ total_of baskets
-weight_within baskets i = let both = support-append (take i baskets) (drop i baskets) [] in let all = ap total_of (take-append-drop i baskets) in omega arith
 
 -- ---- a set that is found rank by rank
 

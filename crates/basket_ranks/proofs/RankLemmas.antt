@@ -1,24 +1,25 @@
 -- The frequent items in the order of their ranks, and the ranks of items.
-use Rattle.std.proofs.Common.{◌≡◌, ◌≢◌, ℕ, ◌+◌, ◌<◌, ◌≤◌, Bool, true, false, List, [], ◌∷◌, ◌++◌, length, take, get_or, map, cond, eqb, set, Option, Some, None, Ok, Err, refl, sym, ap, ◌∙◌, subst, inl, inr, ◌⊎◌, arith, zero, suc, zero-add}
+use Rattle.std.proofs.Common.{◌≡◌, ◌≢◌, ℕ, ◌+◌, ◌<◌, Bool, true, false, List, [], ◌∷◌, ◌++◌, length, take, get_or, map, cond, eqb, Option, Some, None, refl, sym, ap, ◌∙◌, subst, inl, inr, ◌⊎◌, arith, zero, suc}
 use Rattle.std.specs.declared.cmp.Ordering.{Ordering}
 use Rattle.std.specs.declared.cmp.Ordering.TheVariants.{Less, Equal, Greater}
 use Rattle.std.specs.Ordering.{nat_cmp, ordering_then, ordering_reverse, is_lt, is_eq, eq_by_cmp}
 use Rattle.std.specs.Cmp.{IsTotalOrder, nat_cmp_total}
 use Rattle.std.specs.Prelude.{nat_eq}
 use Rattle.std.specs.List.{IsDistinct, filter}
-use Rattle.std.specs.List.Sorted.{IsBinarySearchResult, IsStrictlySortedBy, IsPermutation, IsSorted}
+use Rattle.std.specs.List.Sorted.{IsStrictlySortedBy, IsPermutation, IsSorted}
 use Rattle.std.proofs.lemmas.Cmp.{then_total, on_total, back_total}
-use Rattle.std.proofs.lemmas.Bool.{cases_Bool, cases_eq, cases_order, or_cases, eqb-true, eq-eqb, ne_eqb, true≢false}
+use Rattle.std.proofs.lemmas.Bool.{cond-true, cond-false, cases_eq, eqb-true, eq-eqb, ne_eqb, true≢false}
 use Rattle.std.proofs.lemmas.Bool.Decides.{nat_tests}
-use Rattle.std.proofs.lemmas.List.{take_more, take_all, get_or-take, get_or_default, get_or-set_same, get_or-set_other, length-take, length-set}
+use Rattle.std.proofs.lemmas.List.{take_more, get_or-take, get_or_default, length-take}
 use Rattle.std.proofs.lemmas.List.Sorted.{IsPermutation-map}
-use Rattle.std.proofs.lemmas.Map.Keys.{IsDistinct-IsPermutation, apart_from_distinct, below_from_sorted}
+use Rattle.std.proofs.lemmas.Map.Keys.{IsDistinct-IsPermutation, apart_from_distinct}
 use Rattle.basket_ranks.specs.Codes.{rank_order, with_entry, ranked, rank_from, rank_of}
-use Rattle.basket_sets.specs.Itemset.{IsRising, has, rising}
+use Rattle.basket_sets.specs.Itemset.{IsRising}
 use Rattle.basket_ranks.specs.declared.ranks.RankedItem.{RankedItem}
-use Rattle.basket_ranks.specs.Ranks.{AreSlots, AreRanksAt, entries_of}
-use Rattle.basket_sets.proofs.theory.Members.{Member, All-from_Member, at_Member, Member-map, Member-from_map, Member-filter, Member-from_Contains, Contains-from_Member}
-use Rattle.basket_sets.proofs.theory.Rising.{Member-into_rising, Member-rising, cons_rises, first_below, found_at, found_nowhere, has-from_Member, has_more, nil_rises, rest_rises, rising-rises, rising_distinct}
+use Rattle.basket_ranks.specs.Ranks.{entries_of}
+use Rattle.basket_sets.proofs.theory.Counts.{is_at_eqb}
+use Rattle.basket_sets.proofs.theory.Members.{Member, All-from_Member, at_Member, Member-map, Member-from_map, Member-filter, Contains-from_Member}
+use Rattle.basket_sets.proofs.theory.Rising.{cons_rises, first_below, nil_rises, rest_rises, rising_distinct}
 use Rattle.basket_sets.proofs.theory.Sorting.{sorted_is}
 
 -- ---- the order of ranks
@@ -26,31 +27,14 @@ use Rattle.basket_sets.proofs.theory.Sorting.{sorted_is}
 pub rank_order_total : IsTotalOrder rank_order
 rank_order_total = then_total (back_total (on_total (λ (e : ℕ × ℕ). e.1) nat_cmp_total)) (on_total (λ (e : ℕ × ℕ). e.0) nat_cmp_total)
 
-second_equal : (r s : Ordering) → ordering_then r s ≡ Equal → s ≡ Equal
-second_equal Less s e = absurd (not_equal e)
-  where
-    not_equal : Less ≡ Equal → ⊥
-    not_equal p = cc
-second_equal Equal s e = e
-second_equal Greater s e = absurd (not_equal e)
-  where
-    not_equal : Greater ≡ Equal → ⊥
-    not_equal p = cc
-
-equal_from : (r : Ordering) → is_eq r ≡ true → r ≡ Equal
-equal_from Less e = absurd (true≢false (sym e))
-equal_from Equal e = refl
-equal_from Greater e = absurd (true≢false (sym e))
-
-same_number : (x y : ℕ) → nat_cmp x y ≡ Equal → x ≡ y
-same_number x y e = grind (arith, nat_tests)
-
 -- entries of two items are told apart
 apart_entries : (a b : ℕ × ℕ) → a.0 ≢ b.0 → eq_by_cmp rank_order a b ≡ false
-apart_entries a b ne = elim (cases_Bool (eq_by_cmp rank_order a b)) [
-  | inl e ↦ absurd (ne (same_number a.0 b.0 (second_equal (nat_cmp b.1 a.1) (nat_cmp a.0 b.0) (equal_from (rank_order a b) e))))
-  | inr e ↦ e
-]
+apart_entries a b ne = at (nat_cmp b.1 a.1)
+  where
+    at : (r : Ordering) → is_eq (ordering_then r (nat_cmp a.0 b.0)) ≡ false
+    at Less = refl
+    at Equal = is_at_eqb a.0 b.0 ∙ ne_eqb b.0 a.0 (λ e. ne (sym e))
+    at Greater = refl
 
 -- entries whose items rise are distinct
 pub distinct_entries : (entries : List (ℕ × ℕ)) → IsRising (map (λ e. e.0) entries) → IsDistinct (eq_by_cmp rank_order) entries
@@ -236,82 +220,14 @@ not_yet ranked i apart below = no_rank 0 (take i ranked) (get_or ranked i 0) (λ
     let at : get_or ranked c.0 0 ≡ get_or ranked i 0 = sym (get_or-take i ranked c.0 0 (omega (arith, c.1))) ∙ get_or_default (take i ranked) c.0 0 (get_or ranked i 0) c.1 ∙ c.2 in
     true≢false (sym (eq-eqb _ _ at) ∙ apart_from_distinct nat_eq ranked c.0 i 0 apart (omega (arith, c.1)) below))
 
-pub slots_more : (ranked : List ℕ) (slots : List (Option ℕ)) (i : ℕ) → IsDistinct nat_eq ranked → i < length ranked → get_or ranked i 0 < length slots
-    → AreSlots (take i ranked) slots → AreSlots (take (i + 1) ranked) (set slots (get_or ranked i 0) (Some i))
-slots_more ranked slots i apart below inside are item within = elim (cases_eq (get_or ranked i 0) item) [
+pub rank_next : (ranked : List ℕ) (i item : ℕ) → IsDistinct nat_eq ranked → i < length ranked
+    → rank_of (take (i + 1) ranked) item ≡ cond (eqb (get_or ranked i 0) item) (Some i) (rank_of (take i ranked) item)
+rank_next ranked i item apart below = rank_more ranked i item below ∙ elim (cases_eq (get_or ranked i 0) item) [
   | inl same ↦
-      subst (λ x. get_or (set slots (get_or ranked i 0) (Some i)) x None ≡ rank_of (take (i + 1) ranked) x) same
-      (get_or-set_same slots (get_or ranked i 0) (Some i) None inside
-      ∙ sym (rank_more ranked i (get_or ranked i 0) below ∙ ap (after i (get_or ranked i 0) (get_or ranked i 0)) (not_yet ranked i apart below)
-      ∙ ap (λ b. cond b (Some i) None) (eq-eqb (get_or ranked i 0) (get_or ranked i 0) refl)))
-  | inr other ↦
-      get_or-set_other slots (get_or ranked i 0) item (Some i) None (λ e. other (sym e))
-      ∙ are item (omega (arith, within, length-set slots (get_or ranked i 0) (Some i)))
-      ∙ sym (rank_more ranked i item below ∙ after_other i (get_or ranked i 0) item (rank_of (take i ranked) item) other)
+      ap (after i (get_or ranked i 0) item) (ap (rank_of (take i ranked)) (sym same) ∙ not_yet ranked i apart below)
+      ∙ cond-true _ (Some i) None (eq-eqb _ _ same) ∙ sym (cond-true _ (Some i) (rank_of (take i ranked) item) (eq-eqb _ _ same))
+  | inr other ↦ after_other i (get_or ranked i 0) item (rank_of (take i ranked) item) other ∙ sym (cond-false _ (Some i) (rank_of (take i ranked) item) (ne_eqb _ _ other))
 ]
-
-pub slots_missed : (ranked : List ℕ) (slots : List (Option ℕ)) (i : ℕ) → i < length ranked → length slots ≤ get_or ranked i 0 → AreSlots (take i ranked) slots → AreSlots (take (i + 1) ranked) slots
-slots_missed ranked slots i below outside are item within =
-    are item within ∙ sym (rank_more ranked i item below ∙ after_other i (get_or ranked i 0) item (rank_of (take i ranked) item) (λ e. omega arith))
-
--- beside each item of the rising list that is among some, stands its rank
-pub record AreSomeRanksAt (ranked some items ranks : List ℕ) : Type 0 where
-  pub long : length ranks ≡ length items
-  pub at : (k : ℕ) → k < length items → has some (get_or items k 0) ≡ true → rank_from 0 ranked (get_or items k 0) ≡ Some (get_or ranks k 0)
-
--- an item that a search of the rising list misses has no rank
-pub missed_rank : (ranked items : List ℕ) (item place : ℕ) → items ≡ rising ranked → IsBinarySearchResult (λ y. nat_cmp y item) items (Err place) → rank_of ranked item ≡ None
-missed_rank ranked items item place same missed = no_rank 0 ranked item (λ m.
-    let up = subst IsRising (sym same) (rising-rises ranked) in
-    let c = Contains-from_Member item items (subst (Member item) (sym same) (Member-into_rising ranked item m)) in
-    found_nowhere items item place up missed c.0 c.1 (get_or_default items c.0 0 item c.1 ∙ c.2))
-
--- the rank of one item more is put down
-pub put_rank : (ranked items ranks : List ℕ) (i place : ℕ) → items ≡ rising ranked → IsDistinct nat_eq ranked → i < length ranked
-    → IsBinarySearchResult (λ y. nat_cmp y (get_or ranked i 0)) items (Ok place) → AreSomeRanksAt ranked (take i ranked) items ranks
-    → AreSomeRanksAt ranked (take (i + 1) ranked) items (set ranks place i)
-put_rank ranked items ranks i place same apart below found some = record {
-  long = length-set ranks place i ∙ some.long;
-  at = λ k inside h. elim (cases_eq k place) [
-    | inl here ↦
-        subst (λ n. rank_of ranked (get_or items n 0) ≡ Some (get_or (set ranks place i) n 0)) (sym here)
-        (ap (rank_of ranked) at.1 ∙ rank_at 0 ranked i 0 apart below ∙ ap Some (zero-add i ∙ sym (get_or-set_same ranks place i 0 (omega (arith, some.long, at.0)))))
-    | inr other ↦
-        some.at k inside (elim (or_cases _ _ (sym (has_more ranked i (get_or items k 0) below) ∙ h)) [
-          | inl e ↦ e
-          | inr e ↦ absurd (other (places_apart k inside (sym (eqb-true _ _ e) ∙ sym at.1)))
-        ]) ∙ ap Some (sym (get_or-set_other ranks place k i 0 other))
-  ];
-}
-  where
-    up : IsRising items
-    up = subst IsRising (sym same) (rising-rises ranked)
-
-    at : (place < length items) × (get_or items place 0 ≡ get_or ranked i 0)
-    at = found_at items (get_or ranked i 0) place up found
-
-    places_apart : (k : ℕ) → k < length items → get_or items k 0 ≡ get_or items place 0 → k ≡ place
-    places_apart k inside e = elim (cases_order k place) [
-      | inl is ↦ is
-      | inr (inl less) ↦ absurd (let b = below_from_sorted items k place 0 up less at.0 in omega arith)
-      | inr (inr more) ↦ absurd (let b = below_from_sorted items place k 0 up more inside in omega arith)
-    ]
-
--- an item of the list is found
-pub never_missed : (ranked items : List ℕ) (i place : ℕ) → items ≡ rising ranked → IsDistinct nat_eq ranked → i < length ranked → IsBinarySearchResult (λ y. nat_cmp y (get_or ranked i 0)) items (Err place) → ⊥
-never_missed ranked items i place same apart below missed =
-    none_some (0 + i) (sym (missed_rank ranked items (get_or ranked i 0) place same missed) ∙ rank_at 0 ranked i 0 apart below)
-  where
-    none_some : (r : ℕ) → None ≡ Some r → ⊥
-    none_some r p = cc
-
--- all ranks are put down
-pub all_ranks : (ranked items ranks : List ℕ) (i : ℕ) → items ≡ rising ranked → length ranked ≤ i → AreSomeRanksAt ranked (take i ranked) items ranks → AreRanksAt ranked items ranks
-all_ranks ranked items ranks i same done some = record {
-  long = some.long;
-  at = λ k inside. some.at k inside (has-from_Member (take i ranked) (get_or items k 0) (subst (Member (get_or items k 0)) (sym (take_all i ranked done))
-      (Member-rising ranked (get_or items k 0) (subst (Member (get_or items k 0)) same (Member-from_Contains _ items (k, inside, get_or_default items k (get_or items k 0) 0 inside))))));
-}
 
 pub items_of_entries : (entries : List RankedItem) → map (λ e. e.item) entries ≡ map (λ e. e.0) (entries_of entries)
 items_of_entries [] = refl

@@ -1,10 +1,10 @@
 -- A table from items to ranks.
-use Rattle.std.specs.Prelude.{◌≡◌, ◌<◌, ℕ, List, Option, Some, None, length, map, nat_eq, slice_index_or}
-use Rattle.std.specs.List.{IsDistinct}
+use Rattle.std.specs.Prelude.{◌≡◌, ◌<◌, ◌≤◌, ℕ, List, Option, None, length, map, slice_index_or}
+use Rattle.std.specs.BTreeMap.{get}
+use Rattle.std.specs.Ordering.{nat_cmp}
 use Rattle.basket_ranks.specs.declared.ranks.RankedItem.{RankedItem}
 use Rattle.basket_ranks.specs.declared.ranks.RankTable.{RankTable}
 use Rattle.basket_ranks.specs.Codes.{rank_of}
-use Rattle.basket_sets.specs.Itemset.{rising}
 
 -- an entry as an item with its count
 abbrev pub entry_of : RankedItem → ℕ × ℕ
@@ -17,14 +17,7 @@ entries_of entries = map entry_of entries
 abbrev pub AreSlots : List ℕ → List (Option ℕ) → Type 0
 AreSlots ranked slots = (item : ℕ) → item < length slots → slice_index_or slots item None ≡ rank_of ranked item
 
--- beside each item of the rising list stands its rank
-pub record AreRanksAt (ranked items ranks : List ℕ) : Type 0 where
-  pub long : length ranks ≡ length items
-  pub at : (k : ℕ) → k < length items → rank_of ranked (slice_index_or items k 0) ≡ Some (slice_index_or ranks k 0)
-
--- the table answers the place of each item in the list, which is its rank
+-- the table answers the place of each item in the list, which is its rank: at its slot, or else in the map
 pub record IsRankTable (ranked : List ℕ) (table : RankTable) : Type 0 where
-  pub distinct : IsDistinct nat_eq ranked
   pub slots : AreSlots ranked table.slots.items
-  pub items : table.items ≡ rising ranked
-  pub ranks : AreRanksAt ranked table.items table.ranks.items
+  pub others : (item : ℕ) → length table.slots.items ≤ item → get nat_cmp table.others item ≡ rank_of ranked item

@@ -83,6 +83,7 @@ impl Codes {
     }
 
     /// Replaces a basket's items by their ranks.
+    #[tactic(auto, using(crate::proofs::CodeLemmas::coded_is))]
     fn put_ranks(&self, place: &mut Weighted)
         ensures { place.new ≡ coded_place self.now.items place.old }
     {

@@ -9,7 +9,7 @@ ghost use Rattle.basket_sets.specs.Minimum.{meets};
 ghost use Rattle.basket_sets.specs.Support.{support_of, total_of};
 
 use crate::codes::Coded;
-use basket_sets::{Itemset, Weighted, count_items};
+use basket_sets::{Itemset, Weighted, count_items, weight_of};
 use std::alloc::{AllocError, Global};
 
 /// Whether a frequent set of this many items was found. It goes through the ranks from 0 upward
@@ -48,18 +48,6 @@ fn narrower(
         Some(rank) => Ok(Some(narrowed_to(alloc, baskets, rank, least)?)),
         None => Ok(None),
     }
-}
-
-/// What the baskets weigh together.
-fn weight_of(baskets: &[Weighted]) -> u64
-    requires { total_of baskets.now ≤ MOST_WEIGHT }
-    ensures { result ≡ total_of baskets.now }
-{
-    let mut weight = 0;
-    for place in baskets {
-        weight += place.weight;
-    }
-    weight
 }
 
 /// The first rank whose count meets the minimum.

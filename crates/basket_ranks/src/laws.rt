@@ -22,6 +22,7 @@ pub fn decoding_keeps_frequent()
 {}
 
 /// If a set of this many items is frequent, so are all its nonempty subsets.
+#[tactic(auto, using(crate::proofs::theory::Depth::deep_sets_are_many))]
 pub fn deep_sets_are_many()
     ensures { DeepSetsAreMany }
 {}
@@ -33,6 +34,7 @@ pub fn shards_are_all()
 {}
 
 /// The supports of the items over two lists of baskets, added, are their supports over both.
+#[tactic(auto, using(crate::proofs::theory::Added::item_supports_add_up))]
 pub fn item_supports_add_up()
     ensures { ItemSupportsAddUp }
 {}

@@ -4,11 +4,12 @@ ghost use Rattle.std.specs.List.{IsDistinct, filter_map};
 ghost use Rattle.basket_ranks.specs.Codes.{MOST_RANKS, rank_of, ranks_of_counts};
 ghost use Rattle.basket_sets.specs.Itemset.{IsRising, rising};
 ghost use Rattle.basket_sets.specs.Minimum.{meets};
-ghost use Rattle.basket_ranks.specs.Ranks.{AreSlots, AreRanksAt, IsRankTable, entries_of};
+ghost use Rattle.basket_ranks.specs.Ranks.{IsRankTable, entries_of};
 
-use basket_sets::{Itemset, Minimum};
+use basket_sets::Minimum;
 use std::alloc::{AllocError, Global};
 use std::cmp::Reverse;
+use std::collections::BTreeMap;
 
 /// How many ranks there are at most.
 const MAX_RANKS: usize = 4_294_967_295;
@@ -72,14 +73,13 @@ fn frequent_entries(
     Ok(entries)
 }
 
-/// The rank of each frequent item: in a table for small numbers, else by a search.
+/// The rank of each frequent item: in a table for small numbers, else in a map.
 #[derive(Debug, Drop)]
 pub struct RankTable {
     /// At each number below its length, the rank of that item.
     slots: Vec<Option<u32>>,
-    /// All items, rising, and their ranks at the same places.
-    items: Itemset,
-    ranks: Vec<u32>,
+    /// The ranks of the items that have no slot.
+    others: BTreeMap<u32, u32>,
 }
 
 impl RankTable {
@@ -89,14 +89,16 @@ impl RankTable {
         requires few { length ranked.now < MOST_RANKS }
         ensures { IfOk result (λ table. IsRankTable ranked.now table) }
     {
-        let items = Itemset::from_items(alloc, ranked)?;
-        let slots = slots_of(alloc, ranked, slots_for(&items))?;
-        let ranks = ranks_at(alloc, ranked, &items)?;
-        Ok(RankTable {
-            slots,
-            items,
-            ranks,
-        })
+        let mut slots = vec![in alloc; None; slots_for(ranked)]?;
+        let mut others = BTreeMap::new(alloc);
+        for (rank, item) in ranked.iter().enumerate() {
+            if (*item as usize) < slots.len() {
+                slots[*item as usize] = Some(rank as u32);
+            } else {
+                others.insert(*item, rank as u32)?;
+            }
+        }
+        Ok(RankTable { slots, others })
     }
 
     pub fn rank(&self, item: u32) -> Option<u32>
@@ -105,50 +107,16 @@ impl RankTable {
         if (item as usize) < self.slots.len() {
             return self.slots[item as usize];
         }
-        match self.items.items().binary_search(&item) {
-            Ok(place) => self.ranks.get(place).copied(),
-            Err(_) => None,
-        }
+        self.others.get(&item).copied()
     }
 }
 
 /// How many slots a table for the items has.
-fn slots_for(items: &Itemset) -> usize {
-    match items.items().last() {
+fn slots_for(ranked: &[u32]) -> usize {
+    match ranked.iter().copied().max() {
         Some(greatest) => SMALL_TABLE
-            .max(items.len().saturating_mul(SLOTS_PER_ITEM))
-            .min(*greatest as usize + 1),
+            .max(ranked.len().saturating_mul(SLOTS_PER_ITEM))
+            .min(greatest as usize + 1),
         None => 0,
     }
-}
-
-/// Slots for the numbers below a length, each with the rank of that item.
-fn slots_of(alloc: Global, ranked: &[u32], len: usize) -> Result<Vec<Option<u32>>, AllocError>
-    requires distinct { IsDistinct nat_eq ranked.now }
-    requires few { length ranked.now < MOST_RANKS }
-    ensures { IfOk result (λ slots. AreSlots ranked.now slots.items) }
-{
-    let mut slots = vec![in alloc; None; len]?;
-    for (rank, item) in ranked.iter().enumerate() {
-        if (*item as usize) < slots.len() {
-            slots[*item as usize] = Some(rank as u32);
-        }
-    }
-    Ok(slots)
-}
-
-/// The ranks of the items at their places in the rising list.
-fn ranks_at(alloc: Global, ranked: &[u32], items: &Itemset) -> Result<Vec<u32>, AllocError>
-    requires distinct { IsDistinct nat_eq ranked.now }
-    requires few { length ranked.now < MOST_RANKS }
-    requires same { items.now ≡ rising ranked.now }
-    ensures { IfOk result (λ ranks. AreRanksAt ranked.now items.now ranks.items) }
-{
-    let mut ranks = vec![in alloc; 0; items.len()]?;
-    for (rank, item) in ranked.iter().enumerate() {
-        if let Ok(place) = items.items().binary_search(item) {
-            ranks[place] = rank as u32;
-        }
-    }
-    Ok(ranks)
 }

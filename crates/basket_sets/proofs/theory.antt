@@ -6,6 +6,7 @@ pub mod Ranges
 pub mod Sorting
 pub mod Subsets
 pub mod Support
+pub mod Counts
 pub mod Merging
 pub mod Frequent
 pub mod Items

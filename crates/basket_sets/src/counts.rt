@@ -1,15 +1,18 @@
-ghost use Rattle.std.specs.Prelude.{◌≡◌, ◌<◌, ◌≤◌, ◌+◌, ◌++◌, ◌^◌, ℕ, List, None, IfOk, IsTrue, if◌then◌else◌, length, map, nat_eq, unwrap_or, slice_index, slice_index_or};
-ghost use Rattle.std.specs.List.{IsDistinct, zip};
+ghost use Rattle.std.specs.Prelude.{◌≡◌, ◌<◌, ◌≤◌, ◌+◌, ◌++◌, ◌^◌, ℕ, List, None, IfOk, OnOk, IsTrue, if◌then◌else◌, length, map, nat_eq, unwrap_or, slice_index_or};
+ghost use Rattle.std.specs.BTreeMap.{get};
+ghost use Rattle.std.specs.Ordering.{nat_cmp};
+ghost use Rattle.std.specs.List.{IsDistinct};
 ghost use Rattle.basket_sets.specs.declared.weighted.Weighted.{Weighted as Basket};
 ghost use Rattle.basket_sets.specs.Counts.{item_supports, tally, IsTable, AllBelow, entries_of};
 ghost use Rattle.basket_sets.specs.Database.{MOST_WEIGHT};
 ghost use Rattle.basket_sets.specs.Itemset.{IsRising, has};
 ghost use Rattle.basket_sets.specs.Slot.{slot_with, slots_joined};
-ghost use Rattle.basket_sets.specs.Support.{total_of, all_items, items_of};
+ghost use Rattle.basket_sets.specs.Support.{total_of, all_items};
 
 use crate::slot::Slot;
 use crate::weighted::Weighted;
 use std::alloc::{AllocError, Global};
+use std::collections::BTreeMap;
 
 /// A table of this many slots is made for any baskets, however few items they have.
 pub const SMALL_TABLE: usize = 65_536;
@@ -24,7 +27,7 @@ pub fn count_items(alloc: Global, baskets: &[Weighted]) -> Result<Vec<(u32, u64)
     if greatest as usize <= SMALL_TABLE || greatest as usize <= occurrences(baskets) {
         count_by_table(alloc, baskets, greatest)
     } else {
-        count_by_search(alloc, baskets)
+        count_by_map(alloc, baskets)
     }
 }
 
@@ -129,55 +132,33 @@ pub fn listed(alloc: Global, table: &[Slot]) -> Result<Vec<(u32, u64)>, AllocErr
     Ok(entries)
 }
 
-/// Counts beside the rising list of the items, for baskets for which a table would have far more
-/// slots than items.
-fn count_by_search(alloc: Global, baskets: &[Weighted]) -> Result<Vec<(u32, u64)>, AllocError>
+/// Counts in a map, for baskets for which a table would have far more slots than items.
+fn count_by_map(alloc: Global, baskets: &[Weighted]) -> Result<Vec<(u32, u64)>, AllocError>
     requires { total_of baskets.now ≤ MOST_WEIGHT }
     ensures { IfOk result (λ counts. counts.items ≡ item_supports baskets.now) }
 {
-    let items = distinct_items(alloc, baskets)?;
-    let mut supports = vec![in alloc; 0; items.len()]?;
+    let mut supports = BTreeMap::new(alloc);
     for place in baskets {
-        add_to_found(&items, &mut supports, place);
+        add_to_map(&mut supports, place.basket.items(), place.weight)?;
     }
-    paired(alloc, &items, &supports)
+    supports.into_iter().collect(alloc)
 }
 
-/// The items of the baskets in rising order.
-fn distinct_items(alloc: Global, baskets: &[Weighted]) -> Result<Vec<u32>, AllocError>
-    ensures { IfOk result (λ items. items.items ≡ items_of baskets.now) }
+/// Adds a weight at each of some items, no two of which are equal.
+fn add_to_map(
+    supports: &mut BTreeMap<u32, u64>,
+    items: &[u32],
+    weight: u64,
+) -> Result<(), AllocError>
+    requires distinct { IsDistinct nat_eq items.now }
+    requires fits { (item : ℕ) → unwrap_or (get nat_cmp supports.old item) 0 + weight < 2 ^ 64 }
+    ensures { OnOk result ((item : ℕ) → get nat_cmp supports.new item
+        ≡ (if has items.now item
+        then slot_with weight (get nat_cmp supports.old item)
+        else get nat_cmp supports.old item)) }
 {
-    let mut items = Vec::new(alloc);
-    for place in baskets {
-        items.extend_from_slice(place.basket.items())?;
+    for item in items {
+        *supports.entry(*item)?.or_insert(0) += weight;
     }
-    items.sort_unstable();
-    items.dedup();
-    Ok(items)
-}
-
-/// Adds the weight of a place at each of the items that it has.
-fn add_to_found(items: &[u32], supports: &mut [u64], place: &Weighted)
-    requires rising { IsRising items.now }
-    requires long { length supports.old ≡ length items.now }
-    requires fits { (k : ℕ) → k < length items.now → IsTrue (has place.now.basket (slice_index items.now k))
-        → slice_index supports.old k + place.now.weight < 2 ^ 64 }
-    ensures { (k : ℕ) → k < length items.now → slice_index supports.new k
-        ≡ slice_index supports.old k + (if has place.now.basket (slice_index items.now k) then place.now.weight else 0) }
-{
-    for item in place.basket.items() {
-        if let Ok(found) = items.binary_search(item) {
-            supports[found] += place.weight;
-        }
-    }
-}
-
-fn paired(alloc: Global, items: &[u32], supports: &[u64]) -> Result<Vec<(u32, u64)>, AllocError>
-    ensures { IfOk result (λ pairs. pairs.items ≡ zip items.now supports.now) }
-{
-    items
-        .iter()
-        .copied()
-        .zip(supports.iter().copied())
-        .collect(alloc)
+    Ok(())
 }

@@ -169,3 +169,15 @@ pub fn support(database: &Database, set: &Itemset) -> u64
     }
     support
 }
+
+/// What the baskets weigh together.
+pub fn weight_of(baskets: &[Weighted]) -> u64
+    requires { total_of baskets.now ≤ MOST_WEIGHT }
+    ensures { result ≡ total_of baskets.now }
+{
+    let mut weight = 0;
+    for place in baskets {
+        weight += place.weight;
+    }
+    weight
+}

@@ -11,6 +11,7 @@ ghost use Rattle.basket_sets.specs.Support.{all_items, total_of};
 use crate::counts::{
     SMALL_TABLE, add_places, add_slots, add_to_table, greatest_item, listed, occurrences,
 };
+use crate::database::weight_of;
 use crate::itemset::{are_distinct, is_rising};
 use crate::slot::Slot;
 use crate::weighted::Weighted;
@@ -175,16 +176,4 @@ fn are_below(numbers: &[u32], bound: usize) -> bool
     ensures { result ≡ list_all (λ number. nat_lt number bound) numbers.now }
 {
     numbers.iter().all(|number| (*number as usize) < bound)
-}
-
-/// The weight of baskets together.
-fn weight_of(baskets: &[Weighted]) -> u64
-    requires { total_of baskets.now ≤ MOST_WEIGHT }
-    ensures { result ≡ total_of baskets.now }
-{
-    let mut weight = 0;
-    for place in baskets {
-        weight += place.weight;
-    }
-    weight
 }

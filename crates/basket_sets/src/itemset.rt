@@ -29,6 +29,7 @@ pub fn is_rising(numbers: &[u32]) -> bool
 }
 
 /// Whether no two numbers are equal. Each is compared with all before it.
+#[tactic(auto, using(crate::proofs::theory::Rising::distinct_from_before))]
 pub fn are_distinct(numbers: &[u32]) -> bool
     ensures { IsTrue result → IsDistinct nat_eq numbers.now }
 {

@@ -21,7 +21,7 @@ pub mod worked;
 
 pub use counted::Counted;
 pub use counts::count_items;
-pub use database::{Database, support};
+pub use database::{Database, support, weight_of};
 pub use item_table::ItemTable;
 pub use itemset::{INLINE_ITEMS, Itemset, is_rising};
 pub use merge::merged;

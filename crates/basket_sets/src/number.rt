@@ -5,6 +5,7 @@ ghost use Rattle.basket_sets.specs.Number.{number_of};
 
 /// The number that one or more digits write, if it is at most the bound. There are no signs and no
 /// blanks.
+#[tactic(auto, using(crate::proofs::NumberLemmas::too_large))]
 pub fn parse_number(text: &[u8], bound: u64) -> Option<u64>
     requires { bound ≤ MOST_WEIGHT }
     ensures read { result ≡ number_of bound text.now }

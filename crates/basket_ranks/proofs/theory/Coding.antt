@@ -12,6 +12,7 @@ use Rattle.basket_sets.specs.Frequent.{is_frequent, frequent_of, ListsFrequent}
 use Rattle.basket_sets.specs.Itemset.{IsRising, has, contains}
 use Rattle.basket_sets.specs.Minimum.{meets}
 use Rattle.basket_sets.specs.Support.{weight_at, support_of, total_of, items_of}
+use Rattle.basket_sets.proofs.theory.Tests.{Member-at}
 use Rattle.basket_sets.proofs.theory.Frequent.{IsSound, frequent_is_unique, same_supports}
 use Rattle.basket_sets.proofs.theory.Members.{Member, Member-append, Member-map, Member-from_map, Member-filter, Member-from_filter}
 use Rattle.basket_ranks.proofs.RankLemmas.{Member-ranked, Member-into_ranked}
@@ -119,18 +120,13 @@ place_of [] item m = absurd m
 place_of (x ∷ items) item (inl e) = (0, omega arith, e)
 place_of (x ∷ items) item (inr m) = let r = place_of items item m in (suc r.0, omega (arith, r.1), r.2)
 
-member_at : (items : List ℕ) (k : ℕ) → k < length items → Member (get_or items k 0) items
-member_at [] k below = absurd (omega arith)
-member_at (x ∷ items) zero below = inl refl
-member_at (x ∷ items) (suc k) below = inr (member_at items k (omega arith))
-
 -- a basket that was coded has those of its items that have ranks
 kept_from : (items basket : List ℕ) (item : ℕ) → Member item (decoded items (coded items basket)) → Member item basket × Member item items
 kept_from items basket item m =
     let d = from_decoded items (coded items basket) item m in
     let r = from_ranks 0 items basket d.0 d.1 in
     let same : get_or items r.0 0 ≡ item = ap (λ n. get_or items n 0) (omega (arith, r.2)) ∙ d.2 in
-    (Member-from_has basket item (ap (has basket) (sym same) ∙ r.3), subst (λ y. Member y items) same (member_at items r.0 r.1))
+    (Member-from_has basket item (ap (has basket) (sym same) ∙ r.3), subst (λ y. Member y items) same (Member-at items r.0 r.1))
 
 kept_into : (items basket : List ℕ) (item : ℕ) → Member item basket → Member item items → Member item (decoded items (coded items basket))
 kept_into items basket item m n =

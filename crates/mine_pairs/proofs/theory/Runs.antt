@@ -1,11 +1,11 @@
 -- Runs of ranks.
-use Rattle.std.proofs.Common.{◌≡◌, ℕ, ◌+◌, ◌-◌, ◌<◌, Bool, true, false, List, [], ◌∷◌, ◌++◌, length, drop, get_or, set, take, cond, ltb, sym, ap, ◌∙◌, subst, inl, inr, arith, zero, suc}
+use Rattle.std.proofs.Common.{◌≡◌, ℕ, ◌+◌, ◌-◌, ◌<◌, Bool, true, false, List, [], ◌∷◌, ◌++◌, length, drop, get_or, set, cond, ltb, sym, ap, ◌∙◌, subst, inl, inr, arith, zero, suc}
 use Rattle.std.proofs.lemmas.Bool.{cases_lt}
 use Rattle.std.specs.declared.alloc.Global.{Global}
 use Rattle.std.specs.declared.vec.Vec.{Vec}
 use Rattle.std.specs.List.{slice_range}
 use Rattle.mine_baskets.specs.Span.{IsWithin}
-use Rattle.std.proofs.lemmas.List.{append-nil, drop_all, length-drop, length-take, get_or-map, get_or-set_same, get_or-set_other, length-map, length-set, map-set, take_all}
+use Rattle.std.proofs.lemmas.List.{length-drop, length-take, get_or-map, get_or-set_same, get_or-set_other, length-map, length-set, map-set}
 use Rattle.basket_sets.specs.Itemset.{IsRising}
 use Rattle.mine_baskets.specs.declared.span.Span.{Span}
 use Rattle.mine_pairs.specs.Runs.{HaveRuns, lists_in, with_last_heavier, with_run}
@@ -25,13 +25,6 @@ same_run run runs same e = ap (λ b. cond b (with_last_heavier run.weight runs) 
 
 pub other_run : (run : Span) (runs : List Span) (same : Bool) → same ≡ false → runs ++ run ∷ [] ≡ with_run same run runs
 other_run run runs same e = ap (λ b. cond b (with_last_heavier run.weight runs) (runs ++ run ∷ [])) (sym e)
-
--- a list as a slice of the whole of it was left
-pub written : {X : Type 0} (len : ℕ) (was now : List X) → length was ≡ len → length now ≡ len → take len (now ++ drop (length now) was) ≡ now
-written len was now long as_long =
-    ap (take len) (ap (λ l. now ++ l) (drop_all (length now) was (omega arith)) ∙ append-nil now) ∙ take_all len now (omega arith)
-
--- ---- members of a rising list
 
 -- ---- lists of runs
 

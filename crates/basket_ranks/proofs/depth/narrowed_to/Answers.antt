@@ -1,5 +1,4 @@
 use Rattle.std.proofs.Common.{◌≡◌, ◌++◌, ◌∷◌, [], filter, refl, take, sym, ap, ◌∙◌, append-nil}
-use Rattle.std.proofs.lemmas.List.{take_all}
 use Rattle.basket_sets.specs.Database.{weighted}
 use Rattle.basket_sets.proofs.theory.Rising.{rising-rising}
 use Rattle.basket_ranks.specs.Depth.{is_long, narrowed, narrowed_place}
@@ -27,6 +26,3 @@ loop-place-preserved c =
           = ap (λ l. filter (is_long least) (narrowed_place rank (weighted l place.weight))) (sym same) ∙ w.in_default.ensures.none refl place.weight in
           ap (λ v. v.items) w.rest-is ∙ c.loop-place.invariant ∙ sym (more ∙ ap (λ l. before ++ l) short ∙ append-nil before))
     ]
-
-pub returns : goal.returns
-returns c = c.loop-place.invariant ∙ ap (λ l. filter (is_long c.args.least) (narrowed c.args.rank l)) (take_all c.loop-place.place-index c.args.baskets.now c.loop-place-test.false)

@@ -1,8 +1,9 @@
-use Rattle.std.proofs.Common.{◌<◌, None, length, get_or, set, ap, ◌∙◌, arith, unwrap_or}
+use Rattle.std.proofs.Common.{◌<◌, None, length, get_or, ap, ◌∙◌, arith, unwrap_or}
 use Rattle.std.proofs.lemmas.List.{get_or_default}
 use Rattle.basket_sets.specs.Slot.{slot_with}
-use Rattle.basket_sets.proofs.CountLemmas.{slot_before, added_more}
-use Rattle.basket_sets.proofs.theory.Rising.{has_place}
+use Rattle.std.proofs.lemmas.Grind.{common_steps}
+use Rattle.basket_sets.proofs.CountLemmas.{slot_before}
+use Rattle.basket_sets.proofs.theory.Rising.{has_more, has_place, not_before}
 use Rattle.basket_sets.proofs.counts.add_to_table.Goals as goal
 
 pub bounds-table-item : goal.bounds-table-item
@@ -29,9 +30,10 @@ loop-item-preserved c = λ number.
     let items = c.args.items.now in
     let i = c.loop-item.item-index in
     let item = get_or items i 0 in
-    let weight = c.args.weight in
     let within = c.requires.within item (has_place items i c.loop-item-test.true) in
     let below : item < length c.loop-item.table = omega (arith, within, c.loop-item.auto.table) in
-    let slot = c.add.ensures ∙ ap (slot_with weight) (get_or_default c.loop-item.table item c.index-table-item.result None below) in
-    ap (λ s. get_or (set c.loop-item.table item s) number None) slot
-    ∙ added_more items c.args.table.now c.loop-item.table i weight c.requires.distinct c.loop-item-test.true below c.loop-item.invariant number
+    let slot = c.add.ensures ∙ ap (slot_with c.args.weight) (get_or_default c.loop-item.table item c.index-table-item.result None below) in
+    let more = has_more items i number c.loop-item-test.true in
+    let apart = not_before items i c.requires.distinct c.loop-item-test.true in
+    let here = c.loop-item.invariant item in
+    grind (arith, common_steps, below, slot, more, apart, here, c.loop-item.invariant number)

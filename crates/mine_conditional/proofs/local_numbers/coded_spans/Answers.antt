@@ -6,7 +6,7 @@ use Rattle.mine_baskets.specs.declared.span.Span.{Span}
 use Rattle.mine_conditional.specs.LocalNumbers.{table_places}
 use Rattle.mine_baskets.specs.Span.{IsWithin, baskets_at}
 use Rattle.mine_conditional.proofs.PlaceLemmas.{placed_more}
-use Rattle.mine_pairs.proofs.theory.Runs.{written}
+use Rattle.std.proofs.lemmas.List.{with_items_is}
 use Rattle.mine_pairs.proofs.theory.RunLoops.{rank_basket_at}
 use Rattle.mine_conditional.proofs.local_numbers.coded_spans.Goals as goal
 use Rattle.mine_baskets.proofs.theory.Neighbours.{within_push}
@@ -30,7 +30,7 @@ loop-number-preserved c =
     let was = c.loop-number.invariant in
     let more = table_places c.args.of.now c.of-basket_ranks.result.now in
     let made = c.make_room.new.list in
-    let same : take made.len (now ++ drop (length now) made.items) ≡ now = written made.len made.items now (omega (arith, made.ok)) (omega (arith, made.ok, c.put_places-end.auto.locals, c.deref_mut.ensures.len)) in
+    let same : take made.len (now ++ drop (length now) made.items) ≡ now = with_items_is made now (omega (arith, made.ok, c.put_places-end.auto.locals, c.deref_mut.ensures.len)) in
     let grown : take c.put_places-end.result now ≡ locals ++ more = c.put_places-end.ensures.places
     ∙ ap (λ l. l ++ more) (ap (take first) c.deref_mut.ensures.value ∙ c.in_ok-make_room.ensures.front) in
     let span : Span = record { start = c.in_ok-start.start; end = c.in_ok-place.field-0; weight = (get_or c.args.baskets.now i none).weight } in

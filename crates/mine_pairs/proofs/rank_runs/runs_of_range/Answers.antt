@@ -1,14 +1,14 @@
 use Rattle.std.proofs.Common.{◌≡◌, ◌+◌, ◌<◌, ◌≤◌, [], true, ℕ, length, get_or, take, refl, subst, sym, ap, ◌∙◌, arith}
 use Rattle.std.specs.Prelude.{sum_by}
 use Rattle.std.specs.List.{slice_range}
-use Rattle.std.proofs.lemmas.List.{length-map, length-replicate, get_or-map, get_or-replicate}
+use Rattle.std.proofs.lemmas.List.{length-map, length-replicate, get_or-map, get_or-replicate, with_items_is}
 use Rattle.basket_sets.specs.declared.weighted.Weighted.{Weighted}
 use Rattle.basket_sets.specs.Database.{MOST_WEIGHT}
 use Rattle.mine_baskets.specs.declared.span.Span.{Span}
 use Rattle.mine_baskets.specs.ListBaskets.{repeats_last}
 use Rattle.mine_pairs.specs.Runs.{AreRunsOf, HaveRuns, HaveRunsFrom, lists_in}
 use Rattle.mine_baskets.specs.Span.{basket_at, baskets_at}
-use Rattle.mine_pairs.proofs.theory.Runs.{length-lists_in, length-range, written}
+use Rattle.mine_pairs.proofs.theory.Runs.{length-lists_in, length-range}
 use Rattle.mine_pairs.proofs.theory.RunLoops.{basket_more, next_again, next_are, rank_basket_at, runs_light, shared_again}
 use Rattle.mine_pairs.proofs.rank_runs.runs_of_range.Goals as goal
 use Rattle.mine_baskets.proofs.theory.Neighbours.{some_repeats}
@@ -77,7 +77,7 @@ loop-basket-preserved c =
     let inv = c.loop-basket.invariant in
     let inside = c.requires.within i none here in
     let is = rank_basket_at ranks count baskets i none c.requires.ranked.1.places here in
-    let back = written vec.len vec.items c.add_runs.new.of (omega (arith, vec.ok)) (omega (arith, vec.ok, c.add_runs.auto.of, c.deref_mut.ensures.len)) in
+    let back = with_items_is vec c.add_runs.new.of (omega (arith, vec.ok, c.add_runs.auto.of, c.deref_mut.ensures.len)) in
     let have : HaveRuns path basket shared (length path) first old new = subst (λ l. HaveRuns path basket shared (length path) first (lists_in l) new) c.deref_mut.ensures.value
     (subst (λ n. HaveRuns path basket shared n first (lists_in c.deref_mut.result.now) new) (sym (length-range ranks basket inside)) c.in_ok-add_runs.ensures) in
     let are = λ (n : ℕ) (below : n < length old). inv.runs.are n (omega (arith, below, inv.runs.long)) in

@@ -1,16 +1,8 @@
-use Rattle.std.proofs.Common.{◌<◌, length, get_or, ap, ◌∙◌, subst, arith}
-use Rattle.std.proofs.lemmas.List.{take_all}
+use Rattle.std.proofs.Common.{◌<◌, length, get_or, ap, ◌∙◌, subst}
 use Rattle.basket_lists.specs.Packed.{code_of, set_of}
-use Rattle.basket_sets.specs.declared.counted.Counted.{Counted}
 use Rattle.basket_sets.specs.Itemset.{with_item}
 use Rattle.basket_lists.proofs.BetweenLemmas.{with_next}
 use Rattle.basket_lists.proofs.known.KnownItems.pack.Goals as goal
-
-pub loop-item-init : goal.loop-item-init
-loop-item-init c = (c.in_ok-packed.ensures.packed, ap (λ (one : Counted). one.set) c.in_ok-packed.ensures.same, ap (λ (one : Counted). one.count) c.in_ok-packed.ensures.same)
-
-pub longer-requires : goal.longer-requires
-longer-requires c = c.loop-item.invariant.0
 
 pub loop-item-preserved : goal.loop-item-preserved
 loop-item-preserved c =
@@ -24,11 +16,3 @@ loop-item-preserved c =
           ∙ with_next set i c.items-item-items.ensures.rising inside,
       longer.counted,
     )
-
-pub returns-clause-packed : goal.returns-clause-packed
-returns-clause-packed c = c.loop-item.invariant.0
-
-pub returns-clause-same : goal.returns-clause-same
-returns-clause-same c =
-    let all = c.loop-item.invariant.1 ∙ take_all c.loop-item.item-index c.args.set.now (omega (arith, c.loop-item-test.false, c.loop-item.auto.item-index-end, ap length c.items-item-items.ensures.items)) in
-    λ i. record { set = all i; count = c.loop-item.invariant.2 i }

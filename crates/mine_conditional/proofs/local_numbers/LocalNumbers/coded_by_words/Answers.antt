@@ -7,7 +7,7 @@ use Rattle.mine_baskets.specs.Span.{baskets_at}
 use Rattle.mine_baskets.specs.Words.{word_places}
 use Rattle.mine_conditional.specs.BitTable.{AreBits}
 use Rattle.mine_conditional.proofs.BitLemmas.{table_words_coded}
-use Rattle.mine_pairs.proofs.theory.Runs.{written}
+use Rattle.std.proofs.lemmas.List.{with_items_is}
 use Rattle.mine_conditional.proofs.local_numbers.LocalNumbers.coded_by_words.Goals as goal
 
 pub returns-clause-weights : goal.returns-clause-weights
@@ -15,7 +15,7 @@ returns-clause-weights c =
     let kept = c.args.kept.now in
     let baskets = baskets_at c.args.ranks.now c.args.baskets.now in
     let table = c.self.inside.bits in
-    let whole = c.deref.ensures.value ∙ written table.len table.items c.set_bits.new.of (omega (arith, table.ok)) (omega (arith, table.ok, c.set_bits.auto.of, c.deref_mut.ensures.len)) in
+    let whole = c.deref.ensures.value ∙ with_items_is table c.set_bits.new.of (omega (arith, table.ok, c.set_bits.auto.of, c.deref_mut.ensures.len)) in
     let long : c.args.self.now ≡ length c.deref.result.now = omega (arith, ap length whole, c.set_bits.auto.of, c.deref_mut.ensures.len, table.ok, c.self.invariant.1, c.self.view_is) in
     let coded = table_words_coded kept c.deref.result.now baskets c.requires.rises c.requires.few (subst (AreBits kept) (sym whole) c.set_bits.ensures)
     (subst (λ n. All (IsRankBasket n) baskets) long c.requires.ranked.places) in

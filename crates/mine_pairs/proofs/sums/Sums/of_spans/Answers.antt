@@ -4,7 +4,7 @@ use Rattle.std.proofs.lemmas.Result.{IfOk-weaker}
 use Rattle.basket_sets.specs.Itemset.{rising}
 use Rattle.mine_pairs.specs.Sums.{is_met, ranks_met}
 use Rattle.mine_baskets.specs.Span.{baskets_at}
-use Rattle.mine_pairs.proofs.theory.Runs.{written}
+use Rattle.std.proofs.lemmas.List.{with_items_is}
 use Rattle.mine_pairs.proofs.theory.Sums.{met_is}
 use Rattle.mine_pairs.proofs.sums.Sums.of_spans.Goals as goal
 use Rattle.mine_pairs.proofs.sums.Sums.of_spans.Goals.{in-Ok, in-Err}
@@ -23,7 +23,7 @@ returns-clause-met c =
           (let table = c.self.inside.sums in
           let sums = c.add_up-summed.new.sums in
           let found = c.add_up-summed.new.found in
-          let whole = w.deref.ensures.value ∙ written table.len table.items sums (omega (arith, table.ok)) (omega (arith, table.ok, c.add_up-summed.auto.sums, c.deref_mut.ensures.len)) in
+          let whole = w.deref.ensures.value ∙ with_items_is table sums (omega (arith, table.ok, c.add_up-summed.auto.sums, c.deref_mut.ensures.len)) in
           let long : length c.deref_mut.result.now ≡ count = omega (arith, c.deref_mut.ensures.len, table.ok, c.self.view_is) in
           subst (λ r. IfOk r (λ met. met.items ≡ ranks_met count least baskets)) (sym w.met-is)
           (IfOk-weaker w.met-met.result (λ met. met.items ≡ listed least w.deref.result.now w.items.result.now) (λ met. met.items ≡ ranks_met count least baskets)
