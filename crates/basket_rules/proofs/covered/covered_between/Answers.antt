@@ -1,5 +1,5 @@
-use Rattle.std.proofs.Common.{◌≡◌, ◌++◌, ◌∙◌, length, drop, take, sym, subst, arith}
-use Rattle.std.proofs.lemmas.List.{take_all, take-append-le}
+use Rattle.std.proofs.Common.{sym, subst, arith}
+use Rattle.std.proofs.lemmas.List.{with_items_is}
 use Rattle.basket_rules.specs.Covered.{AreMarks, IsBetween}
 use Rattle.basket_rules.proofs.covered.covered_between.Goals as goal
 
@@ -13,10 +13,8 @@ loop-start-preserved c =
     let all : seen new = c.mark_below.ensures c.args.from (subst (AreMarks list c.args.covering.supersets (IsBetween c.args.from c.loop-start.start)) (sym c.deref_mut.ensures.value) old) in
     let before = old.long in
     let after = all.long in
-    let is : take vec.len (new ++ drop (length new) vec.items) ≡ new =
-    take-append-le vec.len new (drop (length new) vec.items) (omega (arith, vec.ok, before, after)) ∙ take_all vec.len new (omega (arith, vec.ok, before, after)) in
     record {
       after = omega (arith, c.loop-start.invariant.after, c.loop-start-test.true, c.clamp-next.ensures);
       within = omega (arith, c.loop-start-test.true, c.clamp-next.ensures);
-      marked = subst seen (sym is) all;
+      marked = subst seen (sym (with_items_is vec new (omega (arith, vec.ok, before, after)))) all;
     }

@@ -1,6 +1,6 @@
-use Rattle.std.proofs.Common.{◌≡◌, ◌++◌, ◌∙◌, ◌+◌, ◌-◌, ◌/◌, length, drop, take, sym, subst, arith}
+use Rattle.std.proofs.Common.{◌+◌, ◌-◌, ◌/◌, sym, subst, arith}
 use Rattle.std.specs.Result.{IfOk}
-use Rattle.std.proofs.lemmas.List.{take_all, take-append-le}
+use Rattle.std.proofs.lemmas.List.{with_items_is}
 use Rattle.basket_rules.specs.Covered.{AreMarks, IsBetween}
 use Rattle.basket_rules.proofs.shared.+halves.Goals as goal
 
@@ -19,6 +19,4 @@ covered_range-returns g t c =
     (subst (AreMarks list supersets (IsBetween from middle)) (sym c.deref_mut.ensures.value) first) (subst (AreMarks list supersets (IsBetween middle end)) (sym c.deref.ensures.value) later) in
     let before = first.long in
     let after = all.long in
-    let is : take vec.len (new ++ drop (length new) vec.items) ≡ new =
-    take-append-le vec.len new (drop (length new) vec.items) (omega (arith, vec.ok, before, after)) ∙ take_all vec.len new (omega (arith, vec.ok, before, after)) in
-    subst (AreMarks list supersets (IsBetween from end)) (sym is) all
+    subst (AreMarks list supersets (IsBetween from end)) (sym (with_items_is vec new (omega (arith, vec.ok, before, after)))) all
