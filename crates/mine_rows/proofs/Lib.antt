@@ -4,5 +4,4 @@ mod MarkLemmas
 mod BitLemmas
 mod WordLemmas
 mod PlaneLemmas
-mod AddedLemmas
 mod WorkedLemmas

@@ -1,15 +1,17 @@
 -- Words of the places that pass a test.
-use Rattle.std.proofs.Common.{◌≡◌, ◌≢◌, ℕ, zero, suc, ◌+◌, ◌*◌, ◌<◌, ◌≤◌, ◌^◌, Bool, true, false, ◌&&◌, List, [], ◌∷◌, ◌++◌, length, get_or, map, cond, refl, sym, ap, ◌∙◌, arith, length-append}
+use Rattle.std.proofs.Common.{◌≡◌, ◌≢◌, ℕ, zero, suc, ◌+◌, ◌*◌, ◌<◌, ◌≤◌, ◌^◌, Bool, true, false, ◌&&◌, List, [], ◌∷◌, ◌++◌, length, get_or, map, cond, eqb, refl, sym, ap, ◌∙◌, arith, length-append}
 use Rattle.std.specs.Prelude.{bit_and, bit_or, count_ones, replicate}
 use Rattle.std.specs.Int.Bits.{or_zero_r}
 use Rattle.std.specs.List.{filter, range_with_len}
 use Rattle.std.specs.Simd.Lanes.{mask_l, zip2}
 use Rattle.std.proofs.Math.ListN.{set}
 use Rattle.std.proofs.lemmas.Nat.{and_block, or_block, pow-add}
-use Rattle.std.proofs.lemmas.Simd.{ones-mask_l}
+use Rattle.std.proofs.lemmas.Simd.{bit_mask_l, ones-mask_l}
 use Rattle.std.proofs.lemmas.List.Elements.{filter-append}
+use Rattle.std.proofs.lemmas.List.FromFn.{get_or-map-range_with_len}
 use Rattle.std.proofs.lemmas.List.Sums.{length-filter}
 use Rattle.mine_rows.specs.Bits.{shared_bits, word_at, words_from}
+use Rattle.mine_rows.specs.Planes.{has_bit}
 
 -- the word of n places from one on
 abbrev word : (ℕ → Bool) → ℕ → ℕ → ℕ
@@ -166,3 +168,22 @@ words_share p q a (suc n) =
     ap (λ m. m + shared_bits (words_from p (a + 64) n) (words_from q (a + 64) n)) one
     ∙ ap (λ m. length (filter both (range_with_len a 64)) + m) rest
     ∙ sym (ap length all ∙ length-append (filter both (range_with_len a 64)) (filter both (range_with_len (a + 64) (n * 64))))
+
+-- ---- the bits of words
+
+one_is : (b : Bool) → eqb (cond b 1 0) 1 ≡ b
+one_is true = refl
+one_is false = refl
+
+at_bit : (p : ℕ → Bool) (a j : ℕ) → j < 64 → has_bit j (word_at p a) ≡ p (a + j)
+unfolding word_at
+at_bit p a j below =
+    ap (λ n. eqb n 1) (bit_mask_l (map p (range_with_len a 64)) j) ∙ one_is (get_or (map p (range_with_len a 64)) j false)
+    ∙ get_or-map-range_with_len p a 64 j (a + j) false below refl
+
+-- the bit of a place is one where the place passes the test
+pub words_bit : (p : ℕ → Bool) (a n i j : ℕ) → i < n → j < 64 → has_bit j (get_or (words_from p a n) i 0) ≡ p (a + (i * 64 + j))
+words_bit p a zero i j here below = absurd (omega arith)
+words_bit p a (suc n) zero j here below = let e : a + j ≡ a + (0 * 64 + j) = omega arith in at_bit p a j below ∙ ap p e
+words_bit p a (suc n) (suc i) j here below =
+    let e : (a + 64) + (i * 64 + j) ≡ a + (suc i * 64 + j) = omega arith in words_bit p (a + 64) n i j (omega arith) below ∙ ap p e

@@ -1,5 +1,5 @@
 -- Covers: places, rising, and what they weigh.
-use Rattle.std.specs.Prelude.{◌≡◌, ◌<◌, ℕ, not, List, bit_or, filter, length, slice_index, if◌then◌else◌}
+use Rattle.std.specs.Prelude.{ℕ, not, List, filter, length, slice_index}
 use Rattle.std.specs.List.{range_with_len, sum_by}
 use Rattle.basket_sets.specs.Itemset.{AllBelow, IsRising, has}
 
@@ -23,7 +23,3 @@ common first second = filter (has second) first
 -- the places of the first cover that the second lacks
 abbrev pub lacking : List ℕ → List ℕ → List ℕ
 lacking first second = filter (λ place. not (has second place)) first
-
--- a bit is added to the words of the places of a cover
-abbrev pub IsAdded : List ℕ → ℕ → List ℕ → List ℕ → Type 0
-IsAdded cover bit old new = (place : ℕ) → place < length old → slice_index new place ≡ (if has cover place then bit_or (slice_index old place) bit else slice_index old place)

@@ -4,4 +4,3 @@ pub mod Rows
 pub mod Bits
 pub mod Planes
 pub mod Marks
-pub mod BitRows

@@ -1,13 +1,12 @@
-ghost use Rattle.std.specs.Prelude.{◌≡◌, ◌<◌, ◌^◌, IfOk};
+ghost use Rattle.std.specs.Prelude.{◌≡◌, IfOk};
 ghost use Rattle.basket_sets.specs.Itemset.{AllBelow};
 ghost use Rattle.mine_rows.specs.Bits.{words_of};
-ghost use Rattle.mine_rows.specs.BitRows.{IsAddedAt};
 ghost use Rattle.mine_rows.specs.Planes.{ArePlanes, are_ones};
 ghost use Rattle.mine_rows.specs.Rows.{IsBitRow};
 
 use crate::marks::Marks;
 use crate::row::Row;
-use crate::row_words::{RowWords, set, share, word, zeros};
+use crate::row_words::{RowWords, has_place, set, share, zeros};
 use crate::weights::Weights;
 use smallvec::SmallVec;
 use std::alloc::{AllocError, Global};
@@ -32,24 +31,6 @@ fn bits_of_cover(alloc: Global, cover: &[u32], places: u32) -> Result<RowWords, 
         set(&mut words, *place as usize);
     }
     Ok(words)
-}
-
-/// Adds a bit to the words of those of 64 places from one on that have a one.
-fn add_ones(words: &mut [u64], start: usize, ones: u64, bit: u64)
-    requires { start < 2 ^ 63 }
-    ensures { IsAddedAt start ones bit words.old words.new }
-{
-    let mut place = start;
-    let mut rest = ones;
-    while rest != 0 {
-        let zeros = rest.trailing_zeros();
-        place += zeros as usize;
-        if place < words.len() {
-            words[place] |= bit;
-        }
-        rest = rest >> zeros >> 1;
-        place += 1;
-    }
 }
 
 impl Row for BitRow {
@@ -103,10 +84,17 @@ impl Row for BitRow {
         kept >= LEAST_KEPT && kept >= joined / 2 && weights.places() > 64 && weights.is_halved()
     }
 
-    fn add_bit(&self, words: &mut [u64], bit: u64) -> bool {
-        for at in 0..words.len().div_ceil(64) {
-            add_ones(words, at * 64, word(&self.words, at), bit);
+    fn cover<'a>(
+        &'a self,
+        weights: &Weights,
+        places: &'a mut Vec<u32>,
+    ) -> Result<Option<&'a [u32]>, AllocError> {
+        places.clear();
+        for place in 0..weights.places() {
+            if has_place(&self.words, place) {
+                places.push(place)?;
+            }
         }
-        true
+        Ok(Some(places.as_slice()))
     }
 }

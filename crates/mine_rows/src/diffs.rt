@@ -78,7 +78,11 @@ impl Row for DiffList {
     }
 
     // Its places are those of its parent's cover that it lacks.
-    fn add_bit(&self, _words: &mut [u64], _bit: u64) -> bool {
-        false
+    fn cover<'a>(
+        &'a self,
+        _weights: &Weights,
+        _places: &'a mut Vec<u32>,
+    ) -> Result<Option<&'a [u32]>, AllocError> {
+        Ok(None)
     }
 }

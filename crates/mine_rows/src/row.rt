@@ -1,6 +1,6 @@
-ghost use Rattle.std.specs.Prelude.{◌≡◌, ℕ, List, IfOk, IsTrue, length, nat_le};
+ghost use Rattle.std.specs.Prelude.{◌≡◌, ℕ, List, IfOk, IfSome, IsTrue, length, nat_le};
 ghost use Rattle.basket_sets.specs.Itemset.{AllBelow, IsRising};
-ghost use Rattle.mine_rows.specs.Cover.{IsAdded, all_places, common, cover_weight};
+ghost use Rattle.mine_rows.specs.Cover.{all_places, common, cover_weight};
 
 use crate::marks::Marks;
 use crate::weights::Weights;
@@ -94,10 +94,13 @@ pub trait Row: Drop {
     /// with it are kept.
     fn pays_to_reproject(&self, kept: usize, joined: usize, weights: &Weights) -> bool;
 
-    /// Adds a bit to the words of the places of its cover, or says that it doesn't list them.
-    fn add_bit(&self, words: &mut [u64], bit: u64) -> bool
-        requires { (weights : List ℕ) × (parent : List ℕ) × (cover : List ℕ)
-            × (length weights ≡ length words.old) × stands weights parent cover self.now }
-        ensures { IsTrue result → (weights parent cover : List ℕ) → length weights ≡ length words.old
-            → stands weights parent cover self.now → IsAdded cover bit words.old words.new };
+    /// The places of its cover, or nothing if it doesn't list them. A row that has no list of them
+    /// writes one over other places.
+    fn cover<'a>(
+        &'a self,
+        weights: &Weights,
+        places: &'a mut Vec<u32>,
+    ) -> Result<Option<&'a [u32]>, AllocError>
+        ensures { IfOk result (λ found. IfSome found (λ listed. (parent cover : List ℕ)
+            → stands weights.now parent cover self.now → listed.now ≡ cover)) };
 }

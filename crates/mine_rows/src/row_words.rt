@@ -54,8 +54,15 @@ pub fn share(words: &mut RowWords, x: &RowWords, y: &RowWords) -> Result<u64, Al
 }
 
 /// The word at a place among them, or 0 if there is none.
-pub fn word(words: &RowWords, at: usize) -> u64
+fn word(words: &RowWords, at: usize) -> u64
     ensures { result ≡ slice_index words.now.items at }
 {
     words.as_slice().get(at).copied().unwrap_or(0)
+}
+
+/// Whether the bit of a place is one.
+pub fn has_place(words: &RowWords, place: u32) -> bool
+    ensures { (test : ℕ → Bool) (count : ℕ) → words.now.items ≡ words_from test 0 count → place / 64 < count → result ≡ test place }
+{
+    (word(words, place as usize / 64) >> (place % 64)) % 2 == 1
 }

@@ -1,6 +1,5 @@
-ghost use Rattle.std.specs.Prelude.{false, length};
-ghost use Rattle.basket_sets.specs.Itemset.{AllBelow, IsRising, has};
-ghost use Rattle.mine_rows.specs.Cover.{IsAdded};
+ghost use Rattle.std.specs.Prelude.{false};
+ghost use Rattle.basket_sets.specs.Itemset.{has};
 ghost use Rattle.mine_rows.specs.Marks.{IsMarked};
 ghost use Rattle.mine_rows.specs.Rows.{IsTidList};
 
@@ -10,7 +9,7 @@ use crate::weights::Weights;
 use std::alloc::{AllocError, Global};
 
 /// At least this many rows must be kept for a database to be made anew.
-const LEAST_KEPT: usize = 5;
+const LEAST_KEPT: usize = 6;
 
 /// At least this many places must be in the cover for a database to be made anew.
 const LEAST_PLACES: usize = 16;
@@ -20,17 +19,6 @@ const LEAST_PLACES: usize = 16;
 pub struct TidList {
     places: Vec<u32>,
     count: u64,
-}
-
-/// Adds a bit to the words of places.
-fn add_at(words: &mut [u64], places: &[u32], bit: u64)
-    requires rises { IsRising places.now }
-    requires below { AllBelow (length words.old) places.now }
-    ensures { IsAdded places.now bit words.old words.new }
-{
-    for place in places {
-        words[*place as usize] |= bit;
-    }
 }
 
 impl Row for TidList {
@@ -87,13 +75,16 @@ impl Row for TidList {
     }
 
     fn pays_to_reproject(&self, kept: usize, _joined: usize, weights: &Weights) -> bool {
-        // The words that a database is made from are as many as the places of all.
+        // A small part of the places is joined as soon as its database is made anew.
         let places = self.places.len();
         kept >= LEAST_KEPT && places >= LEAST_PLACES && places >= weights.places() as usize / 8
     }
 
-    fn add_bit(&self, words: &mut [u64], bit: u64) -> bool {
-        add_at(words, &self.places, bit);
-        true
+    fn cover<'a>(
+        &'a self,
+        _weights: &Weights,
+        _places: &'a mut Vec<u32>,
+    ) -> Result<Option<&'a [u32]>, AllocError> {
+        Ok(Some(&self.places))
     }
 }

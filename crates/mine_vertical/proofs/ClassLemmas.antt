@@ -9,18 +9,18 @@ use Rattle.basket_ranks.specs.Codes.{Coding, IsCoding, MOST_RANKS}
 use Rattle.basket_sets.specs.declared.weighted.Weighted.{Weighted}
 use Rattle.basket_sets.specs.declared.minimum.Minimum.TheVariants.{Count}
 use Rattle.basket_sets.specs.Frequent.{is_frequent}
-use Rattle.basket_sets.specs.Itemset.{contains, has}
+use Rattle.basket_sets.specs.Counts.{AllBelow}
+use Rattle.basket_sets.specs.Itemset.{IsRising, contains, has}
 use Rattle.basket_sets.specs.Minimum.{IsLeastSupport}
 use Rattle.basket_sets.specs.Support.{support_of, total_of}
-use Rattle.basket_sets.proofs.theory.Members.{Member, Member-filter}
-use Rattle.basket_sets.proofs.theory.Ranges.{Member-range, filter_members, range_more}
+use Rattle.basket_sets.proofs.theory.Members.{Member}
+use Rattle.basket_sets.proofs.theory.Ranges.{Member-range, filter_members, range_more, range_rises}
 use Rattle.basket_sets.proofs.theory.Rising.{Member-from_has}
 use Rattle.basket_sets.proofs.theory.Support.{support_falls}
-use Rattle.basket_sets.proofs.theory.Tests.{all_of, each_of}
 use Rattle.mine_baskets.specs.ListBaskets.{HaveSameWeights}
 use Rattle.mine_classes.specs.Conditional.{ConditionalSupports, is_kept}
 use Rattle.mine_classes.specs.Mined.{RanksAreFrequent}
-use Rattle.mine_pairs.specs.Pairs.{kept_ranks}
+use Rattle.mine_vertical.proofs.NumberLemmas.{named_range, support_below}
 use Rattle.mine_classes.proofs.theory.Conditional.{support_with}
 use Rattle.mine_pairs.proofs.theory.Kept.{met_alone}
 use Rattle.mine_search.specs.Class.{IsClass, of_rank}
@@ -28,9 +28,11 @@ use Rattle.mine_search.specs.Node.{Node, Supports, is_met, kept, work_at}
 use Rattle.mine_search.specs.Walk.{kept_below, work_below}
 use Rattle.mine_vertical.specs.declared.siblings.Siblings.{Siblings}
 use Rattle.mine_vertical.specs.declared.joins.Sibling.{Sibling}
-use Rattle.mine_vertical.specs.Projected.{Extend, GiveSupportsAt, ranks_in, siblings_in}
+use Rattle.mine_vertical.specs.declared.local_baskets.LocalBaskets.{LocalBaskets}
+use Rattle.mine_vertical.specs.LocalBaskets.{baskets_in, named, numbered_in}
+use Rattle.mine_vertical.specs.Projected.{Extend, numbers_in, siblings_in}
 use Rattle.mine_vertical.specs.Joins.{class_joins}
-use Rattle.mine_vertical.specs.Siblings.{AreClassSiblings, IsSibling}
+use Rattle.mine_vertical.specs.Siblings.{AreClassSiblings, AreSiblings, IsSibling}
 use Rattle.mine_vertical.proofs.JoinLemmas.{class_joins_are, set_joins}
 
 -- the ranks that extend a set are those of a range that pass
@@ -68,36 +70,30 @@ module _ (coding : Coding) (least : ℕ) (all : List Weighted) (is : IsLeastSupp
   pub joins_are : (rank : ℕ) → RanksAreFrequent coding → rank < length coding.items → class_joins coding rank ≡ rank + work_at (of_rank (over coding least) rank)
   joins_are rank each here = class_joins_are coding rank each here ∙ (λ k. rank + work_below (set_joins (λ set. met set k)) (λ set. met set k) rank (rank ∷ []))
 
-  module _ {R : Type 0} (stands : List ℕ → List ℕ → List ℕ → R → Type 0) (base : Siblings R) (rank : ℕ) (baskets : List Weighted) (made : List ℕ)
-      (law : ConditionalSupports) (known : IsCoding coding) (are : AreClassSiblings stands all least rank made base.list.items baskets) where
-    abbrev ranks : List ℕ
-    ranks = kept_ranks all least rank
-
+  module _ {R : Type 0} (stands : List ℕ → List ℕ → List ℕ → R → Type 0) (base : Siblings R) (rank : ℕ) (local : LocalBaskets)
+      (law : ConditionalSupports) (known : IsCoding coding) (are : AreClassSiblings stands all least rank local base.list.items) where
     abbrev node : Node
     node = of_rank (over coding least) rank
 
     lower : (other : ℕ) → Member other (range_with_len 0 rank) → other < rank
     lower other m = (let r = Member-range 0 rank other m in let high = r.1 in omega arith)
 
-    ranks_are : ranks ≡ kept node
+    ranks_are : local.ranks.items ≡ kept node
     ranks_are =
-        filter_members (is_kept all least rank) (λ other. is_met (over coding least) (other ∷ rank ∷ [])) (range_with_len 0 rank)
+        are.ranks
+        ∙ filter_members (is_kept all least rank) (λ other. is_met (over coding least) (other ∷ rank ∷ [])) (range_with_len 0 rank)
         (λ other m. ap (λ b. b && is_frequent all (Count least) (other ∷ rank ∷ [])) (lt-ltb other rank (lower other m)) ∙ tests (other ∷ rank ∷ []))
         ∙ sym (kept_is_filter (is_met (over coding least)) rank (rank ∷ []))
 
-    gives : GiveSupportsAt node ranks baskets []
-    gives first more h =
-        supports (first ∷ more ++ rank ∷ [])
-        ∙ sym (ap (support_of baskets) (append-nil (first ∷ more)) ∙ are.same (first ∷ more) ∙ law all least rank (first ∷ more)
-        ∙ ap (λ b. cond b (support_of all ((first ∷ more) ++ rank ∷ [])) 0) (all_of (is_kept all least rank) (first ∷ more) each))
-      where
-        each : (x : ℕ) → Member x (first ∷ more) → is_kept all least rank x ≡ true
-        each x m = (Member-filter (is_kept all least rank) x (range_with_len 0 rank) (Member-from_has ranks x (each_of (has ranks) (first ∷ more) h x m))).1
+    gives : (numbers : List ℕ) → AllBelow (length local.ranks.items) numbers → support_of coding.baskets (named local.ranks.items numbers ++ rank ∷ []) ≡ support_of (baskets_in local) (numbers ++ [])
+    gives numbers low =
+        supports (named local.ranks.items numbers ++ rank ∷ []) ∙ ap (λ l. support_of all (named l numbers ++ rank ∷ [])) are.ranks
+        ∙ sym (support_below all least rank (numbered_in local) are.conditional law numbers (subst (λ l. AllBelow (length l) numbers) are.ranks low))
+        ∙ ap (support_of (baskets_in local)) (sym (append-nil numbers))
 
-    module _ (coded : base.coded.now ≡ coding) (same : base.least ≡ least) (weigh : base.weights.value ≡ made) (long : length base.list.items ≤ base.kept) (here : rank < length coding.items) where
+    module _ (coded : base.coded.now ≡ coding) (same : base.least ≡ least) (held : local ≡ base.local.value) (long : length base.list.items ≤ base.kept) (here : rank < length coding.items) where
       extends : Extend stands base node
       extends = (
-        baskets,
         [],
         record {
           joined = record {
@@ -108,23 +104,29 @@ module _ (coding : Coding) (least : ℕ) (all : List Weighted) (is : IsLeastSupp
             falls = support_with coding.baskets;
             works = λ one others. refl;
           };
-          siblings = record { weighs = weigh ∙ are.over.weighs; rows = subst (All (IsSibling stands baskets [])) (sym whole) are.over.rows };
-          ranks = named ∙ ranks_are;
-          supports = subst (λ l. GiveSupportsAt node l baskets []) (sym named) gives;
+          siblings = subst (λ o. AreSiblings stands o (siblings_in base) []) held (subst (All (IsSibling stands (baskets_in local) [])) (sym whole) are.over.rows);
+          rises = subst IsRising (sym numbers_are) (range_rises 0 count);
+          low = subst (λ (o : LocalBaskets). AllBelow (length o.ranks.items) (numbers_in base)) held (λ other h.
+              let r = Member-range 0 count other (Member-from_has (range_with_len 0 count) other (subst (λ l. has l other ≡ true) numbers_are h)) in let high = r.1 in omega arith);
+          ranks = (λ i. named (sym held i).ranks.items (numbers_are i)) ∙ named_range local.ranks.items ∙ ranks_are;
+          supports = subst (λ (o : LocalBaskets). (numbers : List ℕ) → AllBelow (length o.ranks.items) numbers → support_of coding.baskets (named o.ranks.items numbers ++ rank ∷ []) ≡ support_of (baskets_in o) (numbers ++ [])) held gives;
         },
       )
         where
           whole : siblings_in base ≡ base.list.items
           whole = take_all base.kept base.list.items long
 
-          named : ranks_in base ≡ ranks
-          named = ap (map (λ (s : Sibling R). s.rank)) whole ∙ are.over.ranks_are
+          count : ℕ
+          count = length local.ranks.items
+
+          numbers_are : numbers_in base ≡ range_with_len 0 count
+          numbers_are = ap (map (λ (s : Sibling R). s.number)) whole ∙ are.over.numbers
 
       -- the class is one that a search lists
       pub class_is : (support : ℕ) → support ≡ support_of all (rank ∷ []) → least ≤ support → IsClass (Extend stands) base.coded.now rank support (Some base) (over coding least)
-      class_is support named enough = subst (λ k. IsClass (Extend stands) k rank support (Some base) (over coding least)) (sym coded) (record {
+      class_is support supported enough = subst (λ k. IsClass (Extend stands) k rank support (Some base) (over coding least)) (sym coded) (record {
         over_coding = record { known = known; supports = λ set. refl; least = is; items = refl };
-        supported = named ∙ sym (supports (rank ∷ []));
+        supported = supported ∙ sym (supports (rank ∷ []));
         frequent = enough;
         some = λ inner e. subst (λ b. Extend stands b node) (only base inner e) extends;
         none = λ e. absurd (let none = e in cc);

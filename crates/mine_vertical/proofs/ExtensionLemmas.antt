@@ -1,24 +1,26 @@
 -- The extensions of a node's set, and those of the set with one more rank.
-use Rattle.std.proofs.Common.{◌≡◌, ℕ, zero, suc, ◌<◌, ◌≤◌, Bool, true, ◌&&◌, List, [], ◌∷◌, ◌++◌, length, get_or, take, map, cond, leb, sym, ap, ◌∙◌, subst, inl, inr, arith, append_assoc}
+use Rattle.std.proofs.Common.{◌≡◌, ℕ, ◌<◌, ◌≤◌, Bool, true, List, [], ◌∷◌, ◌++◌, length, get_or, take, map, leb, sym, ap, ◌∙◌, subst, inl, inr, arith, append_assoc}
 use Rattle.std.specs.Prelude.{All, nat_le}
-use Rattle.std.specs.List.{filter}
+use Rattle.std.specs.List.{filter, range_with_len}
 use Rattle.std.proofs.lemmas.Bool.{le-leb, leb-true}
-use Rattle.std.proofs.lemmas.List.{append-nil, get_or-map, get_or-take, length-map, length-take-le, take-map, take-take}
+use Rattle.std.proofs.lemmas.List.{append-nil, get_or-map, get_or-take, get_or_default, length-map, length-take-le, map-append, take-map, take-take}
 use Rattle.std.proofs.lemmas.List.Elements.{All-take}
-use Rattle.basket_sets.specs.declared.weighted.Weighted.{Weighted}
+use Rattle.basket_sets.specs.Counts.{AllBelow}
 use Rattle.basket_sets.specs.Itemset.{IsRising, has}
 use Rattle.basket_sets.specs.Support.{support_of}
 use Rattle.basket_sets.proofs.theory.Members.{Member, Member-append, Member-filter}
-use Rattle.basket_sets.proofs.theory.Ranges.{filter_members}
+use Rattle.basket_sets.proofs.theory.Ranges.{Member-range, filter_members, filter_rises, range_rises}
 use Rattle.basket_sets.proofs.theory.Rising.{Member-from_has, has-from_Member, has_place}
-use Rattle.basket_sets.proofs.theory.Tests.{all_of, each_of}
+use Rattle.basket_sets.proofs.theory.Tests.{all_below_at}
+use Rattle.mine_vertical.proofs.NumberLemmas.{Member-take, filter-map, named_among, named_range, named_twice, take_rises}
 use Rattle.mine_search.specs.Node.{Node, child, is_met, kept}
 use Rattle.mine_search.specs.Walk.{kept_below}
-use Rattle.mine_search.proofs.theory.Walk.{kept_before, kept_few, kept_lower, kept_rises, kept_with}
+use Rattle.mine_search.proofs.theory.Walk.{kept_before, kept_few, kept_lower, kept_with}
 use Rattle.mine_vertical.specs.declared.siblings.Siblings.{Siblings}
 use Rattle.mine_vertical.specs.declared.joins.Sibling.{Sibling}
-use Rattle.mine_vertical.specs.Projected.{AreExtensions, Extend, GiveSupportsAt, IsJoined, ranks_in, siblings_in}
-use Rattle.mine_vertical.specs.Remade.{GiveSupports}
+use Rattle.mine_vertical.specs.declared.local_baskets.LocalBaskets.{LocalBaskets}
+use Rattle.mine_vertical.specs.LocalBaskets.{IsNarrowed, baskets_in, named}
+use Rattle.mine_vertical.specs.Projected.{AreExtensions, Extend, IsJoined, numbers_in, ranks_in, siblings_in}
 use Rattle.mine_vertical.specs.Siblings.{AreKept, AreOver, AreSiblings, IsSibling}
 
 -- ---- a sibling at a place
@@ -31,8 +33,8 @@ module _ {R : Type 0} (base : Siblings R) (at : ℕ) (inside : at < base.kept) w
   pub before_is : take at (siblings_in base) ≡ take at base.list.items
   before_is = take-take at base.kept base.list.items (omega (arith, inside))
 
-  pub ranks_before : map (λ (s : Sibling R). s.rank) (take at base.list.items) ≡ take at (ranks_in base)
-  ranks_before = ap (map (λ (s : Sibling R). s.rank)) (sym before_is) ∙ sym (take-map (λ (s : Sibling R). s.rank) at (siblings_in base))
+  pub numbers_before : map (λ (s : Sibling R). s.number) (take at base.list.items) ≡ take at (numbers_in base)
+  numbers_before = ap (map (λ (s : Sibling R). s.number)) (sym before_is) ∙ sym (take-map (λ (s : Sibling R). s.number) at (siblings_in base))
 
   pub rows_before : (P : Sibling R → Type 0) → All P (siblings_in base) → All P (take at base.list.items)
   rows_before P rows = subst (All P) before_is (All-take P at (siblings_in base) rows)
@@ -45,42 +47,83 @@ module _ {R : Type 0} (base : Siblings R) (at : ℕ) (inside : at < base.kept) w
     sibling_at : get_or (siblings_in base) at sibling ≡ sibling
     sibling_at = get_or-take base.kept base.list.items at sibling inside ∙ sym is
 
-    pub rank_at : get_or (ranks_in base) at 0 ≡ sibling.rank
-    rank_at = get_or-map (λ (s : Sibling R). s.rank) (siblings_in base) at sibling 0 (omega (arith, kept_is_long, inside)) ∙ ap (λ (s : Sibling R). s.rank) sibling_at
+    pub number_at : get_or (numbers_in base) at 0 ≡ sibling.number
+    number_at = get_or-map (λ (s : Sibling R). s.number) (siblings_in base) at sibling 0 (omega (arith, kept_is_long, inside)) ∙ ap (λ (s : Sibling R). s.number) sibling_at
 
-    pub row_at : (stands : List ℕ → List ℕ → List ℕ → R → Type 0) (baskets : List Weighted) (set : List ℕ) → All (IsSibling stands baskets set) (siblings_in base) → IsSibling stands baskets set sibling
-    row_at stands baskets set rows = subst (IsSibling stands baskets set) sibling_at (rows at sibling (omega (arith, kept_is_long, inside)))
+    pub row_at : (stands : List ℕ → List ℕ → List ℕ → R → Type 0) (set : List ℕ) → AreSiblings stands base.local.value (siblings_in base) set → IsSibling stands (baskets_in base.local.value) set sibling
+    row_at stands set rows = subst (IsSibling stands (baskets_in base.local.value) set) sibling_at (rows at sibling (omega (arith, kept_is_long, inside)))
 
 pub as_long : {R : Type 0} (base : Siblings R) → length (ranks_in base) ≡ base.kept
-as_long {R} base = length-map (siblings_in base) (λ (s : Sibling R). s.rank) ∙ length-take-le base.kept base.list.items base.within
+as_long {R} base =
+    length-map (numbers_in base) (λ number. get_or base.local.value.ranks.items number 0) ∙ length-map (siblings_in base) (λ (s : Sibling R). s.number) ∙ length-take-le base.kept base.list.items base.within
 
 -- ---- a node with one more rank
 
-module _ {R : Type 0} {stands : List ℕ → List ℕ → List ℕ → R → Type 0} {base : Siblings R} {node : Node} {baskets : List Weighted} {set : List ℕ} (is : AreExtensions stands base node baskets set)
+module _ {R : Type 0} {stands : List ℕ → List ℕ → List ℕ → R → Type 0} {base : Siblings R} {node : Node} {set : List ℕ} (is : AreExtensions stands base node set)
     (at : ℕ) (inside : at < length (ranks_in base)) where
+  abbrev local : LocalBaskets
+  local = base.local.value
+
+  abbrev ranks : List ℕ
+  ranks = local.ranks.items
+
+  abbrev numbers : List ℕ
+  numbers = numbers_in base
+
+  abbrev pub number : ℕ
+  number = get_or numbers at 0
+
   abbrev pub rank : ℕ
   rank = get_or (ranks_in base) at 0
 
   abbrev test : List ℕ → Bool
   test = is_met node.over
 
+  within : at < length numbers
+  within = omega (arith, inside, length-map numbers (λ n. get_or ranks n 0))
+
   here : at < length (kept node)
   here = subst (λ l. at < length l) is.ranks inside
 
-  rank_is : rank ≡ get_or (kept node) at 0
-  rank_is = ap (λ l. get_or l at 0) is.ranks
+  rank_is : rank ≡ get_or ranks number 0
+  rank_is = get_or-map (λ n. get_or ranks n 0) numbers at 0 0 within
 
-  rank_has : has (ranks_in base) rank ≡ true
-  rank_has = has_place (ranks_in base) at inside
+  pub number_low : number < length ranks
+  number_low = all_below_at (length ranks) numbers at is.low within
 
-  pub support_at : node.over.support (rank ∷ node.set) ≡ support_of baskets (rank ∷ set)
-  support_at = is.supports rank [] (ap (λ b. b && true) rank_has)
+  -- the rank that is read is that of the sibling's number
+  pub rank_read : (sibling : Sibling R) → sibling ≡ get_or base.list.items at sibling → (held : LocalBaskets) → held ≡ local → (read : ℕ) → read ≡ get_or held.ranks.items sibling.number read → read ≡ rank
+  rank_read sibling place held same read at_number =
+      let named = number_at base at (omega (arith, inside, as_long base)) sibling place in
+      at_number ∙ ap (λ (l : LocalBaskets). get_or l.ranks.items sibling.number read) same ∙ ap (λ n. get_or ranks n read) (sym named) ∙ get_or_default ranks number read 0 number_low ∙ sym rank_is
+
+  low_with : (others : List ℕ) → AllBelow (length ranks) others → AllBelow (length ranks) (others ++ number ∷ [])
+  low_with others low x h = elim (Member-append x others (number ∷ []) (Member-from_has (others ++ number ∷ []) x h)) [
+    | inl m ↦ low x (has-from_Member others x m)
+    | inr (inl e) ↦ subst (λ n. n < length ranks) e number_low
+    | inr (inr m) ↦ absurd m
+  ]
+
+  -- the support of numbers with that of the rank is that of their ranks with the rank
+  support_with : (others : List ℕ) → AllBelow (length ranks) others → node.over.support (named ranks others ++ rank ∷ node.set) ≡ support_of (baskets_in local) (others ++ number ∷ set)
+  support_with others low =
+      ap (λ r. node.over.support (named ranks others ++ r ∷ node.set)) rank_is
+      ∙ ap node.over.support (sym (append_assoc (named ranks others) (get_or ranks number 0 ∷ []) node.set) ∙ ap (λ l. l ++ node.set) (sym (map-append (λ n. get_or ranks n 0) others (number ∷ []))))
+      ∙ is.supports (others ++ number ∷ []) (low_with others low)
+      ∙ ap (support_of (baskets_in local)) (append_assoc others (number ∷ []) set)
+
+  none_low : AllBelow (length ranks) []
+  none_low x h = absurd (Member-from_has [] x h)
+
+  pub support_at : node.over.support (rank ∷ node.set) ≡ support_of (baskets_in local) (number ∷ set)
+  support_at = support_with [] none_low
 
   pub lower : rank < node.below
-  lower = subst (λ n. n < node.below) (sym rank_is) (kept_lower test node.below node.set (get_or (kept node) at 0) (Member-from_has (kept node) (get_or (kept node) at 0) (has_place (kept node) at here)))
+  lower = let named_at : rank ≡ get_or (kept node) at 0 = ap (λ l. get_or l at 0) is.ranks in
+      subst (λ n. n < node.below) (sym named_at) (kept_lower test node.below node.set (get_or (kept node) at 0) (Member-from_has (kept node) (get_or (kept node) at 0) (has_place (kept node) at here)))
 
   before : take at (ranks_in base) ≡ kept_below test rank node.set
-  before = ap (take at) is.ranks ∙ kept_before test node.below node.set at here ∙ ap (λ r. kept_below test r node.set) (sym rank_is)
+  before = ap (take at) is.ranks ∙ kept_before test node.below node.set at here ∙ ap (λ l. kept_below test (get_or l at 0) node.set) (sym is.ranks)
 
   as_many : at ≡ length (kept_below test rank node.set)
   as_many = let most : at ≤ length (ranks_in base) = omega (arith, inside) in sym (length-take-le at (ranks_in base) most) ∙ ap length before
@@ -96,115 +139,106 @@ module _ {R : Type 0} {stands : List ℕ → List ℕ → List ℕ → R → Typ
   falls other h = le-leb node.over.least (node.over.support (other ∷ node.set))
       (let enough = leb-true node.over.least (node.over.support (other ∷ rank ∷ node.set)) h in let less = is.joined.falls rank other node.set in omega arith)
 
-  -- a rank before it is among the ranks
-  among : (other : ℕ) → Member other (take at (ranks_in base)) → has (ranks_in base) other ≡ true
-  among other m = has-from_Member (ranks_in base) other (Member-take at (ranks_in base) m)
-    where
-      Member-take : (n : ℕ) (xs : List ℕ) → Member other (take n xs) → Member other xs
-      Member-take zero xs h = absurd h
-      Member-take (suc n) [] h = absurd h
-      Member-take (suc n) (x ∷ xs) (inl e) = inl e
-      Member-take (suc n) (x ∷ xs) (inr h) = inr (Member-take n xs h)
+  low_before : (other : ℕ) → Member other (take at numbers) → other < length ranks
+  low_before other m = is.low other (has-from_Member numbers other (Member-take other at numbers m))
 
   abbrev frequent : ℕ → Bool
-  frequent other = nat_le base.least (support_of baskets (other ∷ rank ∷ set))
+  frequent other = nat_le base.least (support_of (baskets_in local) (other ∷ number ∷ set))
 
-  -- the ranks that extend the set with the rank are those before it that are frequent with both
-  kept_is : kept (child node rank) ≡ filter frequent (take at (ranks_in base))
+  -- the numbers that extend the set with the number are those before it that are frequent with both
+  kept_is : kept (child node rank) ≡ named ranks (filter frequent (take at numbers))
   kept_is =
-      kept_with test rank node.set falls rank ∙ ap (filter (λ other. test (other ∷ rank ∷ node.set))) (sym before)
-      ∙ filter_members (λ other. test (other ∷ rank ∷ node.set)) frequent (take at (ranks_in base)) same
+      kept_with test rank node.set falls rank
+      ∙ ap (filter (λ other. test (other ∷ rank ∷ node.set))) (sym before ∙ take-map (λ n. get_or ranks n 0) at numbers)
+      ∙ filter-map (λ other. test (other ∷ rank ∷ node.set)) (λ n. get_or ranks n 0) (take at numbers)
+      ∙ ap (named ranks) (filter_members (λ n. test (get_or ranks n 0 ∷ rank ∷ node.set)) frequent (take at numbers) same)
     where
-      same : (other : ℕ) → Member other (take at (ranks_in base)) → test (other ∷ rank ∷ node.set) ≡ frequent other
+      same : (other : ℕ) → Member other (take at numbers) → test (get_or ranks other 0 ∷ rank ∷ node.set) ≡ frequent other
       same other m =
-          ap (λ n. leb n (node.over.support (other ∷ rank ∷ node.set))) is.joined.least_is
-          ∙ ap (leb base.least) (is.supports other (rank ∷ []) (all_of (has (ranks_in base)) (other ∷ rank ∷ []) (λ x k. both other m x k)))
-        where
-          both : (other : ℕ) → Member other (take at (ranks_in base)) → (x : ℕ) → Member x (other ∷ rank ∷ []) → has (ranks_in base) x ≡ true
-          both other m x (inl e) = subst (λ y. has (ranks_in base) y ≡ true) e (among other m)
-          both other m x (inr (inl e)) = subst (λ y. has (ranks_in base) y ≡ true) e rank_has
-          both other m x (inr (inr k)) = absurd k
+          ap (λ n. leb n (node.over.support (get_or ranks other 0 ∷ rank ∷ node.set))) is.joined.least_is
+          ∙ ap (leb base.least) (support_with (other ∷ []) (λ x h. elim (Member-from_has (other ∷ []) x h) [ inl e ↦ subst (λ n. n < length ranks) e (low_before other m) | inr n ↦ absurd n ]))
 
   -- with the first rank none is
   pub none_first : at ≡ 0 → kept (child node rank) ≡ []
-  none_first first = kept_is ∙ ap (λ n. filter frequent (take n (ranks_in base))) first
+  none_first first = kept_is ∙ ap (λ n. named ranks (filter frequent (take n numbers))) first
 
-  joined_below : IsJoined base.coded.now.items base.least (child node rank)
-  joined_below = record {
+  joined_below : (made : Siblings R) → made.coded ≡ base.coded → made.least ≡ base.least → IsJoined made.coded.now.items made.least (child node rank)
+  joined_below made coded least = subst (λ c. IsJoined c.now.items made.least (child node rank)) (sym coded) (subst (λ n. IsJoined base.coded.now.items n (child node rank)) (sym least) (record {
     least_is = is.joined.least_is;
     items_are = is.joined.items_are;
     few = is.joined.few;
     within = (let low = lower in let most = is.joined.within in omega arith);
     falls = is.joined.falls;
     works = is.joined.works;
-  }
+  }))
 
-  module _ {below : List (Sibling R)} (are : AreKept stands base.least rank (take at base.list.items) below baskets set) where
-    abbrev ranks : List ℕ
-    ranks = map (λ (s : Sibling R). s.rank) below
+  module _ {below : List (Sibling R)} (are : AreKept stands base.least number (take at base.list.items) below (baskets_in local) set) where
+    abbrev chosen : List ℕ
+    chosen = map (λ (s : Sibling R). s.number) below
 
-    pub ranks_are : ranks ≡ kept (child node rank)
-    ranks_are = are.ranks ∙ ap (filter frequent) (ranks_before base at (omega (arith, inside, as_long base))) ∙ sym kept_is
+    chosen_is : chosen ≡ filter frequent (take at numbers)
+    chosen_is = are.numbers ∙ ap (filter frequent) (numbers_before base at (omega (arith, inside, as_long base)))
 
-    part : (other : ℕ) → has ranks other ≡ true → has (ranks_in base) other ≡ true
-    part other h = among other (Member-filter frequent other (take at (ranks_in base)) (subst (Member other) (ranks_are ∙ kept_is) (Member-from_has ranks other h))).0
+    ranks_are : named ranks chosen ≡ kept (child node rank)
+    ranks_are = ap (named ranks) chosen_is ∙ sym kept_is
 
-    pub supports_below : GiveSupportsAt (child node rank) ranks baskets (rank ∷ set)
-    supports_below first more h =
-        ap (λ l. node.over.support (first ∷ l)) (sym (append_assoc more (rank ∷ []) node.set)) ∙ is.supports first (more ++ rank ∷ []) (all_of (has (ranks_in base)) (first ∷ more ++ rank ∷ []) each)
-        ∙ ap (λ l. support_of baskets (first ∷ l)) (append_assoc more (rank ∷ []) set)
-      where
-        each : (x : ℕ) → Member x ((first ∷ more) ++ rank ∷ []) → has (ranks_in base) x ≡ true
-        each x m = elim (Member-append x (first ∷ more) (rank ∷ []) m) [
-          | inl n ↦ part x (each_of (has ranks) (first ∷ more) h x n)
-          | inr (inl e) ↦ subst (λ y. has (ranks_in base) y ≡ true) e rank_has
-          | inr (inr n) ↦ absurd n
-        ]
+    chosen_rises : IsRising chosen
+    chosen_rises = subst IsRising (sym chosen_is) (filter_rises frequent (take at numbers) (take_rises at numbers is.rises))
+
+    chosen_low : AllBelow (length ranks) chosen
+    chosen_low other h = low_before other (Member-filter frequent other (take at numbers) (subst (Member other) chosen_is (Member-from_has chosen other h))).0
 
     -- no rank is frequent with the set
     pub none_below : below ≡ [] → kept (child node rank) ≡ []
-    none_below none = sym ranks_are ∙ ap (map (λ (s : Sibling R). s.rank)) none
+    none_below none = sym ranks_are ∙ ap (λ l. named ranks (map (λ (s : Sibling R). s.number) l)) none
 
     -- the siblings that are kept are its extensions
-    pub below_is : (made : Siblings R) → made.coded ≡ base.coded → made.least ≡ base.least → made.weights.value ≡ base.weights.value → siblings_in made ≡ below → Extend stands made (child node rank)
-    below_is made coded least weights same = (
-      baskets,
-      rank ∷ set,
+    pub below_is : (made : Siblings R) → made.coded ≡ base.coded → made.least ≡ base.least → local ≡ made.local.value → below ≡ siblings_in made → Extend stands made (child node rank)
+    below_is made coded least over same = (
+      number ∷ set,
       record {
-        joined = subst (λ c. IsJoined c.now.items made.least (child node rank)) (sym coded) (subst (λ n. IsJoined base.coded.now.items n (child node rank)) (sym least) joined_below);
-        siblings = record { weighs = weights ∙ is.siblings.weighs; rows = subst (All (IsSibling stands baskets (rank ∷ set))) (sym same) are.rows };
-        ranks = ap (map (λ (s : Sibling R). s.rank)) same ∙ ranks_are;
-        supports = subst (λ l. GiveSupportsAt (child node rank) (map (λ (s : Sibling R). s.rank) l) baskets (rank ∷ set)) (sym same) supports_below;
+        joined = joined_below made coded least;
+        siblings = subst (λ o. AreSiblings stands o (siblings_in made) (number ∷ set)) over (subst (All (IsSibling stands (baskets_in local) (number ∷ set))) same are.rows);
+        rises = subst (λ l. IsRising (map (λ (s : Sibling R). s.number) l)) same chosen_rises;
+        low = subst (λ (o : LocalBaskets). AllBelow (length o.ranks.items) (numbers_in made)) over (subst (λ l. AllBelow (length ranks) (map (λ (s : Sibling R). s.number) l)) same chosen_low);
+        ranks = (λ i. named (sym over i).ranks.items (map (λ (s : Sibling R). s.number) (sym same i))) ∙ ranks_are;
+        supports = subst (λ (o : LocalBaskets). (others : List ℕ) → AllBelow (length o.ranks.items) others → node.over.support (named o.ranks.items others ++ rank ∷ node.set) ≡ support_of (baskets_in o) (others ++ number ∷ set)) over support_with;
       },
     )
 
-    -- as a list of siblings, and over a database that is made anew
+    -- as a list of siblings, and over baskets that are narrowed
     module _ (list : List (Sibling R)) (same : list ≡ below) where
-      pub rises : IsRising (map (λ (s : Sibling R). s.rank) list)
-      rises = subst (λ l. IsRising (map (λ (s : Sibling R). s.rank) l)) (sym same) (subst IsRising (sym ranks_are) (kept_rises test rank (rank ∷ node.set)))
+      abbrev named_numbers : List ℕ
+      named_numbers = map (λ (s : Sibling R). s.number) list
 
-      pub still : AreSiblings stands base.weights.value list baskets (rank ∷ set)
-      still = record { weighs = is.siblings.weighs; rows = subst (All (IsSibling stands baskets (rank ∷ set))) (sym same) are.rows }
+      pub rises : IsRising named_numbers
+      rises = subst (λ l. IsRising (map (λ (s : Sibling R). s.number) l)) (sym same) chosen_rises
 
-      pub anew_is : (made : Siblings R) (others : List Weighted) → made.coded ≡ base.coded → made.least ≡ base.least → AreOver stands (map (λ (s : Sibling R). s.rank) list) made.weights.value (siblings_in made) others
-          → ((baskets : List Weighted) (set : List ℕ) → AreSiblings stands base.weights.value list baskets set → GiveSupports baskets set (map (λ (s : Sibling R). s.rank) list) others)
+      pub low : AllBelow (length ranks) named_numbers
+      low = subst (λ l. AllBelow (length ranks) (map (λ (s : Sibling R). s.number) l)) (sym same) chosen_low
+
+      pub anew_is : (made : Siblings R) → made.coded ≡ base.coded → made.least ≡ base.least → AreOver stands made.local.value (siblings_in made) → IsNarrowed local (number ∷ set) named_numbers made.local.value
           → Extend stands made (child node rank)
-      anew_is made others coded least over gives = (
-        others,
+      anew_is made coded least over narrowed = (
         [],
         record {
-          joined = subst (λ c. IsJoined c.now.items made.least (child node rank)) (sym coded) (subst (λ n. IsJoined base.coded.now.items n (child node rank)) (sym least) joined_below);
-          siblings = record { weighs = over.weighs; rows = over.rows };
-          ranks = over.ranks_are ∙ named ∙ ranks_are;
-          supports = subst (λ l. GiveSupportsAt (child node rank) l others []) (sym (over.ranks_are ∙ named)) supports;
+          joined = joined_below made coded least;
+          siblings = over.rows;
+          rises = subst IsRising (sym over.numbers) (range_rises 0 (length anew));
+          low = λ other h. let r = Member-range 0 (length anew) other (Member-from_has (range_with_len 0 (length anew)) other (subst (λ l. has l other ≡ true) over.numbers h)) in let high = r.1 in omega arith;
+          ranks = ap (named anew) over.numbers ∙ named_range anew ∙ narrowed.ranks ∙ ap (λ l. named ranks (map (λ (s : Sibling R). s.number) l)) same ∙ ranks_are;
+          supports = supports;
         },
       )
         where
-          named : map (λ (s : Sibling R). s.rank) list ≡ ranks
-          named = ap (map (λ (s : Sibling R). s.rank)) same
+          anew : List ℕ
+          anew = made.local.value.ranks.items
 
-          supports : GiveSupportsAt (child node rank) ranks others []
-          supports first more h =
-              supports_below first more h
-              ∙ sym (subst (λ l. GiveSupports baskets (rank ∷ set) l others) named (gives baskets (rank ∷ set) still) (first ∷ more) (λ e. (let none = ap length e in absurd (omega arith))) ∙ ap (λ b. cond b (support_of baskets ((first ∷ more) ++ rank ∷ set)) 0) h)
-              ∙ ap (support_of others) (sym (append-nil (first ∷ more)))
+          supports : (others : List ℕ) → AllBelow (length anew) others → node.over.support (named anew others ++ rank ∷ node.set) ≡ support_of (baskets_in made.local.value) (others ++ [])
+          supports others few =
+              let places : AllBelow (length named_numbers) others = subst (λ n. AllBelow n others) (ap length narrowed.ranks ∙ length-map named_numbers (λ n. get_or ranks n 0)) few in
+              ap (λ l. node.over.support (named l others ++ rank ∷ node.set)) narrowed.ranks
+              ∙ ap (λ l. node.over.support (l ++ rank ∷ node.set)) (named_twice ranks named_numbers others places)
+              ∙ support_with (named named_numbers others) (λ x h. low x (has-from_Member named_numbers x (named_among named_numbers others places x (Member-from_has (named named_numbers others) x h))))
+              ∙ sym (narrowed.supports others places)
+              ∙ ap (support_of (baskets_in made.local.value)) (sym (append-nil others))

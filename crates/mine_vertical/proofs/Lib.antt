@@ -4,4 +4,5 @@ mod RoomLemmas
 mod ExtensionLemmas
 mod ClassLemmas
 mod JoinLemmas
-mod PlacesLemmas
+mod NarrowedLemmas
+mod NumberLemmas

@@ -2,4 +2,4 @@ pub mod Vertical
 pub mod Siblings
 pub mod Projected
 pub mod Joins
-pub mod Remade
+pub mod LocalBaskets

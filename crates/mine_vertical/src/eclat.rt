@@ -62,13 +62,13 @@ pub fn eclat_class_with<R: Row, T: Tally>(
         return Ok((none, 0));
     }
     let mut joins = Joins::none();
-    let (weights, siblings) = class_siblings::<R>(alloc, runs, scratch, &mut joins, rank, least)?;
+    let (local, siblings) = class_siblings::<R>(alloc, runs, scratch, &mut joins, rank, least)?;
     let mut room = SearchScratch::new(alloc);
-    room.add_marks(alloc, 0, &weights)?;
+    room.add_marks(alloc, 0, &local.weights)?;
     let below = Siblings {
         coded,
         least,
-        weights: Rc::new(alloc, weights)?,
+        local: Rc::new(alloc, local)?,
         marks: 0,
         kept: siblings.len(),
         list: siblings,

@@ -1,21 +1,21 @@
 //! Joins of siblings, each counted where it is made.
-ghost use Rattle.std.specs.Prelude.{◌≡◌, ◌≤◌, ◌<◌, ◌+◌, ◌∷◌, ℕ, List, IfOk, IsTrue, OnOk, length, nat_le};
+ghost use Rattle.std.specs.Prelude.{◌≡◌, ◌≤◌, ◌<◌, ◌+◌, ◌∷◌, ℕ, List, IfOk, IfSome, IsTrue, OnOk, length, nat_le};
 ghost use Rattle.basket_sets.specs.declared.weighted.Weighted.{Weighted as Basket};
 ghost use Rattle.basket_sets.specs.Itemset.{AllBelow, IsRising};
 ghost use Rattle.basket_sets.specs.Support.{support_of};
 ghost use Rattle.mine_pairs.specs.Pairs.{pairs_of};
 ghost use Rattle.mine_baskets.specs.Covers.{cover_of, weights_of};
-ghost use Rattle.mine_rows.specs.Cover.{IsAdded, all_places};
+ghost use Rattle.mine_rows.specs.Cover.{all_places};
 ghost use Rattle.mine_vertical.specs.Siblings.{ArePair, IsSibling};
 
 use mine_pairs::{Runs, Sums};
 use mine_rows::{Marks, Row, Weights};
 use std::alloc::{AllocError, Global};
 
-/// An extension of a set: its rank, and the row of the set with the rank.
+/// An extension of a set: the number of its rank, and the row of the set with the rank.
 #[derive(Drop)]
 pub struct Sibling<R> {
-    pub rank: u32,
+    pub number: u32,
     row: R,
 }
 
@@ -26,35 +26,35 @@ pub struct Joins {
 }
 
 impl<R: Row> Sibling<R> {
-    /// The sibling of a rank beside all places, by its cover.
+    /// The sibling of a number beside all places, by its cover.
     pub fn first(
         alloc: Global,
-        rank: u32,
+        number: u32,
         cover: &[u32],
         weights: &Weights,
     ) -> Result<Self, AllocError>
         requires rises { IsRising cover.now }
         requires below { AllBelow (length weights.now) cover.now }
-        ensures rank { IfOk result (λ sibling. sibling.rank ≡ rank) }
+        ensures number { IfOk result (λ sibling. sibling.number ≡ number) }
         ensures row { IfOk result (λ sibling.
             R.stands weights.now (all_places weights.now) cover.now sibling.row) }
     {
         let row = R::first(alloc, cover, weights)?;
-        Ok(Sibling { rank, row })
+        Ok(Sibling { number, row })
     }
 
     /// A sibling that represents nothing yet.
     pub fn empty(alloc: Global) -> Self {
         Sibling {
-            rank: 0,
+            number: 0,
             row: R::empty(alloc),
         }
     }
 
-    /// The support of the set with its rank.
+    /// The support of the set with its number.
     pub fn count(&self) -> u64
         ensures { (baskets : List Basket) (set : List ℕ) → IsSibling R.stands baskets set self.now
-            → result ≡ support_of baskets (self.now.rank ∷ set) }
+            → result ≡ support_of baskets (self.now.number ∷ set) }
     {
         self.row.count()
     }
@@ -64,15 +64,17 @@ impl<R: Row> Sibling<R> {
         self.row.pays_to_reproject(kept, joined, weights)
     }
 
-    /// Adds a bit to the words of the places of its cover, or says that its row doesn't list them.
-    pub fn add_bit(&self, words: &mut [u64], bit: u64) -> bool
-        requires { (baskets : List Basket) × (set : List ℕ)
-            × (length (weights_of baskets) ≡ length words.old) × IsSibling R.stands baskets set self.now }
-        ensures { IsTrue result → (baskets : List Basket) (set : List ℕ)
-            → length (weights_of baskets) ≡ length words.old → IsSibling R.stands baskets set self.now
-            → IsAdded (cover_of baskets (self.now.rank ∷ set)) bit words.old words.new }
+    /// The places of the cover of the set with its number, or nothing if its row doesn't list them.
+    pub fn cover<'a>(
+        &'a self,
+        weights: &Weights,
+        places: &'a mut Vec<u32>,
+    ) -> Result<Option<&'a [u32]>, AllocError>
+        ensures { IfOk result (λ found. IfSome found (λ listed. (baskets : List Basket) (set : List ℕ)
+            → weights.now ≡ weights_of baskets → IsSibling R.stands baskets set self.now
+            → listed.now ≡ cover_of baskets (self.now.number ∷ set))) }
     {
-        self.row.add_bit(words, bit)
+        self.row.cover(weights, places)
     }
 
     /// Marks what its row keeps of others.
@@ -134,7 +136,7 @@ impl Joins {
         Ok(pairs)
     }
 
-    /// Joins two siblings, for the first of which places are marked: the set with both ranks, which
+    /// Joins two siblings, for the first of which places are marked: the set with both numbers, which
     /// replaces another sibling if its support is at least this. Returns whether it is.
     pub fn join<R: Row>(
         &mut self,
@@ -150,15 +152,15 @@ impl Joins {
         requires marks { R.marked first.now.row weights.now marks.now }
         requires few { self.old.number < 18446744073709551615 }
         ensures joins { OnOk result (self.new.number ≡ self.old.number + 1) }
-        ensures rank { OnOk result (both.new.rank ≡ second.now.rank) }
+        ensures number { OnOk result (both.new.number ≡ second.now.number) }
         ensures row { IfOk result (λ frequent. IsTrue frequent → (baskets : List Basket) (set : List ℕ)
             → ArePair R.stands weights.now first.now second.now baskets set
-            → IsSibling R.stands baskets (first.now.rank ∷ set) both.new) }
+            → IsSibling R.stands baskets (first.now.number ∷ set) both.new) }
         ensures support { IfOk result (λ frequent. (baskets : List Basket) (set : List ℕ)
             → ArePair R.stands weights.now first.now second.now baskets set
-            → frequent ≡ nat_le least (support_of baskets (second.now.rank ∷ first.now.rank ∷ set))) }
+            → frequent ≡ nat_le least (support_of baskets (second.now.number ∷ first.now.number ∷ set))) }
     {
-        both.rank = second.rank;
+        both.number = second.number;
         let frequent = both
             .row
             .join(&first.row, &second.row, marks, weights, least)?;

@@ -1,15 +1,15 @@
 //! Siblings as a conditional database.
-ghost use Rattle.std.specs.Prelude.{◌≡◌, ◌≤◌, ◌<◌, ◌+◌, ℕ, List, IfOk, IfSome, OnOk, false, length, map, slice_index_or, take};
-ghost use Rattle.basket_sets.specs.declared.weighted.Weighted.{Weighted as Basket};
+ghost use Rattle.std.specs.Prelude.{◌≡◌, ◌≤◌, ◌<◌, ◌+◌, ◌∷◌, ℕ, List, IfOk, IfSome, OnOk, false, length, map, slice_index, take};
+ghost use Rattle.basket_sets.specs.Counts.{AllBelow};
 ghost use Rattle.basket_sets.specs.Itemset.{IsRising};
-ghost use Rattle.mine_vertical.specs.Projected.{Extend, Keeps, Serves, ranks_in, siblings_in};
-ghost use Rattle.mine_vertical.specs.Remade.{GiveSupports};
+ghost use Rattle.mine_vertical.specs.LocalBaskets.{IsNarrowed, baskets_in};
+ghost use Rattle.mine_vertical.specs.Projected.{Extend, Keeps, Serves, numbers_in, ranks_in, siblings_in};
 ghost use Rattle.mine_vertical.specs.Siblings.{AreKept, AreOver, AreSiblings};
 
 use crate::joins::{Joins, Sibling};
-use crate::reprojected::reprojected;
 use crate::search_scratch::{SearchScratch, make_place};
 use crate::siblings::Siblings;
+use mine_baskets::words::WORD_RANKS;
 use mine_rows::{Marks, Row};
 use mine_search::Projected;
 use std::alloc::{AllocError, Global};
@@ -37,7 +37,8 @@ impl<'a, R: Row> Projected for Siblings<'a, R> {
     }
 
     fn item(&self, at: usize) -> u32 {
-        self.coded.item(self.list[at].rank)
+        let number = self.list[at].number;
+        self.coded.item(self.local.ranks[number as usize])
     }
 
     fn support(&self, at: usize) -> u64 {
@@ -61,12 +62,11 @@ impl<'a, R: Row> Projected for Siblings<'a, R> {
             room.take_back(list);
             return Ok(None);
         }
-        let pays_to_reproject = self.list[at].pays_to_reproject(kept, at, &self.weights);
-        let Some(anew) = self.made_anew(alloc, &list[..kept], pays_to_reproject, room)? else {
+        let Some(anew) = self.reprojected(alloc, at, &list[..kept], room)? else {
             return Ok(Some(Siblings {
                 coded: self.coded,
                 least: self.least,
-                weights: self.weights.clone()?,
+                local: self.local.clone()?,
                 marks: self.marks,
                 list,
                 kept,
@@ -88,12 +88,12 @@ impl<'a, R: Row> Projected for Siblings<'a, R> {
 
     // Each database that is made anew has a list of its own, so those lists are not kept.
     fn give_back(self, room: &mut SearchScratch<R>) {
-        if Rc::strong_count(&self.weights) > 1 {
+        if Rc::strong_count(&self.local) > 1 {
             room.take_back(self.list);
         }
     }
 
-    ghost ranks_are = { λ base node gives. gives.2.ranks };
+    ghost ranks_are = { λ base node gives. gives.1.ranks };
 
     ghost unused = { λ base room. record { outer = λ place weights low rests. rests; own = λ serves. serves } };
 
@@ -114,19 +114,17 @@ impl<'a, R: Row> Siblings<'a, R> {
         joins: &mut Joins,
     ) -> Result<usize, AllocError>
         requires inside { at < self.now.kept }
-        requires rows { (baskets : List Basket) × (set : List ℕ)
-            × AreSiblings R.stands self.now.weights.value (siblings_in self.now) baskets set }
+        requires rows { (set : List ℕ) × AreSiblings R.stands self.now.local.value (siblings_in self.now) set }
         requires few { joins.old.number + at ≤ 18446744073709551615 }
-        requires marks { R.at_rest self.now.weights.value marks.old }
+        requires marks { R.at_rest self.now.local.value.weights marks.old }
         ensures within { IfOk result (λ kept. kept ≤ length list.new.items) }
-        ensures kept { IfOk result (λ kept. (baskets : List Basket) (set : List ℕ)
-            → AreSiblings R.stands self.now.weights.value (siblings_in self.now) baskets set
-            → AreKept R.stands self.now.least (slice_index_or (ranks_in self.now) at 0) (take at self.now.list.items) (take kept list.new.items) baskets set) }
+        ensures kept { IfOk result (λ kept. (set : List ℕ) → AreSiblings R.stands self.now.local.value (siblings_in self.now) set
+            → AreKept R.stands self.now.least (slice_index (numbers_in self.now) at) (take at self.now.list.items) (take kept list.new.items) (baskets_in self.now.local.value) set) }
         ensures joins { OnOk result (joins.new.number ≡ joins.old.number + at) }
-        ensures marks { OnOk result (R.at_rest self.now.weights.value marks.new) }
+        ensures marks { OnOk result (R.at_rest self.now.local.value.weights marks.new) }
     {
         let mut kept = 0;
-        let weights = &*self.weights;
+        let weights = &self.local.weights;
         let sibling = &self.list[at];
         sibling.mark(marks, weights);
         for other in &self.list[..at] {
@@ -141,41 +139,57 @@ impl<'a, R: Row> Siblings<'a, R> {
         Ok(kept)
     }
 
-    /// The extensions of a set by siblings over the same weights, if its database is large: it is
-    /// made anew. Nothing if that can't be.
-    fn made_anew(
+    /// The extensions of the set with the number at a place by siblings over the same baskets, if
+    /// its database is large: it is made anew. Nothing if that can't be.
+    fn reprojected(
         &self,
         alloc: Global,
+        at: usize,
         siblings: &[Sibling<R>],
-        pays_to_reproject: bool,
         room: &mut SearchScratch<R>,
     ) -> Result<Option<Self>, AllocError>
-        requires rises { IsRising (map (λ sibling. sibling.rank) siblings.now) }
-        requires rows { (baskets : List Basket) × (set : List ℕ) × AreSiblings R.stands self.now.weights.value siblings.now baskets set }
+        requires inside { at < self.now.kept }
+        requires rows { (set : List ℕ) × AreSiblings R.stands self.now.local.value (siblings_in self.now) set }
+        requires rises { IsRising (map (λ sibling. sibling.number) siblings.now) }
+        requires below { AllBelow (length self.now.local.value.ranks.items) (map (λ sibling. sibling.number) siblings.now) }
         requires marks { self.now.marks < length room.old.marks.items }
         ensures same { IfOk result (λ made. IfSome made (λ inner. (inner.coded ≡ self.now.coded) × (inner.least ≡ self.now.least))) }
-        ensures made { IfOk result (λ made. IfSome made (λ inner. (others : List Basket)
-            × AreOver R.stands (map (λ sibling. sibling.rank) siblings.now) inner.weights.value (siblings_in inner) others
-            × ((baskets : List Basket) (set : List ℕ) → AreSiblings R.stands self.now.weights.value siblings.now baskets set
-            → GiveSupports baskets set (map (λ sibling. sibling.rank) siblings.now) others))) }
+        ensures over { IfOk result (λ made. IfSome made (λ inner. AreOver R.stands inner.local.value (siblings_in inner))) }
+        ensures narrowed { IfOk result (λ made. IfSome made (λ inner. (set : List ℕ)
+            → AreSiblings R.stands self.now.local.value (siblings_in self.now) set
+            → IsNarrowed self.now.local.value (slice_index (numbers_in self.now) at ∷ set) (map (λ sibling. sibling.number) siblings.now) inner.local.value)) }
         ensures served { IfOk result (λ made. IfSome made (Serves R.at_rest room.new)) }
         ensures wider { IfOk result (λ made. IfSome made (λ inner. self.now.marks < inner.marks)) }
         ensures room { OnOk result (Keeps R.at_rest self.now room.old room.new) }
     {
-        let found = reprojected(alloc, siblings, &self.weights, pays_to_reproject)?;
-        let Some((weights, list)) = found else {
+        let sibling = &self.list[at];
+        let weights = &self.local.weights;
+        let kept = siblings.len();
+        if kept > WORD_RANKS || !sibling.pays_to_reproject(kept, at, weights) {
+            return Ok(None);
+        }
+        let mut places = Vec::new(alloc);
+        let Some(cover) = sibling.cover(weights, &mut places)? else {
             return Ok(None);
         };
+        let numbers = numbers_of(alloc, siblings)?;
+        let (local, list) = self.local.narrowed(alloc, cover, &numbers)?;
         let marks = self.marks + 1;
-        room.add_marks(alloc, marks, &weights)?;
-        let kept = list.len();
+        room.add_marks(alloc, marks, &local.weights)?;
         Ok(Some(Siblings {
             coded: self.coded,
             least: self.least,
-            weights: Rc::new(alloc, weights)?,
+            local: Rc::new(alloc, local)?,
             marks,
+            kept: list.len(),
             list,
-            kept,
         }))
     }
+}
+
+/// The numbers of siblings.
+fn numbers_of<R: Row>(alloc: Global, siblings: &[Sibling<R>]) -> Result<Vec<u32>, AllocError>
+    ensures { IfOk result (λ numbers. numbers.items ≡ map (λ sibling. sibling.number) siblings.now) }
+{
+    siblings.iter().map(|sibling| sibling.number).collect(alloc)
 }

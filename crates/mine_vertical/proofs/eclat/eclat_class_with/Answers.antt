@@ -1,4 +1,4 @@
-use Rattle.std.proofs.Common.{◌≤◌, length, subst, refl, arith}
+use Rattle.std.proofs.Common.{◌≤◌, length, subst, sym, refl, arith}
 use Rattle.std.proofs.lemmas.Result.{IfOk-weaker}
 use Rattle.basket_ranks.specs.Codes.{Coding}
 use Rattle.mine_classes.specs.Mined.{MinesClass}
@@ -21,11 +21,11 @@ list-requires-clause-class g c =
     let coding = c.args.vertical.now in
     let least = c.least-least.result in
     let all = c.runs-runs.result.now.baskets in
-    let long : length c.in_ok-weights.siblings.items ≤ c.len.result = omega (arith, c.len.ensures) in
-    let (baskets, are) = c.in_ok-weights.ensures.siblings in (
+    let long : length c.in_ok-local.siblings.items ≤ c.len.result = omega (arith, c.len.ensures) in
+    let are = c.in_ok-local.ensures.siblings in (
       over coding least,
-      class_is coding least all c.least-least.ensures c.runs-runs.ensures.weights g.R.Row.stands _ c.args.rank baskets c.in_ok-weights.weights c.conditional_supports.ensures c.coded-coded.ensures.coding are
-          c.coded-coded.ensures.coded refl c.in_ok-new.ensures.ok long c.requires.rank c.support-support.result c.support-support.ensures (omega (arith, c.if-support-least.false)),
+      class_is coding least all c.least-least.ensures c.runs-runs.ensures.weights g.R.Row.stands _ c.args.rank c.in_ok-local.local c.conditional_supports.ensures c.coded-coded.ensures.coding are
+          c.coded-coded.ensures.coded refl (sym c.in_ok-new.ensures.ok) long c.requires.rank c.support-support.result c.support-support.ensures (omega (arith, c.if-support-least.false)),
     )
 
 pub returns-clause-joins : goal.returns-clause-joins
@@ -33,14 +33,14 @@ returns-clause-joins g c =
     let coding = c.args.vertical.now in
     let least = c.least-least.result in
     let all = c.runs-runs.result.now.baskets in
-    let long : length c.in_ok-weights.siblings.items ≤ c.len.result = omega (arith, c.len.ensures) in
-    let (baskets, are) = c.in_ok-weights.ensures.siblings in
+    let long : length c.in_ok-local.siblings.items ≤ c.len.result = omega (arith, c.len.ensures) in
+    let are = c.in_ok-local.ensures.siblings in
     IfOk-weaker c.list.result _ _ (λ mined work each.
     let is = work (over coding least)
-    (class_is coding least all c.least-least.ensures c.runs-runs.ensures.weights g.R.Row.stands _ c.args.rank baskets c.in_ok-weights.weights c.conditional_supports.ensures c.coded-coded.ensures.coding are
-    c.coded-coded.ensures.coded refl c.in_ok-new.ensures.ok long c.requires.rank c.support-support.result c.support-support.ensures (omega (arith, c.if-support-least.false))) in
+    (class_is coding least all c.least-least.ensures c.runs-runs.ensures.weights g.R.Row.stands _ c.args.rank c.in_ok-local.local c.conditional_supports.ensures c.coded-coded.ensures.coding are
+    c.coded-coded.ensures.coded refl (sym c.in_ok-new.ensures.ok) long c.requires.rank c.support-support.result c.support-support.ensures (omega (arith, c.if-support-least.false))) in
     let joins = joins_are coding least all c.least-least.ensures c.runs-runs.ensures.weights c.args.rank each c.requires.rank in
-    omega (arith, is, joins, c.in_ok-weights.ensures.joins, c.none-joins.ensures)) c.list.ensures.work
+    omega (arith, is, joins, c.in_ok-local.ensures.joins, c.none-joins.ensures)) c.list.ensures.work
 
 pub returns-clause-class : goal.returns-clause-class
 returns-clause-class g c = subst (λ (v : Coding). MinesClass g.T.Tally.told_of g.T.Tally.limit_of g.T.Tally.is_over v c.args.rank c.args.tally.now c.list.new.tally c.list.result) c.coded-coded.ensures.coded c.list.ensures.class

@@ -5,5 +5,5 @@ use Rattle.mine_vertical.proofs.joins.Sibling.count.Goals as goal
 
 pub returns : goal.returns
 returns g c = λ baskets set is.
-    let with_rank = c.args.self.now.rank ∷ set in
-    c.count.ensures (weights_of baskets) (cover_of baskets set) (cover_of baskets with_rank) is ∙ cover_weighs baskets with_rank
+    let with_number = c.args.self.now.number ∷ set in
+    c.count.ensures (weights_of baskets) (cover_of baskets set) (cover_of baskets with_number) is ∙ cover_weighs baskets with_number

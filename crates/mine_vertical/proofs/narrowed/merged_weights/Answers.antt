@@ -1,7 +1,7 @@
 use Rattle.std.proofs.Common.{◌≤◌, subst, sym, ap, ◌∙◌, arith}
 use Rattle.std.specs.Prelude.{All, sum}
 use Rattle.mine_vertical.proofs.SiblingLemmas.{weights_some, weights_weigh}
-use Rattle.mine_vertical.proofs.siblings.merged_weights.Goals as goal
+use Rattle.mine_vertical.proofs.narrowed.merged_weights.Goals as goal
 
 pub of_vec-requires-clause-some : goal.of_vec-requires-clause-some
 of_vec-requires-clause-some c = subst (All (λ weight. 1 ≤ weight)) (sym c.in_ok-weights.ensures) (weights_some c.args.baskets.now.baskets c.requires.some)
