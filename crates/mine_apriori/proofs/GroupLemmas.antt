@@ -1,19 +1,18 @@
 -- Extensions in order of their prefixes, and the look-up of a set among them.
-use Rattle.std.proofs.Common.{◌≡◌, ◌≢◌, ℕ, zero, suc, ◌<◌, ◌||◌, Bool, true, false, List, [], ◌∷◌, ◌++◌, length, filter, get_or, cond, refl, sym, ap, ◌∙◌, subst, inl, inr, arith}
+use Rattle.std.proofs.Common.{◌≡◌, ◌≢◌, ℕ, Bool, true, false, List, [], ◌∷◌, ◌++◌, length, drop, filter, get_or, cond, refl, sym, ap, ◌∙◌, subst, inl, inr, arith}
 use Rattle.std.specs.Cmp.Lexicographic.{slice_cmp, nat_list_cmp_total}
 use Rattle.std.specs.List.Sorted.{IsStrictlySortedBy}
 use Rattle.std.specs.Ordering.{nat_cmp}
 use Rattle.std.specs.declared.cmp.Ordering.TheVariants.{Less}
-use Rattle.std.proofs.lemmas.Bool.{cases_Bool}
-use Rattle.std.proofs.lemmas.List.{length-append, length-map}
-use Rattle.std.proofs.lemmas.List.Folds.{list_any-append}
+use Rattle.std.proofs.lemmas.Bool.{cases_Bool, true≢false}
+use Rattle.std.proofs.lemmas.List.{length-append}
 use Rattle.basket_sets.specs.Itemset.{IsRising, has}
 use Rattle.basket_sets.specs.Order.{report_order, IsInReportOrder}
 use Rattle.basket_sets.proofs.theory.Members.{Member, Member-append_left, Member-filter, Member-map, Member-from_map, All-from_Member, first_is_less, rest_is_sorted, not_both_less, sorted_append, sorted_map}
 use Rattle.basket_sets.proofs.theory.Rising.{Member-from_has, cons_rises, has-from_Member, lt-from_Less, nil_rises, same_test}
 use Rattle.basket_sets.proofs.theory.Subsets.{same_length}
 use Rattle.mine_apriori.specs.Candidates.{is_one_of}
-use Rattle.mine_supports.specs.Extensions.{AreGrouped, Group, prefixes_of, lists_of, extend, sets_of}
+use Rattle.mine_supports.specs.Extensions.{AreGrouped, Group, prefixes_of, extend, sets_of}
 use Rattle.mine_supports.proofs.theory.Grouped.{last_less, less_last, less_longer, of_each, size_at}
 use Rattle.mine_apriori.proofs.JoinLemmas.{length_after}
 use Rattle.mine_apriori.proofs.PruneLemmas.{Member-flat_map, Member-from_is_one_of, Member-into_flat_map, is_one_of-from_Member}
@@ -122,56 +121,22 @@ last_same [] (v ∷ b) x y e = absurd (let n = ap length e in let m = length-app
 last_same (u ∷ a) [] x y e = absurd (let n = ap length e in let m = length-append a (x ∷ []) in omega (arith, n, m))
 last_same (u ∷ a) (v ∷ b) x y e =
     let first : u ≡ v = ap (λ l. get_or l 0 0) e in
-    let rest = last_same a b x y (ap tail e) in
+    let rest = last_same a b x y (ap (drop 1) e) in
     ((λ i. first i ∷ rest.0 i), rest.1)
-  where
-    tail : List ℕ → List ℕ
-    tail [] = []
-    tail (z ∷ l) = l
 
--- among the sets of a prefix
-among : (prefix items : List ℕ) (item : ℕ) → is_one_of (extend prefix items) (prefix ++ item ∷ []) ≡ has items item
-among prefix items item = same_test (is_one_of (extend prefix items) (prefix ++ item ∷ [])) (has items item)
-    (λ h. let m = Member-from_map (λ x. prefix ++ x ∷ []) (prefix ++ item ∷ []) items (Member-from_is_one_of (extend prefix items) (prefix ++ item ∷ []) h) in
-    has-from_Member items item (subst (λ x. Member x items) (last_same prefix prefix m.0 item m.2).1 m.1))
-    (λ h. is_one_of-from_Member (extend prefix items) (prefix ++ item ∷ []) (Member-map (λ x. prefix ++ x ∷ []) item items (Member-from_has items item h)))
+pub looked_up : (groups : List Group) (group : Group) (item : ℕ) → IsStrictlySortedBy (slice_cmp nat_cmp) (prefixes_of groups) → Member group groups
+    → is_one_of (sets_of groups) (group.prefix ++ item ∷ []) ≡ has group.items item
+looked_up groups group item up here = same_test (is_one_of (sets_of groups) (group.prefix ++ item ∷ [])) (has group.items item)
+    (λ h. let s = from_sets groups (group.prefix ++ item ∷ []) (Member-from_is_one_of (sets_of groups) (group.prefix ++ item ∷ []) h) in
+    let last = last_same s.0.prefix group.prefix s.1 item s.4 in
+    let same = same_group groups s.0 group up s.2 here last.0 in
+    has-from_Member group.items item (subst (λ x. Member x group.items) last.1 (subst (λ (g : Group). Member s.1 g.items) same s.3)))
+    (λ h. is_one_of-from_Member (sets_of groups) (group.prefix ++ item ∷ []) (into_sets groups group item here (Member-from_has group.items item h)))
 
-not_among : (prefix items other : List ℕ) (item : ℕ) → prefix ≢ other → is_one_of (extend prefix items) (other ++ item ∷ []) ≡ false
-not_among prefix items other item differ = elim (cases_Bool (is_one_of (extend prefix items) (other ++ item ∷ []))) [
-  | inl e ↦ absurd (let m = Member-from_map (λ x. prefix ++ x ∷ []) (other ++ item ∷ []) items (Member-from_is_one_of (extend prefix items) (other ++ item ∷ []) e) in
-      differ (last_same prefix other m.0 item m.2).0)
+pub missing : (groups : List Group) (prefix : List ℕ) (item : ℕ) → is_one_of (prefixes_of groups) prefix ≡ false → is_one_of (sets_of groups) (prefix ++ item ∷ []) ≡ false
+missing groups prefix item none = elim (cases_Bool (is_one_of (sets_of groups) (prefix ++ item ∷ []))) [
+  | inl e ↦ (let s = from_sets groups (prefix ++ item ∷ []) (Member-from_is_one_of (sets_of groups) (prefix ++ item ∷ []) e) in
+      let there = subst (λ l. Member l (prefixes_of groups)) (last_same s.0.prefix prefix s.1 item s.4).0 (Member-map (λ (g : Group). g.prefix) s.0 groups s.2) in
+      absurd (true≢false (sym (is_one_of-from_Member (prefixes_of groups) prefix there) ∙ none)))
   | inr e ↦ e
 ]
-
-pub missing : (groups : List Group) (prefix : List ℕ) (item : ℕ) → ((other : List ℕ) → Member other (prefixes_of groups) → other ≢ prefix) → is_one_of (sets_of groups) (prefix ++ item ∷ []) ≡ false
-missing [] prefix item none = refl
-missing (group ∷ groups) prefix item none =
-    list_any-append _ (extend group.prefix group.items) (sets_of groups)
-    ∙ (λ i. not_among group.prefix group.items prefix item (none group.prefix (inl refl)) i || missing groups prefix item (λ other m. none other (inr m)) i)
-
-pub looked_up : (groups : List Group) (at : ℕ) (prefix : List ℕ) (item : ℕ) → IsStrictlySortedBy (slice_cmp nat_cmp) (prefixes_of groups) → at < length groups → get_or (prefixes_of groups) at [] ≡ prefix
-    → is_one_of (sets_of groups) (prefix ++ item ∷ []) ≡ has (get_or (lists_of groups) at []) item
-looked_up [] at prefix item up below is = absurd (omega arith)
-looked_up (group ∷ groups) zero prefix item up below is =
-    list_any-append _ (extend group.prefix group.items) (sets_of groups)
-    ∙ (λ i. here i || missing groups prefix item (λ other m e. other_prefix group.prefix (prefixes_of groups) other up m (e ∙ sym is)) i)
-    ∙ or_false (has group.items item)
-  where
-    here : is_one_of (extend group.prefix group.items) (prefix ++ item ∷ []) ≡ has group.items item
-    here = ap (λ s. is_one_of (extend group.prefix group.items) (s ++ item ∷ [])) (sym is) ∙ among group.prefix group.items item
-
-    or_false : (b : Bool) → (b || false) ≡ b
-    or_false true = refl
-    or_false false = refl
-looked_up (group ∷ groups) (suc at) prefix item up below is =
-    list_any-append _ (extend group.prefix group.items) (sets_of groups)
-    ∙ (λ i. not_among group.prefix group.items prefix item (λ e. other_prefix group.prefix (prefixes_of groups) prefix up there (sym e)) i
-    || looked_up groups at prefix item (rest_is_sorted nat_list_cmp_total group.prefix (prefixes_of groups) up) (omega arith) is i)
-  where
-    at_place : (list : List (List ℕ)) (k : ℕ) → k < length list → Member (get_or list k []) list
-    at_place [] k h = absurd (omega arith)
-    at_place (x ∷ list) zero h = inl refl
-    at_place (x ∷ list) (suc k) h = inr (at_place list k (omega arith))
-
-    there : Member prefix (prefixes_of groups)
-    there = subst (λ s. Member s (prefixes_of groups)) is (at_place (prefixes_of groups) at (let n = length-map groups (λ (g : Group). g.prefix) in omega (arith, n, below)))

@@ -19,7 +19,7 @@ use Rattle.basket_sets.specs.Order.{report_order, report_order_ties, report_orde
 use Rattle.basket_sets.proofs.theory.Members.{Member, All-from_Member, at_Member, Member-map, Member-from_map, Member-from_Contains, Contains-from_Member}
 use Rattle.basket_sets.proofs.theory.Rising.{first_below, has-from_Member, Member-from_has, rest_rises, rising-rises, same_test}
 use Rattle.mine_apriori.specs.Work.{all_candidates, candidate_count}
-use Rattle.mine_apriori.proofs.AllCandidateLemmas.{IsOne, candidates_sorted, from_all, in_frequent, into_all}
+use Rattle.mine_apriori.proofs.LawLemmas.{IsOne, candidates_sorted, from_all, in_frequent, into_all}
 
 -- ---- ranks and items
 

@@ -1,27 +1,33 @@
 -- The candidates of a level, one set after another.
-use Rattle.std.proofs.Common.{◌≡◌, ℕ, zero, suc, ◌+◌, ◌<◌, Bool, true, false, List, [], ◌∷◌, ◌++◌, length, take, drop, filter, get_or, cond, append_assoc, append-nil, sym, ap, ◌∙◌, subst, inr, refl, arith}
+use Rattle.std.proofs.Common.{◌≡◌, ℕ, zero, suc, ◌+◌, ◌<◌, true, false, List, [], ◌∷◌, ◌++◌, length, take, drop, filter, get_or, append_assoc, append-nil, sym, ap, ◌∙◌, subst, inr, refl, arith}
 use Rattle.std.specs.Cmp.Lexicographic.{slice_cmp}
 use Rattle.std.specs.List.{All}
 use Rattle.std.specs.List.Sorted.{IsStrictlySortedBy}
 use Rattle.std.specs.Ordering.{nat_cmp}
-use Rattle.std.proofs.lemmas.Bool.{true≢false}
 use Rattle.std.proofs.lemmas.Grind.{flat_map-append}
-use Rattle.std.proofs.lemmas.List.{drop_more, get_or_default, take_more}
-use Rattle.std.proofs.lemmas.List.Elements.{filter-append}
+use Rattle.std.proofs.lemmas.List.{drop_more, get_or-map, get_or_default, take_more}
+use Rattle.std.proofs.lemmas.List.Elements.{filter-append, filter_agree}
 use Rattle.basket_sets.specs.Itemset.{IsRising, has, without}
 use Rattle.basket_sets.proofs.theory.Members.{Member, Member-from_Contains, Member-map}
 use Rattle.basket_sets.proofs.theory.Ranges.{filter_members}
-use Rattle.basket_sets.proofs.theory.Rising.{Member-from_has, has-from_Member, has_place}
+use Rattle.basket_sets.proofs.theory.Rising.{Member-from_has, has-from_Member, has_place, rest_rises}
 use Rattle.mine_apriori.specs.Candidates.{is_one_of, has_subsets}
 use Rattle.mine_supports.specs.Extensions.{AreGrouped, Group, lists_of, sets_of, prefixes_of, has_items}
 use Rattle.mine_apriori.specs.Join.{AreParts, has_parts, joined_group}
 use Rattle.mine_supports.specs.Sizes.{AreOfSize}
+use Rattle.mine_supports.proofs.theory.Extensions.{no_group}
 use Rattle.mine_supports.proofs.theory.Grouped.{at_each, size_at}
 use Rattle.mine_apriori.proofs.GroupLemmas.{into_sets, looked_up, missing}
-use Rattle.mine_apriori.proofs.JoinedLemmas.{all_joined, filter_both, join_of, parts_decide}
-use Rattle.mine_apriori.proofs.PruneLemmas.{is_one_of-from_Member}
+use Rattle.mine_apriori.proofs.JoinedLemmas.{all_joined, join_of, parts_decide}
+use Rattle.mine_apriori.proofs.PruneLemmas.{filter_both, filter_none, is_one_of-from_Member}
 
 -- ---- one set more is joined
+
+-- what is left of rising items rises
+pub drop_rises : (k : ℕ) (items : List ℕ) → IsRising items → IsRising (drop k items)
+drop_rises zero items up = up
+drop_rises (suc k) [] up = up
+drop_rises (suc k) (x ∷ items) up = drop_rises k items (rest_rises x items up)
 
 Member-from_drop : (k : ℕ) (items : List ℕ) (x : ℕ) → Member x (drop k items) → Member x items
 Member-from_drop zero items x m = m
@@ -93,16 +99,14 @@ parts_more sets set items old new place before is =
     ∙ filter_both (has_parts place sets set) (λ x. is_one_of sets (without place set ++ x ∷ [])) items
     ∙ ap (λ n. filter (has_parts n sets set) items) one
 
-filter_none : (p : ℕ → Bool) (items : List ℕ) → ((x : ℕ) → p x ≡ false) → filter p items ≡ []
-filter_none p [] none = refl
-filter_none p (x ∷ items) none = (λ i. cond (none x i) (x ∷ filter p items) (filter p items)) ∙ filter_none p items none
-
 pub kept_found : (groups : List Group) (at : ℕ) (prefix items : List ℕ) → IsStrictlySortedBy (slice_cmp nat_cmp) (prefixes_of groups) → at < length groups → get_or (prefixes_of groups) at [] ≡ prefix
     → filter (has (get_or (lists_of groups) at [])) items ≡ filter (λ x. is_one_of (sets_of groups) (prefix ++ x ∷ [])) items
 kept_found groups at prefix items up below is =
-    filter_members (has (get_or (lists_of groups) at [])) (λ x. is_one_of (sets_of groups) (prefix ++ x ∷ [])) items (λ x m. sym (looked_up groups at prefix x up below is))
+    let group = get_or groups at no_group in
+    let here = Member-from_Contains group groups (at, below, get_or_default groups at group no_group below) in
+    let first = sym (get_or-map (λ (g : Group). g.prefix) groups at no_group [] below) ∙ is in
+    filter_agree (has (get_or (lists_of groups) at [])) (λ x. is_one_of (sets_of groups) (prefix ++ x ∷ []))
+    (λ x. ap (λ l. has l x) (get_or-map (λ (g : Group). g.items) groups at no_group [] below) ∙ sym (looked_up groups group x up here) ∙ ap (λ p. is_one_of (sets_of groups) (p ++ x ∷ [])) first) items
 
 pub kept_missing : (groups : List Group) (prefix items : List ℕ) → is_one_of (prefixes_of groups) prefix ≡ false → [] ≡ filter (λ x. is_one_of (sets_of groups) (prefix ++ x ∷ [])) items
-kept_missing groups prefix items none =
-    sym (filter_none (λ x. is_one_of (sets_of groups) (prefix ++ x ∷ [])) items (λ x. missing groups prefix x (λ other m e.
-    absurd (true≢false (sym (is_one_of-from_Member (prefixes_of groups) prefix (subst (λ s. Member s (prefixes_of groups)) e m)) ∙ none)))))
+kept_missing groups prefix items none = sym (filter_none (λ x. is_one_of (sets_of groups) (prefix ++ x ∷ [])) items (λ x m. missing groups prefix x none))

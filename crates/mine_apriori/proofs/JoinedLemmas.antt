@@ -1,5 +1,5 @@
 -- The candidates of a level, prefix by prefix.
-use Rattle.std.proofs.Common.{◌≡◌, ℕ, zero, suc, ◌<◌, ◌&&◌, Bool, true, false, List, [], ◌∷◌, ◌++◌, length, filter, flat_map, map, cond, refl, sym, ap, ◌∙◌, subst, inl, inr, arith}
+use Rattle.std.proofs.Common.{◌≡◌, ℕ, zero, suc, ◌<◌, ◌&&◌, Bool, true, List, [], ◌∷◌, ◌++◌, length, filter, flat_map, map, refl, sym, ap, ◌∙◌, subst, inl, inr, arith}
 use Rattle.std.specs.Cmp.Lexicographic.{slice_cmp}
 use Rattle.std.specs.List.{All}
 use Rattle.std.specs.List.Sorted.{IsStrictlySortedBy}
@@ -69,15 +69,6 @@ parts_decide sets prefix first item one other =
 
     long : length joined ≡ suc (suc last)
     long = length_after set item (suc last) set_long
-
-and_step : (x : ℕ) (rest : List ℕ) (q : ℕ → Bool) (a : Bool) → filter q (cond a (x ∷ rest) rest) ≡ cond (a && q x) (x ∷ filter q rest) (filter q rest)
-and_step x rest q true = refl
-and_step x rest q false = refl
-
--- a filter of what another keeps
-pub filter_both : (p q : ℕ → Bool) (items : List ℕ) → filter q (filter p items) ≡ filter (λ x. p x && q x) items
-filter_both p q [] = refl
-filter_both p q (x ∷ items) = and_step x (filter p items) q (p x) ∙ ap (λ l. cond (p x && q x) (x ∷ l) l) (filter_both p q items)
 
 -- ---- joins of the sets of a prefix
 

@@ -1,8 +1,8 @@
 -- The frequent sets by levels: each level is what is frequent among the candidates of the one before.
-use Rattle.std.proofs.Common.{◌≡◌, ◌≢◌, ℕ, ◌+◌, ◌<◌, ◌≤◌, Bool, true, false, List, [], ◌∷◌, ◌++◌, cond, length, map, refl, sym, ap, ◌∙◌, subst, inl, arith, zero, suc}
+use Rattle.std.proofs.Common.{◌≡◌, ◌≢◌, ℕ, ◌+◌, ◌<◌, ◌≤◌, Bool, true, false, List, [], ◌∷◌, ◌++◌, ◌&&◌, length, map, refl, sym, ap, ◌∙◌, subst, inl, arith, zero, suc}
 use Rattle.std.specs.List.{All, filter, flat_map, range_with_len}
 use Rattle.std.proofs.lemmas.List.{append-nil, length-append, length-map, map-append, map-id}
-use Rattle.std.proofs.lemmas.List.Elements.{filter-append}
+use Rattle.std.proofs.lemmas.List.Elements.{filter-append, filter_agree}
 use Rattle.std.proofs.lemmas.List.FromFn.{length-range_with_len}
 use Rattle.std.proofs.lemmas.List.Kept.{IsStrictlySortedBy-filter}
 use Rattle.basket_ranks.specs.Codes.{Coding, IsCoding, baskets_of, frequent_of_coding, decoded_set}
@@ -10,7 +10,7 @@ use Rattle.basket_sets.specs.Counts.{item_supports}
 use Rattle.basket_sets.specs.Frequent.{is_frequent, counted, frequent_of, ListsOnce}
 use Rattle.basket_sets.specs.Itemset.{IsRising}
 use Rattle.basket_sets.specs.Order.{report_order, report_order_total, IsInReportOrder}
-use Rattle.basket_sets.specs.Subsets.{subsets_of_size, subsets_up_to}
+use Rattle.basket_sets.specs.Subsets.{subsets_of, subsets_of_size, subsets_up_to}
 use Rattle.basket_sets.specs.Support.{support_of, items_of, all_items}
 use Rattle.basket_sets.specs.declared.counted.Counted.{Counted}
 use Rattle.basket_ranks.proofs.theory.Decoding.{decoding_keeps_frequent, ranks_below, as_many}
@@ -24,19 +24,55 @@ use Rattle.basket_sets.proofs.theory.Subsets.{IsSubset, IsSubset-from_Member, Me
 use Rattle.basket_sets.proofs.theory.Support.{frequent_items, subsets_are_frequent}
 use Rattle.mine_apriori.specs.Candidates.{candidates_of}
 use Rattle.mine_apriori.specs.Levels.{level_of, levels_up_to, asked_of, decoded_sets, AreFound, AreTooMany}
+use Rattle.mine_supports.specs.Extensions.{AreGrouped, Group, kept, sets_of}
 use Rattle.mine_supports.specs.Sizes.{AreOfSize}
+use Rattle.mine_supports.proofs.theory.Extensions.{kept_sets}
 use Rattle.mine_supports.proofs.theory.Grouped.{of_each}
 use Rattle.mine_apriori.proofs.LawLemmas.{subset_of_size, candidates_are_exact, candidates_are_in_report_order, of_size_in_order}
-use Rattle.mine_apriori.proofs.PruneLemmas.{Member-flat_map}
+use Rattle.mine_apriori.proofs.PruneLemmas.{Member-flat_map, filter_both, none_larger}
+use Rattle.mine_apriori.proofs.JoinedLemmas.{kept_grouped}
 
--- what is larger than a list has no subset of it
-pub none_larger : (size : ℕ) (items : List ℕ) → length items < size → subsets_of_size size items ≡ []
-none_larger zero items h = absurd (omega arith)
-none_larger (suc size) [] h = refl
-none_larger (suc size) (x ∷ items) h = both (none_larger size items (omega arith)) (none_larger (suc size) items (omega arith))
-  where
-    both : subsets_of_size size items ≡ [] → subsets_of_size (suc size) items ≡ [] → map (λ s. x ∷ s) (subsets_of_size size items) ++ subsets_of_size (suc size) items ≡ []
-    both a b = ap (λ l. map (λ s. x ∷ s) l ++ subsets_of_size (suc size) items) a ∙ b
+-- the subsets that pass a test, up to a size
+module _ (p : List ℕ → Bool) (items : List ℕ) where
+  abbrev up_to : ℕ → List (List ℕ)
+  up_to size = filter p (subsets_up_to size items)
+
+  pub one_more : (size : ℕ) → up_to (size + 1) ≡ up_to size ++ filter p (subsets_of_size (size + 1) items)
+  one_more size =
+      let one : size + 1 ≡ suc size = omega arith in
+      ap up_to one ∙ filter-append p (subsets_up_to size items) (subsets_of_size (suc size) items) ∙ ap (λ n. up_to size ++ filter p (subsets_of_size n items)) (sym one)
+
+  same_later : (size more : ℕ) → ((k : ℕ) → filter p (subsets_of_size (size + 1 + k) items) ≡ []) → up_to (size + more) ≡ up_to size
+  same_later size zero none = ap up_to (let e : size + 0 ≡ size = omega arith in e)
+  same_later size (suc more) none =
+      ap up_to (let e : size + suc more ≡ size + more + 1 = omega arith in e) ∙ one_more (size + more)
+      ∙ ap (λ l. up_to (size + more) ++ l) (ap (λ n. filter p (subsets_of_size n items)) (let e : size + more + 1 ≡ size + 1 + more = omega arith in e) ∙ none more)
+      ∙ append-nil (up_to (size + more)) ∙ same_later size more none
+
+  -- the subsets up to the number of items are all there are
+  beyond_all : (size : ℕ) → up_to (size + length items) ≡ filter p (subsets_of items)
+  beyond_all size =
+      ap up_to (let e : size + length items ≡ length items + size = omega arith in e)
+      ∙ same_later (length items) size (λ k. ap (filter p) (none_larger (length items + 1 + k) items (omega arith)))
+
+  pub settled : (size : ℕ) → ((k : ℕ) → filter p (subsets_of_size (size + 1 + k) items) ≡ []) → up_to size ≡ filter p (subsets_of items)
+  settled size none = sym (same_later size (length items) none) ∙ beyond_all size
+
+  -- those up to a size are no more than all
+  grows : (size more : ℕ) → length (up_to size) ≤ length (up_to (size + more))
+  grows size zero = let same = ap (λ n. length (up_to n)) (let e : size + 0 ≡ size = omega arith in e) in omega (arith, same)
+  grows size (suc more) =
+      let same = ap (λ n. length (up_to n)) (let e : size + suc more ≡ size + more + 1 = omega arith in e) in
+      let long = ap length (one_more (size + more)) ∙ length-append (up_to (size + more)) (filter p (subsets_of_size (size + more + 1) items)) in
+      let rest = grows size more in
+      omega (arith, same, long, rest)
+
+  pub at_most_all : (size : ℕ) → length (up_to size) ≤ length (filter p (subsets_of items))
+  at_most_all size = let most = grows size (length items) in omega (arith, most, ap length (beyond_all size))
+
+some_member : (sets : List (List ℕ)) → sets ≢ [] → (set : List ℕ) × Member set sets
+some_member [] some = absurd (some refl)
+some_member (set ∷ sets) some = (set, inl refl)
 
 module _ (coding : Coding) where
   abbrev items : List ℕ
@@ -82,12 +118,6 @@ module _ (coding : Coding) where
             Contains-from_Member subset (level_of coding size) (into_level size subset up sized (subsets_are_frequent coding.baskets coding.minimum set subset within s.1));
       }))) s.1)
 
-  pub up_to_next : (size : ℕ) → levels_up_to coding (size + 1) ≡ levels_up_to coding size ++ level_of coding (size + 1)
-  up_to_next size =
-      let one : size + 1 ≡ suc size = omega arith in
-      ap (levels_up_to coding) one ∙ filter-append passes (subsets_up_to size items) (subsets_of_size (suc size) items)
-      ∙ ap (λ n. levels_up_to coding size ++ level_of coding n) (sym one)
-
   -- ---- the last level
 
   empty_after : (size : ℕ) → 1 ≤ size → level_of coding size ≡ [] → level_of coding (size + 1) ≡ []
@@ -99,110 +129,67 @@ module _ (coding : Coding) where
       ap (level_of coding) (let e : size + suc more ≡ size + more + 1 = omega arith in e)
       ∙ empty_after (size + more) (omega arith) (empty_later size more some none)
 
-  up_to_later : (size more : ℕ) → ((k : ℕ) → level_of coding (size + 1 + k) ≡ []) → levels_up_to coding (size + more) ≡ levels_up_to coding size
-  up_to_later size zero none = ap (levels_up_to coding) (let e : size + 0 ≡ size = omega arith in e)
-  up_to_later size (suc more) none =
-      ap (levels_up_to coding) (let e : size + suc more ≡ size + more + 1 = omega arith in e) ∙ up_to_next (size + more)
-      ∙ ap (λ l. levels_up_to coding (size + more) ++ l) (ap (level_of coding) (let e : size + more + 1 ≡ size + 1 + more = omega arith in e) ∙ none more)
-      ∙ append-nil (levels_up_to coding (size + more)) ∙ up_to_later size more none
+  pub found_long : (size : ℕ) (found : List Counted) → AreFound coding size found → length found ≡ length (levels_up_to coding size)
+  found_long size found are = ap length are ∙ length-map (levels_up_to coding size) (λ set. decoded_set coding.items (counted coding.baskets set))
 
-  -- the sets up to the number of items are all there are
-  beyond_all : (size : ℕ) → levels_up_to coding (length items + size) ≡ levels_up_to coding (length items)
-  beyond_all size = up_to_later (length items) size (λ k. ap (filter passes) (none_larger (length items + 1 + k) items (omega arith)))
+  all_long : IsCoding coding → length (frequent_of_coding coding) ≡ length (levels_up_to coding (length items))
+  all_long is = as_many coding is ∙ length-map (levels_up_to coding (length items)) (counted coding.baskets)
 
-  pub all_found : (size : ℕ) → 1 ≤ size → asked_of coding size ≡ [] → levels_up_to coding size ≡ levels_up_to coding (length items)
-  all_found size some none =
-      let next : level_of coding (size + 1) ≡ [] = sym (next_level size some) ∙ ap (filter passes) none in
-      sym (up_to_later size (length items) (λ k. empty_later (size + 1) k (omega arith) next))
-      ∙ ap (levels_up_to coding) (let e : size + length items ≡ length items + size = omega arith in e) ∙ beyond_all size
-
-  -- what is found is no more than there is
-  grows : (size more : ℕ) → length (levels_up_to coding size) ≤ length (levels_up_to coding (size + more))
-  grows size zero = let same = ap (λ n. length (levels_up_to coding n)) (let e : size + 0 ≡ size = omega arith in e) in omega (arith, same)
-  grows size (suc more) =
-      let same = ap (λ n. length (levels_up_to coding n)) (let e : size + suc more ≡ size + more + 1 = omega arith in e) in
-      let long = ap length (up_to_next (size + more)) ∙ length-append (levels_up_to coding (size + more)) (level_of coding (size + more + 1)) in
-      let rest = grows size more in
-      omega (arith, same, long, rest)
-
-  pub found_at_most : IsCoding coding → (size : ℕ) → length (levels_up_to coding size) ≤ length (frequent_of_coding coding)
-  found_at_most is size =
-      let all = as_many coding is in
-      let long = length-map (levels_up_to coding (length items)) (counted coding.baskets) in
-      let most = grows size (length items) in
-      let same = ap (λ n. length (levels_up_to coding n)) (let e : size + length items ≡ length items + size = omega arith in e) ∙ ap length (beyond_all size) in
-      omega (arith, all, long, most, same)
-
-  pub too_many : IsCoding coding → (size limit : ℕ) → limit < length (levels_up_to coding size) → AreTooMany coding limit
-  too_many is size limit more = let most = found_at_most is size in omega arith
-
-  -- all of them, as items, are each frequent set once
-  pub found_once : IsCoding coding → (size : ℕ) → 1 ≤ size → asked_of coding size ≡ [] →
-      ListsOnce (baskets_of coding) coding.minimum (map (λ set. decoded_set coding.items (counted coding.baskets set)) (levels_up_to coding size))
-  found_once is size some none =
-      subst (ListsOnce (baskets_of coding) coding.minimum)
-      (map-map (decoded_set coding.items) (counted coding.baskets) (levels_up_to coding (length items))
-      ∙ ap (map (λ set. decoded_set coding.items (counted coding.baskets set))) (sym (all_found size some none)))
-      (decoding_keeps_frequent coding (frequent_of coding.baskets coding.minimum) is (frequent_once coding.baskets coding.minimum))
-
-  pub found_is_all : IsCoding coding → (size : ℕ) → 1 ≤ size → asked_of coding size ≡ [] → length (frequent_of_coding coding) ≡ length (levels_up_to coding size)
-  found_is_all is size some none =
-      as_many coding is ∙ length-map (levels_up_to coding (length items)) (counted coding.baskets) ∙ ap length (sym (all_found size some none))
+  pub too_many : IsCoding coding → (size limit : ℕ) (found : List Counted) → AreFound coding size found → limit < length found → AreTooMany coding limit
+  too_many is size limit found are more = let most = at_most_all passes items size in omega (arith, found_long size found are, all_long is, most)
 
   module _ (is : IsCoding coding) (size : ℕ) (some : 1 ≤ size) (none : asked_of coding size ≡ []) (found : List Counted) (are : AreFound coding size found) where
-    -- what was found, as the one class of all classes
+    -- nothing is found later
+    are_all : AreFound coding (length items) found
+    are_all =
+        let next : level_of coding (size + 1) ≡ [] = sym (next_level size some) ∙ ap (filter passes) none in
+        are ∙ ap (decoded_sets coding) (settled passes items size (λ k. empty_later (size + 1) k (omega arith) next))
+
+    -- what was found, as the one class of all classes, is each frequent set once
     pub one_class_once : (classes : List (List Counted)) → classes ≡ found ∷ [] → ListsOnce (baskets_of coding) coding.minimum (flat_map (λ class. class) classes)
     one_class_once classes one =
-        subst (ListsOnce (baskets_of coding) coding.minimum) (sym (ap (flat_map (λ (class : List Counted). class)) one ∙ append-nil found ∙ are)) (found_once is size some none)
+        subst (ListsOnce (baskets_of coding) coding.minimum)
+        (map-map (decoded_set coding.items) (counted coding.baskets) (levels_up_to coding (length items)) ∙ sym (ap (flat_map (λ (class : List Counted). class)) one ∙ append-nil found ∙ are_all))
+        (decoding_keeps_frequent coding (frequent_of coding.baskets coding.minimum) is (frequent_once coding.baskets coding.minimum))
 
     pub found_as_many : length (frequent_of_coding coding) ≡ length found
-    found_as_many = found_is_all is size some none ∙ sym (ap length are ∙ length-map (levels_up_to coding size) (λ set. decoded_set coding.items (counted coding.baskets set)))
+    found_as_many = all_long is ∙ sym (found_long (length items) found are_all)
 
-  -- a candidate has items of the baskets
+  -- an item of a candidate is in one of the sets that it is made of
+  in_level : (size : ℕ) (set : List ℕ) → Member set (asked_of coding size) → (item : ℕ) → Member item set → (subset : List ℕ) × Member subset (level_of coding size) × Member item subset
+  in_level size set m item n =
+      let s = subset_of_size size (level_of coding size) set (level_sized size) m in
+      Member-flat_map (λ set. set) item (level_of coding size) (Member-rising (flat_map (λ set. set) (level_of coding size)) item (s.0.within item n))
+
   pub candidate_items : (size : ℕ) (set : List ℕ) → Member set (asked_of coding size) → (item : ℕ) → Member item set → Member item items
-  candidate_items size set m item n =
-      let s = subset_of_size size (level_of coding size) set (level_sized size) m in
-      let f = Member-flat_map (λ set. set) item (level_of coding size) (Member-rising (flat_map (λ set. set) (level_of coding size)) item (s.0.within item n)) in
-      (from_level size f.0 f.1).0.within item f.2
+  candidate_items size set m item n = let f = in_level size set m item n in (from_level size f.0 f.1).0.within item f.2
 
-  candidate_within : (size : ℕ) (set : List ℕ) → Member set (asked_of coding size) → size + 1 ≤ length items
-  candidate_within size set m =
-      let s = subset_of_size size (level_of coding size) set (level_sized size) m in
-      let le = length-le-contains set items s.0.rises items_rise (candidate_items size set m) in
+  -- a level that asks is not yet that of all items
+  pub asks_more : (size : ℕ) → asked_of coding size ≢ [] → size + 1 ≤ length items
+  asks_more size asks =
+      let set = some_member (asked_of coding size) asks in
+      let s = subset_of_size size (level_of coding size) set.0 (level_sized size) set.1 in
+      let le = length-le-contains set.0 items s.0.rises items_rise (candidate_items size set.0 set.1) in
       omega (arith, le, s.0.sized)
 
-  -- and ranks of the coding
-  candidate_few : IsCoding coding → (size : ℕ) (set : List ℕ) → Member set (asked_of coding size) → size + 1 ≤ length coding.items
-  candidate_few is size set m =
-      let s = subset_of_size size (level_of coding size) set (level_sized size) m in
+  -- nor that of all ranks
+  pub asked_few : IsCoding coding → (size : ℕ) → asked_of coding size ≢ [] → size + 1 ≤ length coding.items
+  asked_few is size asks =
+      let set = some_member (asked_of coding size) asks in
+      let s = subset_of_size size (level_of coding size) set.0 (level_sized size) set.1 in
       let count = length coding.items in
-      let le = length-le-contains set (range_with_len 0 count) s.0.rises (range_rises 0 count) (λ item n.
-      let f = Member-flat_map (λ set. set) item (level_of coding size) (Member-rising (flat_map (λ set. set) (level_of coding size)) item (s.0.within item n)) in
+      let le = length-le-contains set.0 (range_with_len 0 count) s.0.rises (range_rises 0 count) (λ item n.
+      let f = in_level size set.0 set.1 item n in
       let below = ranks_below coding is f.0 (from_level size f.0 f.1).1 item (has-from_Member f.0 item f.2) in
       Member-into_range 0 count item (omega arith) (omega (arith, below))) in
       omega (arith, le, s.0.sized, length-range_with_len 0 count)
-
-  pub asked_few : IsCoding coding → (size : ℕ) → asked_of coding size ≢ [] → size + 1 ≤ length coding.items
-  asked_few is size asks = at (asked_of coding size) refl
-    where
-      at : (list : List (List ℕ)) → asked_of coding size ≡ list → size + 1 ≤ length coding.items
-      at [] e = absurd (asks e)
-      at (set ∷ sets) e = candidate_few is size set (subst (Member set) (sym e) (inl refl))
 
   -- the sets of a level rise, and so do those that are asked for
   pub level_rises : (size : ℕ) → All IsRising (level_of coding size)
   level_rises size = of_each IsRising (level_of coding size) (λ set m. (from_level size set m).0.rises)
 
-  pub asked_rise : (size : ℕ) → 1 ≤ size → All IsRising (asked_of coding size)
-  asked_rise size some = of_each IsRising (asked_of coding size) (λ set m. (subset_of_size size (level_of coding size) set (level_sized size) m).0.rises)
-
-  -- a level that asks is not yet that of all items
-  pub asks_more : (size : ℕ) → 1 ≤ size → asked_of coding size ≢ [] → size + 1 ≤ length items
-  asks_more size some asks = at (asked_of coding size) refl
-    where
-      at : (list : List (List ℕ)) → asked_of coding size ≡ list → size + 1 ≤ length items
-      at [] e = absurd (asks e)
-      at (set ∷ sets) e = candidate_within size set (subst (Member set) (sym e) (inl refl))
+  pub asked_rise : (size : ℕ) → All IsRising (asked_of coding size)
+  asked_rise size = of_each IsRising (asked_of coding size) (λ set m. (subset_of_size size (level_of coding size) set (level_sized size) m).0.rises)
 
   -- ---- the first level
 
@@ -219,19 +206,27 @@ module _ (coding : Coding) where
 
   -- the frequent ones of a level are the level
   pub level_again : (size : ℕ) → filter passes (level_of coding size) ≡ level_of coding size
-  level_again size = again (subsets_of_size size items)
+  level_again size = filter_both passes passes (subsets_of_size size items) ∙ filter_agree (λ set. passes set && passes set) passes (λ set. twice (passes set)) (subsets_of_size size items)
     where
-      step : (set : List ℕ) (rest : List (List ℕ)) (b : Bool) → passes set ≡ b → filter passes rest ≡ rest → filter passes (cond b (set ∷ rest) rest) ≡ cond b (set ∷ rest) rest
-      step set rest false e f = f
-      step set rest true e f = (λ i. cond (e i) (set ∷ f i) (f i))
-
-      again : (sets : List (List ℕ)) → filter passes (filter passes sets) ≡ filter passes sets
-      again [] = refl
-      again (set ∷ sets) = step set (filter passes sets) (passes set) refl (again sets)
+      twice : (b : Bool) → (b && b) ≡ b
+      twice true = refl
+      twice false = refl
 
 -- one level more is found
-pub found_next : (coding : Coding) (size : ℕ) (old new : List Counted) (sets : List (List ℕ)) → AreFound coding size old → sets ≡ level_of coding (size + 1) → new ≡ old ++ decoded_sets coding sets → AreFound coding (size + 1) new
-found_next coding size old new sets is level added =
-    added ∙ (λ i. is i ++ decoded_sets coding (level i))
-    ∙ sym (map-append (λ set. decoded_set coding.items (counted coding.baskets set)) (levels_up_to coding size) (level_of coding (size + 1)))
-    ∙ ap (decoded_sets coding) (sym (up_to_next coding size))
+pub record AreNext (coding : Coding) (size : ℕ) (found : List Counted) (level : List Group) : Type 0 where
+  pub found_all : AreFound coding (size + 1) found
+  pub level_all : sets_of level ≡ level_of coding (size + 1)
+  pub grouped : AreGrouped level
+
+pub are_next : (coding : Coding) (size : ℕ) (sets level : List Group) (old new : List Counted) → AreFound coding size old → AreGrouped sets
+    → filter (is_frequent coding.baskets coding.minimum) (sets_of sets) ≡ level_of coding (size + 1) → level ≡ kept (is_frequent coding.baskets coding.minimum) sets
+    → new ≡ old ++ decoded_sets coding (filter (is_frequent coding.baskets coding.minimum) (sets_of sets)) → AreNext coding size new level
+are_next coding size sets level old new found grouped next is added =
+    let passes = is_frequent coding.baskets coding.minimum in
+    record {
+      found_all = added ∙ (λ i. found i ++ decoded_sets coding (next i))
+          ∙ sym (map-append (λ set. decoded_set coding.items (counted coding.baskets set)) (levels_up_to coding size) (level_of coding (size + 1)))
+          ∙ ap (decoded_sets coding) (sym (one_more passes (items_of coding.baskets) size));
+      level_all = ap sets_of is ∙ kept_sets passes sets ∙ next;
+      grouped = subst AreGrouped (sym is) (kept_grouped passes sets grouped);
+    }

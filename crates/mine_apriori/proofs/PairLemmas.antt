@@ -1,20 +1,22 @@
 -- Pairs of ranks as sets of two.
-use Rattle.std.proofs.Common.{◌≡◌, ℕ, ◌+◌, ◌<◌, Bool, true, ◌&&◌, List, [], ◌∷◌, ◌++◌, length, get_or, map, refl, sym, ap, ◌∙◌, subst, inl, inr, arith, zero, suc, add-one}
+use Rattle.std.proofs.Common.{◌≡◌, ℕ, ◌+◌, ◌<◌, Bool, true, ◌&&◌, List, [], ◌∷◌, ◌++◌, length, get_or, map, refl, sym, ap, ◌∙◌, subst, inl, inr, arith, zero, suc, add-one, append-nil}
 use Rattle.std.specs.Cmp.Lexicographic.{slice_cmp, bytes_decides, nat_list_cmp_total, texts_ties}
 use Rattle.std.specs.Ordering.{nat_cmp, ordering_then, eq_by_cmp}
-use Rattle.std.specs.List.{All, AllByRecursion, IsDistinct, filter, range_with_len}
+use Rattle.std.specs.List.{All, IsDistinct, filter, flat_map, range_with_len}
 use Rattle.std.specs.List.Sorted.{IsPermutation, IsSorted, IsStrictlySortedBy}
 use Rattle.std.specs.declared.vec.Vec.{Vec}
 use Rattle.std.specs.declared.alloc.Global.{Global}
-use Rattle.std.proofs.lemmas.Bool.{cases_Bool, cases_eq, lt-ltb}
-use Rattle.std.proofs.lemmas.List.{get_or-map, length-map, map-append}
-use Rattle.std.proofs.lemmas.List.Elements.{All-map, recursion_from_All}
+use Rattle.std.proofs.lemmas.Bool.{cases_Bool, lt-ltb}
+use Rattle.std.proofs.lemmas.List.{get_or-map, length-map, map-append, map-id}
+use Rattle.std.proofs.lemmas.List.Elements.{All-map}
 use Rattle.std.proofs.lemmas.List.FromFn.{get_or-map-range_with_len, length-map-range_with_len}
+use Rattle.std.proofs.lemmas.Grind.{flat_map-append}
 use Rattle.std.proofs.lemmas.List.Kept.{IsStrictlySortedBy-filter}
 use Rattle.std.proofs.lemmas.List.Sorted.{All-permutation, IsPermutation-map}
 use Rattle.std.proofs.lemmas.Map.Keys.{IsDistinct-from_sorted}
 use Rattle.std.proofs.lemmas.Simd.{map-map}
 use Rattle.basket_ranks.specs.Codes.{Coding, IsCoding}
+use Rattle.basket_ranks.proofs.theory.Added.{map_members}
 use Rattle.basket_ranks.proofs.theory.Decoding.{ranks_below}
 use Rattle.basket_sets.specs.declared.weighted.Weighted.{Weighted}
 use Rattle.basket_sets.specs.declared.minimum.Minimum.TheVariants.{Count}
@@ -23,8 +25,8 @@ use Rattle.basket_sets.specs.Itemset.{IsRising}
 use Rattle.basket_sets.specs.Minimum.{IsLeastSupport}
 use Rattle.basket_sets.specs.Subsets.{subsets_of_size}
 use Rattle.basket_sets.specs.Support.{items_of, support_of, total_of}
-use Rattle.basket_sets.proofs.theory.Members.{Member, Member-append, Member-append_left, Member-append_right, Member-filter, Member-from_filter, Member-from_map, Member-map, sorted_map}
-use Rattle.basket_sets.proofs.theory.Ranges.{Member-into_range, Member-range, filter_members, filtered_range_rises}
+use Rattle.basket_sets.proofs.theory.Members.{Member, Member-filter, Member-from_filter, Member-from_map, Member-map, sorted_map}
+use Rattle.basket_sets.proofs.theory.Ranges.{range_more, Member-into_range, Member-range, filter_members, filtered_range_rises}
 use Rattle.basket_sets.proofs.theory.Rising.{first_below, has-from_Member}
 use Rattle.basket_sets.proofs.theory.Sorting.{sorted_is}
 use Rattle.basket_sets.proofs.theory.Subsets.{of_size_sorted}
@@ -35,8 +37,9 @@ use Rattle.mine_classes.proofs.theory.Lists.{distinct-append}
 use Rattle.mine_pairs.specs.Pairs.{ArePairs, lists_of, pairs_of}
 use Rattle.mine_apriori.specs.declared.pairs.Pair.{Pair}
 use Rattle.mine_apriori.specs.Levels.{level_of}
-use Rattle.mine_supports.proofs.theory.Grouped.{one_rises}
+use Rattle.mine_supports.proofs.theory.Grouped.{at_each, one_rises}
 use Rattle.mine_apriori.proofs.JoinLemmas.{rises_after}
+use Rattle.mine_apriori.proofs.PruneLemmas.{Member-flat_map, Member-into_flat_map}
 use Rattle.mine_apriori.proofs.LevelsLemmas.{from_level, into_level, items_rise}
 
 -- ---- a least support
@@ -62,10 +65,6 @@ parts (x ∷ []) e = absurd (omega (arith, e))
 parts (x ∷ y ∷ []) e = refl
 parts (x ∷ y ∷ z ∷ set) e = absurd (omega (arith, e))
 
-ranks_again : (baskets : List Weighted) (sets : List (List ℕ)) → map (λ (pair : Pair). pair.ranks) (map (pair_of baskets) sets) ≡ sets
-ranks_again baskets [] = refl
-ranks_again baskets (set ∷ sets) = ap (λ l. set ∷ l) (ranks_again baskets sets)
-
 module _ (coding : Coding) where
   abbrev passes : List ℕ → Bool
   passes set = is_frequent coding.baskets coding.minimum set
@@ -79,8 +78,13 @@ module _ (coding : Coding) where
 
   -- the sets of two ranks below a number
   abbrev pub sets_below : ℕ → List (List ℕ)
-  sets_below zero = []
-  sets_below (suc greater) = sets_below greater ++ sets_with greater
+  sets_below count = flat_map sets_with (range_with_len 0 count)
+
+  below_more : (count : ℕ) → sets_below (suc count) ≡ sets_below count ++ sets_with count
+  below_more count =
+      let last : 0 + count ≡ count = omega arith in
+      ap (flat_map sets_with) (range_more 0 count ∙ ap (λ n. range_with_len 0 count ++ n ∷ []) last) ∙ flat_map-append sets_with (range_with_len 0 count) (count ∷ [])
+      ∙ ap (λ l. sets_below count ++ l) (append-nil (sets_with count))
 
   pub pairs_long : (lists : List (Vec (ℕ × ℕ) Global)) → ArePairs coding (lists_of lists) → length lists ≡ length coding.items
   pairs_long lists are =
@@ -102,35 +106,29 @@ module _ (coding : Coding) where
       ap (λ l. map (pair_of coding.baskets) (sets_below greater) ++ l)
       (map-map (pair_with greater) (λ lesser. (lesser, support_of coding.baskets (lesser ∷ greater ∷ []))) (lesser_of greater)
       ∙ sym (map-map (pair_of coding.baskets) (λ lesser. lesser ∷ greater ∷ []) (lesser_of greater)))
-      ∙ sym (map-append (pair_of coding.baskets) (sets_below greater) (sets_with greater)) ∙ ap (λ n. map (pair_of coding.baskets) (sets_below n)) (sym (add-one greater))
+      ∙ sym (map-append (pair_of coding.baskets) (sets_below greater) (sets_with greater)) ∙ ap (map (pair_of coding.baskets)) (sym (below_more greater) ∙ ap sets_below (sym (add-one greater)))
 
   -- ---- the second level
 
   from_below : (count : ℕ) (set : List ℕ) → Member set (sets_below count) → (lesser greater : ℕ) × (lesser ∷ greater ∷ [] ≡ set) × (lesser < greater) × (greater < count) × (passes set ≡ true)
-  from_below zero set m = absurd m
-  from_below (suc count) set m = elim (Member-append set (sets_below count) (sets_with count) m) [
-    | inl before ↦ (let r = from_below count set before in let less = r.4 in (r.0, r.1, r.2, r.3, omega arith, r.5))
-    | inr here ↦ (let p = Member-from_map (λ lesser. lesser ∷ count ∷ []) set (lesser_of count) here in
-        let k = Member-filter (λ lesser. passes (lesser ∷ count ∷ [])) p.0 (range_with_len 0 count) p.1 in
-        let r = Member-range 0 count p.0 k.0 in
-        (p.0, count, p.2, omega (arith, r.1), omega arith, ap passes (sym p.2) ∙ k.1))
-  ]
+  from_below count set m =
+      let f = Member-flat_map sets_with set (range_with_len 0 count) m in
+      let p = Member-from_map (λ lesser. lesser ∷ f.0 ∷ []) set (lesser_of f.0) f.2 in
+      let k = Member-filter (λ lesser. passes (lesser ∷ f.0 ∷ [])) p.0 (range_with_len 0 f.0) p.1 in
+      let less = (Member-range 0 f.0 p.0 k.0).1 in
+      let below = (Member-range 0 count f.0 f.1).1 in
+      (p.0, f.0, p.2, omega (arith, less), omega (arith, below), ap passes (sym p.2) ∙ k.1)
 
   into_below : (count lesser greater : ℕ) → lesser < greater → greater < count → passes (lesser ∷ greater ∷ []) ≡ true → Member (lesser ∷ greater ∷ []) (sets_below count)
-  into_below zero lesser greater less below h = absurd (omega arith)
-  into_below (suc count) lesser greater less below h = elim (cases_eq greater count) [
-    | inl same ↦
-        subst (λ n. Member (lesser ∷ n ∷ []) (sets_below (suc count))) (sym same)
-        (Member-append_right (lesser ∷ count ∷ []) (sets_below count) (sets_with count) (Member-map (λ l. l ∷ count ∷ []) lesser (lesser_of count)
-        (Member-from_filter (λ l. passes (l ∷ count ∷ [])) lesser (range_with_len 0 count) (Member-into_range 0 count lesser (omega arith) (omega (arith, same, less))) (subst (λ n. passes (lesser ∷ n ∷ []) ≡ true) same h))))
-    | inr differ ↦ Member-append_left (lesser ∷ greater ∷ []) (sets_below count) (sets_with count) (into_below count lesser greater less (omega arith) h)
-  ]
+  into_below count lesser greater less below h =
+      Member-into_flat_map sets_with (lesser ∷ greater ∷ []) greater (range_with_len 0 count) (Member-into_range 0 count greater (omega arith) (omega arith))
+      (Member-map (λ l. l ∷ greater ∷ []) lesser (lesser_of greater) (Member-from_filter (λ l. passes (l ∷ greater ∷ [])) lesser (range_with_len 0 greater) (Member-into_range 0 greater lesser (omega arith) (omega arith)) h))
 
   distinct_below : (count : ℕ) → IsDistinct (eq_by_cmp (slice_cmp nat_cmp)) (sets_below count)
   unfolding IsDistinct
   distinct_below zero = tt
-  distinct_below (suc count) =
-      distinct-append (eq_by_cmp (slice_cmp nat_cmp)) (sets_below count) (sets_with count) (distinct_below count)
+  distinct_below (suc count) = subst (IsDistinct (eq_by_cmp (slice_cmp nat_cmp))) (sym (below_more count))
+      (distinct-append (eq_by_cmp (slice_cmp nat_cmp)) (sets_below count) (sets_with count) (distinct_below count)
       (IsDistinct-from_sorted (slice_cmp nat_cmp) (sets_with count)
       (sorted_map nat_cmp (slice_cmp nat_cmp) (λ lesser. lesser ∷ count ∷ []) (lesser_of count) (λ x y less. ap (λ o. ordering_then o (slice_cmp nat_cmp (count ∷ []) (count ∷ []))) less)
       (filtered_range_rises (λ lesser. passes (lesser ∷ count ∷ [])) 0 count)))
@@ -138,20 +136,18 @@ module _ (coding : Coding) where
         | inl e ↦ absurd (let p = from_below count x m in let q = Member-from_map (λ lesser. lesser ∷ count ∷ []) y (lesser_of count) n in
             let same = ap (λ s. get_or s 1 0) (p.2 ∙ (bytes_decides x y).0 (texts_ties x y ∙ e) ∙ sym q.2) in omega (arith, same, p.4))
         | inr e ↦ e
-      ])
+      ]))
 
   -- the counts are the supports in any order of the pairs
   pub sorted_counts : (pairs sorted : List Pair) (sets : List (List ℕ)) → pairs ≡ map (pair_of coding.baskets) sets → IsPermutation pairs sorted
       → map (λ pair. pair.count) sorted ≡ map (support_of coding.baskets) (map (λ pair. pair.ranks) sorted)
   sorted_counts pairs sorted sets are moved =
-      each sorted (recursion_from_All Counts sorted (All-permutation Counts pairs sorted moved (subst (All Counts) (sym are) (All-map Counts (pair_of coding.baskets) sets (λ k d here. refl)))))
+      let all = All-permutation Counts pairs sorted moved (subst (All Counts) (sym are) (All-map Counts (pair_of coding.baskets) sets (λ k d here. refl))) in
+      map_members (λ (pair : Pair). pair.count) (λ pair. support_of coding.baskets pair.ranks) sorted (at_each Counts sorted all)
+      ∙ sym (map-map (support_of coding.baskets) (λ (pair : Pair). pair.ranks) sorted)
     where
       Counts : Pair → Type 0
       Counts pair = pair.count ≡ support_of coding.baskets pair.ranks
-
-      each : (list : List Pair) → AllByRecursion Counts list → map (λ (pair : Pair). pair.count) list ≡ map (support_of coding.baskets) (map (λ (pair : Pair). pair.ranks) list)
-      each [] h = refl
-      each (pair ∷ list) h = let rest = each list h.1 in λ i. h.0 i ∷ rest i
 
   pairs_sorted : IsStrictlySortedBy (slice_cmp nat_cmp) (level_of coding 2)
   pairs_sorted = IsStrictlySortedBy-filter (slice_cmp nat_cmp) passes (subsets_of_size 2 (items_of coding.baskets)) (of_size_sorted 2 (items_of coding.baskets) (items_rise coding))
@@ -161,7 +157,7 @@ module _ (coding : Coding) where
       → IsSorted (slice_cmp nat_cmp) (map (λ pair. pair.ranks) sorted) → map (λ pair. pair.ranks) sorted ≡ level_of coding 2
   sorted_ranks is pairs sorted are moved up =
       sorted_is nat_list_cmp_total below (map (λ (pair : Pair). pair.ranks) sorted) (level_of coding 2) (distinct_below count)
-      (subst (λ l. IsPermutation l (map (λ (pair : Pair). pair.ranks) sorted)) (ap (map (λ (pair : Pair). pair.ranks)) are ∙ ranks_again coding.baskets below)
+      (subst (λ l. IsPermutation l (map (λ (pair : Pair). pair.ranks) sorted)) (ap (map (λ (pair : Pair). pair.ranks)) are ∙ map-map (λ (pair : Pair). pair.ranks) (pair_of coding.baskets) below ∙ map-id below)
       (IsPermutation-map (λ (pair : Pair). pair.ranks) pairs sorted moved))
       up pairs_sorted
       (λ set m. let p = from_below count set m in

@@ -1,5 +1,5 @@
 -- The subsets of a set with one item less are the set without one of its places.
-use Rattle.std.proofs.Common.{◌≡◌, ℕ, ◌<◌, ◌≤◌, true, ◌||◌, List, [], ◌∷◌, filter, flat_map, length, map, refl, sym, ap, ◌∙◌, subst, inl, inr, arith, zero, suc}
+use Rattle.std.proofs.Common.{◌≡◌, ℕ, ◌<◌, Bool, true, false, ◌&&◌, ◌||◌, cond, List, [], ◌∷◌, ◌++◌, filter, flat_map, length, map, refl, sym, ap, ◌∙◌, subst, inl, inr, arith, zero, suc}
 use Rattle.std.specs.Cmp.Lexicographic.{pointwise, bytes_decides}
 use Rattle.std.specs.Prelude.{nat_eq}
 use Rattle.std.proofs.lemmas.Bool.{or_cases, cases_Bool, cases_lt, true≢false}
@@ -27,29 +27,17 @@ is_one_of-from_Member (other ∷ sets) set (inr m) = elim (cases_Bool (pointwise
 
 -- ---- places and subsets
 
-whole : (items : List ℕ) → Member items (subsets_of_size (length items) items)
-whole [] = inl refl
-whole (x ∷ items) = Member-append_left (x ∷ items) (map (λ s. x ∷ s) (subsets_of_size (length items) items)) (subsets_of_size (suc (length items)) items)
-    (Member-map (λ s. x ∷ s) items (subsets_of_size (length items) items) (whole items))
+-- what is larger than a list has no subset of it, and what is as large has one
+pub none_larger : (size : ℕ) (items : List ℕ) → length items < size → subsets_of_size size items ≡ []
+none_larger zero items h = absurd (omega arith)
+none_larger (suc size) [] h = refl
+none_larger (suc size) (x ∷ items) h = (λ i. map (λ s. x ∷ s) (none_larger size items (omega arith) i) ++ none_larger (suc size) items (omega arith) i)
 
-size_at_most : (size : ℕ) (items set : List ℕ) → Member set (subsets_of_size size items) → size ≤ length items
-size_at_most zero items set m = omega arith
-size_at_most (suc size) [] set m = absurd m
-size_at_most (suc size) (x ∷ items) set m = elim (Member-append set (map (λ s. x ∷ s) (subsets_of_size size items)) (subsets_of_size (suc size) items) m) [
-  | inl n ↦ (let p = Member-from_map (λ s. x ∷ s) set (subsets_of_size size items) n in let b = size_at_most size items p.0 p.1 in omega arith)
-  | inr n ↦ (let b = size_at_most (suc size) items set n in omega arith)
-]
-
-only_whole : (size : ℕ) (items set : List ℕ) → length items ≡ size → Member set (subsets_of_size size items) → items ≡ set
-only_whole zero [] set e (inl is) = is
-only_whole zero [] set e (inr m) = absurd m
-only_whole zero (x ∷ items) set e m = absurd (omega (arith, e))
-only_whole (suc size) [] set e m = absurd (omega (arith, e))
-only_whole (suc size) (x ∷ items) set e m = elim (Member-append set (map (λ s. x ∷ s) (subsets_of_size size items)) (subsets_of_size (suc size) items) m) [
-  | inl n ↦ (let p = Member-from_map (λ s. x ∷ s) set (subsets_of_size size items) n in
-      ap (λ l. x ∷ l) (only_whole size items p.0 (omega (arith, e)) p.1) ∙ p.2)
-  | inr n ↦ absurd (let b = size_at_most (suc size) items set n in omega (arith, e))
-]
+only_whole : (size : ℕ) (items : List ℕ) → length items ≡ size → subsets_of_size size items ≡ items ∷ []
+only_whole zero [] e = refl
+only_whole zero (x ∷ items) e = absurd (omega (arith, e))
+only_whole (suc size) [] e = absurd (omega (arith, e))
+only_whole (suc size) (x ∷ items) e = (λ i. map (λ s. x ∷ s) (only_whole size items (omega (arith, e)) i) ++ none_larger (suc size) items (omega (arith, e)) i)
 
 pub Member-without : (size place : ℕ) (items : List ℕ) → length items ≡ suc size → place < suc size → Member (without place items) (subsets_of_size size items)
 Member-without size place [] e below = absurd (omega (arith, e))
@@ -58,7 +46,7 @@ Member-without zero zero (x ∷ y ∷ items) e below = absurd (omega (arith, e))
 Member-without zero (suc place) (x ∷ items) e below = absurd (omega arith)
 Member-without (suc size) zero (x ∷ items) e below =
     Member-append_right items (map (λ s. x ∷ s) (subsets_of_size size items)) (subsets_of_size (suc size) items)
-    (let same : length items ≡ suc size = omega (arith, e) in subst (λ n. Member items (subsets_of_size n items)) same (whole items))
+    (subst (Member items) (sym (only_whole (suc size) items (omega (arith, e)))) (inl refl))
 Member-without (suc size) (suc place) (x ∷ items) e below =
     Member-append_left (x ∷ without place items) (map (λ s. x ∷ s) (subsets_of_size size items)) (subsets_of_size (suc size) items)
     (Member-map (λ s. x ∷ s) (without place items) (subsets_of_size size items) (Member-without size place items (omega (arith, e)) (omega arith)))
@@ -73,7 +61,7 @@ place_of_Member (suc size) (x ∷ items) set e m = elim (Member-append set (map 
   | inl n ↦ (let p = Member-from_map (λ s. x ∷ s) set (subsets_of_size size items) n in
       let q = place_of_Member size items p.0 (omega (arith, e)) p.1 in
       (suc q.0, omega (arith, q.1), ap (λ l. x ∷ l) q.2 ∙ p.2))
-  | inr n ↦ (0, omega arith, only_whole (suc size) items set (omega (arith, e)) n)
+  | inr n ↦ elim (subst (Member set) (only_whole (suc size) items (omega (arith, e))) n) [ inl is ↦ (0, omega arith, is) | inr none ↦ absurd none ]
 ]
 
 -- ---- the prune
@@ -92,6 +80,22 @@ has_all last sets set long first second each = all_pass (is_one_of sets) (subset
         | inr most ↦ (let e : suc last ≡ place = omega arith in subst (λ p. is_one_of sets (without p set) ≡ true) e first)
       ]
     ]
+
+-- ---- what a filter keeps
+
+module _ {X : Type 0} where
+  pub filter_none : (p : X → Bool) (xs : List X) → ((x : X) → Member x xs → p x ≡ false) → filter p xs ≡ []
+  filter_none p [] none = refl
+  filter_none p (x ∷ xs) none = ap (λ b. cond b (x ∷ filter p xs) (filter p xs)) (none x (inl refl)) ∙ filter_none p xs (λ y m. none y (inr m))
+
+  and_step : (x : X) (rest : List X) (q : X → Bool) (a : Bool) → filter q (cond a (x ∷ rest) rest) ≡ cond (a && q x) (x ∷ filter q rest) (filter q rest)
+  and_step x rest q true = refl
+  and_step x rest q false = refl
+
+  -- a filter of what another keeps
+  pub filter_both : (p q : X → Bool) (xs : List X) → filter q (filter p xs) ≡ filter (λ x. p x && q x) xs
+  filter_both p q [] = refl
+  filter_both p q (x ∷ xs) = and_step x (filter p xs) q (p x) ∙ ap (λ l. cond (p x && q x) (x ∷ l) l) (filter_both p q xs)
 
 -- ---- the items of sets
 

@@ -17,6 +17,7 @@ use std::alloc::{AllocError, Global};
 use std::marker::Model;
 
 /// The frequent sets of one rank, as items with their supports and as ranks.
+#[tactic(auto, using(basket_sets::proofs::theory::Rising::nil_rises))]
 pub fn frequent_ranks(alloc: Global, coded: &Coded) -> Result<(CountedSets, Extensions), AllocError>
     ensures found { IfOk result (λ first. AreFound coded.now 1 first.0) }
     ensures level { IfOk result (λ first. sets_of first.1 ≡ level_of coded.now 1) }

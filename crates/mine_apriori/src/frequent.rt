@@ -13,6 +13,7 @@ use std::alloc::{AllocError, Global};
 
 /// Adds those sets of some prefixes that are frequent to those found, as items and with their supports. Returns them as
 /// ranks.
+#[tactic(auto, using(basket_sets::proofs::theory::Ranges::filter_rises))]
 pub fn add_frequent(
     alloc: Global,
     coded: &Coded,

@@ -82,6 +82,7 @@ fn join(
 
 /// Keeps those items with which a set has all subsets of its size that lack one of its items except the last. From one
 /// set to the next the prefix without the item at a place mostly moves on a little, so each place has a hint of its own.
+#[tactic(auto, using(crate::proofs::JoinStepLemmas::parts_none, crate::proofs::JoinStepLemmas::parts_more, basket_sets::proofs::theory::Ranges::filter_rises))]
 fn keep_extensions(
     level: &Extensions,
     set: &[u32],

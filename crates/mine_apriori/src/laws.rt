@@ -10,6 +10,7 @@ pub fn candidates_are_exact()
 {}
 
 /// The candidates of any sets are in report order.
+#[tactic(auto, using(crate::proofs::LawLemmas::candidates_are_in_report_order))]
 pub fn candidates_are_in_report_order()
     ensures { CandidatesAreInReportOrder }
 {}
@@ -20,6 +21,7 @@ pub fn candidates_are_one_larger()
 {}
 
 /// Baskets with the same frequent sets have the same candidates.
+#[tactic(auto, using(crate::proofs::LawLemmas::candidates_by_sets))]
 pub fn candidates_by_sets()
     ensures { CandidatesBySets }
 {}

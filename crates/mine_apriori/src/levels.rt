@@ -47,6 +47,7 @@ impl<'a> Model for Levels<'a> {
 impl<'a> Levels<'a> {
     /// The search that has found the frequent items. It ends in a fault once it has found more sets
     /// than the limit.
+    #[tactic(auto, using(crate::proofs::WorkLemmas::none_of_one))]
     pub fn start(alloc: Global, coded: &'a Coded, limit: u32) -> Result<Self, MineFault>
         ensures ok { IfOk result (λ levels. levels ≡ record { coding = coded.now; limit = limit; size = 1 }) }
         ensures too_many { (most : ℕ) → result ≡ Err (TooMany most) → (most ≡ limit) × AreTooMany coded.now limit }
@@ -62,6 +63,7 @@ impl<'a> Levels<'a> {
     }
 
     /// The search at its end, which asks for nothing more.
+    #[tactic(auto, using(crate::proofs::LevelsLemmas::asks_more))]
     pub fn searched(alloc: Global, coded: &'a Coded, limit: u32) -> Result<Self, MineFault>
         ensures search { IfOk result (λ levels. (levels.coding ≡ coded.now) × (levels.limit ≡ limit)) }
         ensures done { IfOk result (λ levels. asked_of levels.coding levels.size ≡ []) }
@@ -78,6 +80,7 @@ impl<'a> Levels<'a> {
 
     /// The candidates whose supports are asked for, as ranks. If there are none, all frequent sets
     /// are found.
+    #[tactic(auto, using(crate::proofs::LevelsLemmas::asks_more, crate::proofs::WorkLemmas::asked_are))]
     pub fn asked(&self) -> &Extensions
         ensures asked { sets_of result.now ≡ asked_of self.now.coding self.now.size }
         ensures candidates { sets_of result.now ≡ candidates_of_size self.now.coding.baskets self.now.coding.minimum (self.now.size + 1) }
@@ -88,6 +91,7 @@ impl<'a> Levels<'a> {
     }
 
     /// How many sets were asked for so far, including those that are asked for now.
+    #[tactic(auto, using(crate::proofs::WorkLemmas::candidates_end, crate::proofs::ItemLemmas::as_many_candidates))]
     pub fn counted(&self) -> u64
         ensures so_far { result ≡ length (candidates_up_to self.now.coding.baskets self.now.coding.minimum (self.now.size + 1)) }
         ensures all { asked_of self.now.coding self.now.size ≡ [] → result ≡ candidate_count (baskets_of self.now.coding) self.now.coding.minimum }
@@ -96,6 +100,7 @@ impl<'a> Levels<'a> {
     }
 
     /// The search that goes on with the supports of what is asked for, in order.
+    #[tactic(auto, using(crate::proofs::LevelsLemmas::asked_rise, crate::proofs::LevelsLemmas::asked_few))]
     pub fn answer<J: Joiner>(
         self,
         alloc: Global,
@@ -171,6 +176,7 @@ pub(crate) struct KnownLevels<'a> {
 
 impl<'a> KnownLevels<'a> {
     /// The search that goes on from there, from the frequent sets of the size.
+    #[tactic(auto, using(crate::proofs::LevelsLemmas::level_in_order, crate::proofs::LevelsLemmas::level_rises))]
     pub(crate) fn ask<J: Joiner>(
         self,
         alloc: Global,

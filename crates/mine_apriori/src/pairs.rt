@@ -20,6 +20,7 @@ pub struct Pair {
 }
 
 /// The pairs of each rank with lesser ones, in lexicographic order.
+#[tactic(auto, using(crate::proofs::PairLemmas::pairs_long))]
 pub fn sorted_pairs(
     alloc: Global,
     coded: &Coded,
@@ -45,6 +46,7 @@ pub fn sorted_pairs(
 }
 
 /// The pairs as sets, those of each lesser rank together, and their counts.
+#[tactic(auto, using(mine_supports::proofs::theory::Grouped::one_rises))]
 pub fn pair_sets(alloc: Global, pairs: &[Pair]) -> Result<(Extensions, Vec<u64>), AllocError>
     requires two { AreOfSize 2 (map (λ pair. pair.ranks) pairs.now) }
     requires in_order { IsInReportOrder (map (λ pair. pair.ranks) pairs.now) }

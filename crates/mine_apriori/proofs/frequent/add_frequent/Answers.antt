@@ -6,7 +6,6 @@ use Rattle.basket_ranks.specs.Codes.{decoded_set}
 use Rattle.basket_sets.specs.Frequent.{counted, is_frequent}
 use Rattle.basket_sets.specs.Itemset.{IsRising}
 use Rattle.basket_sets.specs.Support.{support_of}
-use Rattle.basket_sets.proofs.theory.Ranges.{filter_rises}
 use Rattle.mine_supports.specs.Extensions.{Group, extend, has_items, kept, sets_of}
 use Rattle.mine_apriori.specs.Levels.{decoded_sets}
 use Rattle.mine_supports.proofs.theory.Extensions.{items_read, no_group, prefix_read, range_at, range_long}
@@ -56,12 +55,6 @@ add_extensions-requires-clause-counts c =
     c.split_at.ensures.front ∙ ap (λ n. take n c.loop-number.rest.now) (ap length (list_is before))
     ∙ counts_first (groups before) (at before) no_group (below before) support c.loop-number.rest.now c.loop-number.invariant.rest
     ∙ ap (map support) (sym (λ i. extend (prefix_is before i) (list_is before i)))
-
-pub with_items-requires-clause-items : goal.with_items-requires-clause-items
-with_items-requires-clause-items c =
-    let coding = c.args.coded.now in
-    subst IsRising (sym (c.deref.ensures.value ∙ c.in_ok-frequent.ensures.items))
-    (filter_rises (λ item. is_frequent coding.baskets coding.minimum (c.index-prefixes-number.result ++ item ∷ [])) c.items-items.result.now (subst IsRising (sym c.items-items.ensures.items) c.items-items.ensures.rising))
 
 pub loop-number-preserved : goal.loop-number-preserved
 loop-number-preserved c =

@@ -5,8 +5,7 @@ use Rattle.basket_sets.proofs.theory.Ranges.{filter_rises}
 use Rattle.mine_supports.specs.Extensions.{has_items, sets_of}
 use Rattle.mine_apriori.specs.Join.{has_parts, joined_group}
 use Rattle.mine_apriori.proofs.JoinLemmas.{length_after}
-use Rattle.mine_apriori.proofs.IntersectionLemmas.{drop_rises}
-use Rattle.mine_apriori.proofs.JoinStepLemmas.{join_more}
+use Rattle.mine_apriori.proofs.JoinStepLemmas.{drop_rises, join_more}
 use Rattle.mine_apriori.proofs.join.join.Goals as goal
 use Rattle.mine_apriori.proofs.join.join.Goals.{After-room-1, After-deref-in-loop-place}
 

@@ -18,12 +18,6 @@ loop-pair-init c = record {
   counts = c.in_ok-counts.ensures.items;
 }
 
-pub with_items-requires-clause-prefix : goal.with_items-requires-clause-prefix
-with_items-requires-clause-prefix c = one_rises c.loop-pair.lesser
-
-pub with_items-requires-2-clause-prefix : goal.with_items-requires-2-clause-prefix
-with_items-requires-2-clause-prefix c = one_rises c.loop-pair.lesser
-
 -- the sets so far and one more
 more_sets : (sets : List (List ℕ)) (i : ℕ) (before ends : List (List ℕ)) (set : List ℕ) → i < length sets → set ≡ get_or sets i set → before ++ ends ≡ take i sets → (before ++ ends) ++ set ∷ [] ≡ take (i + 1) sets
 more_sets sets i before ends set here is are = (λ k. are k ++ is k ∷ []) ∙ sym (take_more sets i set here)

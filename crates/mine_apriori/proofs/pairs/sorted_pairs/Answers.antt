@@ -13,9 +13,6 @@ use Rattle.mine_apriori.proofs.PairLemmas.{pair_of, pair_with, pairs_here, pairs
 use Rattle.mine_apriori.proofs.pairs.sorted_pairs.Goals as goal
 use Rattle.mine_apriori.proofs.pairs.sorted_pairs.Goals.{After-sort_unstable_by}
 
-pub overflow_cast-ranks : goal.overflow_cast-ranks
-overflow_cast-ranks c = record { fits = omega (arith, c.loop-rank-test.true, pairs_long c.args.coded.now c.args.lists.now c.requires.pairs, c.requires.coding.few) }
-
 pub loop-rank-preserved : goal.loop-rank-preserved
 loop-rank-preserved c =
     let coding = c.args.coded.now in
