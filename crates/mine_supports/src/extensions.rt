@@ -71,6 +71,7 @@ impl Extensions {
     }
 
     /// The sets, and then those of one more prefix, which is left out if nothing extends it.
+    #[tactic(auto, using(crate::proofs::theory::Extensions::groups_append, crate::proofs::theory::Extensions::long_push, crate::proofs::theory::Extensions::rising_again))]
     pub fn with_items(
         self,
         alloc: Global,
@@ -123,6 +124,7 @@ impl Extensions {
     }
 
     /// The sets, and then others.
+    #[tactic(auto, using(crate::proofs::theory::Extensions::groups_append, crate::proofs::theory::Extensions::long_append))]
     fn followed_by(self, others: Extensions) -> Result<Self, AllocError>
         ensures { IfOk result (λ all. all ≡ self ++ others) }
     {
@@ -173,6 +175,7 @@ impl Extensions {
     }
 
     /// The prefixes.
+    #[tactic(auto, using(crate::proofs::theory::Extensions::prefixes_back))]
     pub fn prefixes(&self) -> &[Itemset]
         ensures { result.now ≡ prefixes_of self.now }
     {
@@ -180,6 +183,7 @@ impl Extensions {
     }
 
     /// For each prefix the items that extend it.
+    #[tactic(auto, using(crate::proofs::theory::Extensions::lists_back))]
     pub fn lists(&self) -> &[Itemset]
         ensures { result.now ≡ lists_of self.now }
     {
@@ -201,6 +205,7 @@ impl Extensions {
     }
 
     /// All prefixes.
+    #[tactic(auto, using(crate::proofs::theory::Extensions::groups_long))]
     pub fn range(&self) -> PrefixRange
         ensures { (result.start ≡ 0) × (result.end ≡ length self.now) }
     {
@@ -218,6 +223,7 @@ fn count_prefixes(parts: &[Extensions]) -> usize {
 }
 
 /// Whether an item can be added to rising ones.
+#[tactic(auto, using(crate::proofs::theory::Extensions::rises_after, crate::proofs::theory::Extensions::rises_alone, crate::proofs::theory::Extensions::last_below))]
 fn rises(items: &[u32], item: u32) -> bool
     requires { IsRising items.now }
     ensures { IsTrue result ↔ IsRising (items.now ++ item ∷ []) }
@@ -229,6 +235,7 @@ fn rises(items: &[u32], item: u32) -> bool
 }
 
 /// A number of items that a prefix has at least with any of the items that extend it.
+#[tactic(auto, using(crate::proofs::NeededLemmas::extended_at_least, crate::proofs::NeededLemmas::prefix_at_least))]
 fn least_of(prefix: &[u32], items: &[u32]) -> usize
     requires prefix { IsRising prefix.now }
     requires items { IsRising items.now }
