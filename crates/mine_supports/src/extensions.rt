@@ -46,8 +46,7 @@ impl Extensions {
         }
     }
 
-    /// The sets, except those without items. Sets that share their prefix and have rising last items are best given in a
-    /// row, as in report order.
+    /// The sets that have items. Sets with one prefix and rising last items are best in a row, as in report order.
     pub fn of_sets(alloc: Global, sets: &[Itemset]) -> Result<Self, AllocError>
         ensures sets { IfOk result (λ extensions. sets_of extensions ≡ filter is_some sets.now) }
         ensures rising { IfOk result (λ extensions. All IsRising (sets_of extensions)) }
