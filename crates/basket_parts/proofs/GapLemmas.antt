@@ -2,7 +2,8 @@
 use Rattle.std.proofs.Common.{◌≡◌, ℕ, ◌+◌, ◌-◌, ◌<◌, Bool, true, false, ◌||◌, ◌&&◌, List, [], ◌∷◌, ◌++◌, map, filter, cond, length, take, drop, get_or, ◌≤◌, Option, Some, None, refl, sym, ap, ◌∙◌, arith, suc, zero}
 use Rattle.std.specs.Option.{option_map}
 use Rattle.std.specs.List.{list_any, find}
-use Rattle.std.proofs.Math.Bool.{or_assoc, or_comm, or-false}
+use Rattle.std.proofs.Math.Bool.{or_comm, or-false}
+use Rattle.std.proofs.lemmas.List.Folds.{list_any-append}
 use Rattle.std.proofs.lemmas.Bool.{or_from, or_left, or_right}
 use Rattle.std.proofs.lemmas.List.{drop_more, at_drop_all}
 use Rattle.basket_read.specs.declared.counted_line.CountedLine.{CountedLine}
@@ -17,10 +18,6 @@ use Rattle.basket_parts.proofs.SameLemmas.{together_already}
 
 -- ---- whether one of some subsets passes a test
 
-any-append : (p : List ℕ → Bool) (a b : List (List ℕ)) → list_any p (a ++ b) ≡ (list_any p a || list_any p b)
-any-append p [] b = refl
-any-append p (set ∷ a) b = ap (λ t. p set || t) (any-append p a b) ∙ sym (or_assoc (p set) (list_any p a) (list_any p b))
-
 any-map : (p : List ℕ → Bool) (item : ℕ) (sets : List (List ℕ)) → list_any p (map (λ set. item ∷ set) sets) ≡ list_any (λ set. p (item ∷ set)) sets
 any-map p item [] = refl
 any-map p item (set ∷ sets) = ap (λ t. p (item ∷ set) || t) (any-map p item sets)
@@ -29,9 +26,7 @@ too_large : (size : ℕ) (set : List ℕ) → length set < size → subsets_of_s
 too_large zero set h = absurd (omega arith)
 too_large (suc size) [] h = refl
 too_large (suc size) (item ∷ set) h =
-    let fewer : length set < size = omega arith in
-    let more : length set < suc size = omega arith in
-    λ k. map (λ s. item ∷ s) (too_large size set fewer k) ++ too_large (suc size) set more k
+    λ k. map (λ s. item ∷ s) (too_large size set (omega arith) k) ++ too_large (suc size) set (omega arith) k
 
 whole : (set : List ℕ) → subsets_of_size (length set) set ≡ set ∷ []
 whole [] = refl
@@ -46,7 +41,7 @@ any_below : (p : List ℕ → Bool) (item : ℕ) (set : List ℕ) → list_any p
 any_below p item [] = refl
 any_below p item (next ∷ set) =
     let with = λ (s : List ℕ). item ∷ s in
-    any-append p (map with (subsets_of_size (length set) (next ∷ set))) (subsets_of_size (suc (length set)) (next ∷ set))
+    list_any-append p (map with (subsets_of_size (length set) (next ∷ set))) (subsets_of_size (suc (length set)) (next ∷ set))
     ∙ ap (λ l. list_any p (map with (subsets_of_size (length set) (next ∷ set))) || list_any p l) (whole (next ∷ set))
     ∙ ap (λ b. list_any p (map with (subsets_of_size (length set) (next ∷ set))) || b) (or-false (p (next ∷ set)))
     ∙ ap (λ b. b || p (next ∷ set))
@@ -93,19 +88,11 @@ gap_found lines count set place below h =
 
 find-map : {X Y : Type 0} (f : X → Y) (p : Y → Bool) (xs : List X) → find p (map f xs) ≡ option_map f (find (λ x. p (f x)) xs)
 find-map f p [] = refl
-find-map f p (x ∷ xs) = at (p (f x)) (find-map f p xs)
-  where
-    at : (b : Bool) → find p (map f xs) ≡ option_map f (find (λ y. p (f y)) xs) → cond b (Some (f x)) (find p (map f xs)) ≡ option_map f (cond b (Some x) (find (λ y. p (f y)) xs))
-    at true e = refl
-    at false e = e
+find-map f p (x ∷ xs) = let rest = find-map f p xs in grind arith
 
 find-filter : {X : Type 0} (p q : X → Bool) (xs : List X) → find q (filter p xs) ≡ find (λ x. p x && q x) xs
 find-filter p q [] = refl
-find-filter p q (x ∷ xs) = at (p x) (find-filter p q xs)
-  where
-    at : (b : Bool) → find q (filter p xs) ≡ find (λ y. p y && q y) xs → find q (cond b (x ∷ filter p xs) (filter p xs)) ≡ cond (b && q x) (Some x) (find (λ y. p y && q y) xs)
-    at true e = ap (λ r. cond (q x) (Some x) r) e
-    at false e = e
+find-filter p q (x ∷ xs) = let rest = find-filter p q xs in grind arith
 
 map_found : {X Y Z : Type 0} (f : X → Y) (g : Y → Z) (found : Option X) → option_map g (option_map f found) ≡ option_map (λ x. g (f x)) found
 map_found f g None = refl

@@ -1,6 +1,8 @@
 -- What putting together keeps.
-use Rattle.std.proofs.Common.{◌≡◌, ℕ, ◌+◌, Bool, true, false, ◌||◌, ◌&&◌, not, List, [], ◌∷◌, ◌++◌, map, filter, length, eqb, cond, refl, sym, ap, ◌∙◌, subst, inl, inr}
-use Rattle.std.proofs.Math.Bool.{or_assoc}
+use Rattle.std.proofs.Common.{◌≡◌, ℕ, ◌+◌, ◌||◌, ◌&&◌, not, List, [], ◌∷◌, ◌++◌, map, filter, length, eqb, cond, refl, sym, ap, ◌∙◌, subst, inl, inr, arith}
+use Rattle.std.proofs.lemmas.List.{map-id}
+use Rattle.std.proofs.lemmas.List.Folds.{list_any-append}
+use Rattle.std.proofs.lemmas.Simd.{map-map}
 use Rattle.std.proofs.lemmas.Bool.{cases_Bool}
 use Rattle.std.proofs.lemmas.List.Sums.{sum_by-append}
 use Rattle.basket_read.specs.declared.counted_line.CountedLine.{CountedLine}
@@ -18,8 +20,7 @@ use Rattle.basket_parts.proofs.SameLemmas.{SaysSame, adds, no_count, no_line, st
 -- ---- the lines put together say the same of each set
 
 sets_of_together : (lines : List CountedLine) (sets : List (List ℕ)) → map set_of (map (line_for lines) sets) ≡ sets
-sets_of_together lines [] = refl
-sets_of_together lines (set ∷ sets) = ap (λ l. set ∷ l) (sets_of_together lines sets)
+sets_of_together lines sets = map-map set_of (line_for lines) sets ∙ map-id sets
 
 combined-in_order : (lines : List CountedLine) → IsInReportOrder (map set_of (combined lines))
 combined-in_order lines = subst IsInReportOrder (sym (sets_of_together lines (sets_of lines))) (sets-in_order lines)
@@ -43,22 +44,13 @@ says_together lines set = elim (cases_Bool (has_set lines set)) [
 
 -- ---- two lists of lines
 
-has-append : (a b : List CountedLine) (set : List ℕ) → has_set (a ++ b) set ≡ (has_set a set || has_set b set)
-has-append [] b set = refl
-has-append (line ∷ a) b set = ap (λ t. is_of set line || t) (has-append a b set) ∙ sym (or_assoc (is_of set line) (has_set a set) (has_set b set))
-
 line-append : (a b : List CountedLine) (set : List ℕ) → line_in (a ++ b) set ≡ cond (has_set a set) (line_in a set) (line_in b set)
 line-append [] b set = refl
-line-append (line ∷ a) b set = at (is_of set line) (line-append a b set)
-  where
-    at : (p : Bool) → line_in (a ++ b) set ≡ cond (has_set a set) (line_in a set) (line_in b set)
-        → cond p line.line (line_in (a ++ b) set) ≡ cond (p || has_set a set) (cond p line.line (line_in a set)) (line_in b set)
-    at true e = refl
-    at false e = e
+line-append (line ∷ a) b set = let rest = line-append a b set in grind arith
 
 says_append : (a b c d : List CountedLine) (set : List ℕ) → SaysSame a c set → SaysSame b d set → SaysSame (a ++ b) (c ++ d) set
 says_append a b c d set s t = record {
-  has = has-append a b set ∙ (λ k. s.has k || t.has k) ∙ sym (has-append c d set);
+  has = list_any-append (is_of set) a b ∙ (λ k. s.has k || t.has k) ∙ sym (list_any-append (is_of set) c d);
   count = sum_by-append (adds set) a b ∙ (λ k. s.count k + t.count k) ∙ sym (sum_by-append (adds set) c d);
   line = line-append a b set ∙ (λ k. cond (s.has k) (s.line k) (t.line k)) ∙ sym (line-append c d set);
 }

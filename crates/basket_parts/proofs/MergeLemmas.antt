@@ -1,44 +1,30 @@
 -- Lines in the order of their sets, made one for each set.
-use Rattle.std.proofs.Common.{◌≡◌, ℕ, ◌+◌, Bool, true, false, ◌||◌, List, [], ◌∷◌, map, cond, refl, sym, ap, ◌∙◌, subst, inl, inr, arith}
-use Rattle.std.specs.declared.cmp.Ordering.{Ordering}
-use Rattle.std.specs.declared.cmp.Ordering.TheVariants.{Less, Equal, Greater}
-use Rattle.std.specs.Ordering.{is_lt, is_eq, ordering_reverse}
+use Rattle.std.proofs.Common.{◌≡◌, ℕ, Bool, true, false, List, [], ◌∷◌, map, cond, refl, sym, ap, ◌∙◌, subst, inl, inr, arith}
+use Rattle.std.specs.declared.cmp.Ordering.TheVariants.{Less}
+use Rattle.std.specs.Ordering.{is_lt}
 use Rattle.std.specs.Prelude.{nat_eq}
 use Rattle.std.specs.Cmp.Lexicographic.{pointwise}
-use Rattle.std.proofs.lemmas.Bool.{false≢true, true≢false}
+use Rattle.std.proofs.lemmas.Bool.{cases_Bool}
 use Rattle.basket_read.specs.declared.counted_line.CountedLine.{CountedLine}
-use Rattle.basket_sets.specs.Order.{IsInReportOrder, report_order, report_order_total, report_order_ties}
+use Rattle.basket_sets.specs.Order.{IsInReportOrder, report_order, report_order_total}
 use Rattle.basket_sets.proofs.theory.Members.{Member, Member-from_map}
-use Rattle.basket_parts.specs.CombinedCounts.{is_of, has_set, count_in, line_in}
+use Rattle.basket_parts.specs.CombinedCounts.{is_of}
 use Rattle.basket_parts.specs.Merge.{with_more, merged_from, merged}
-use Rattle.basket_parts.proofs.theory.Sets.{set_of, less_or_same, same_items, nothing_in_order, cons_in_order, has_from_listed, listed_from_has}
-use Rattle.basket_parts.proofs.SameLemmas.{SaysSame, says_itself, says_on, says_more, adds, count_more}
+use Rattle.basket_parts.proofs.theory.Sets.{apart_back, set_of, less_or_same, same_items, nothing_in_order, cons_in_order, has_from_listed, listed_from_has}
+use Rattle.basket_parts.proofs.SameLemmas.{SaysSame, says_itself, says_on, says_more, count_more}
 
 -- ---- merging says the same of each set
 
 -- two lines that have one set, or one line for both
 pair_as_one : (kept line : CountedLine) (lines : List CountedLine) (set : List ℕ) → is_of kept.set line ≡ true → SaysSame (with_more kept line.count ∷ lines) (kept ∷ line ∷ lines) set
 pair_as_one kept line lines set one = record {
-  has = has (is_of set kept) (is_of set line) twice;
-  count = count_more (with_more kept line.count) lines set ∙ count (is_of set kept) (is_of set line) twice
-      ∙ sym (count_more kept (line ∷ lines) set ∙ ap (λ n. adds set kept + n) (count_more line lines set));
-  line = number (is_of set kept) (is_of set line) twice;
+  has = let same = twice in grind arith;
+  count = let same = twice in grind (arith, count_more);
+  line = let same = twice in grind arith;
 }
   where
     twice : is_of set line ≡ is_of set kept
     twice = ap (λ s. pointwise nat_eq s set) (same_items line.set kept.set one)
-
-    has : (p q : Bool) → q ≡ p → (p || has_set lines set) ≡ (p || (q || has_set lines set))
-    has true q e = refl
-    has false q e = sym (ap (λ b. b || has_set lines set) e)
-
-    count : (p q : Bool) → q ≡ p → cond p (kept.count + line.count) 0 + count_in lines set ≡ cond p kept.count 0 + (cond q line.count 0 + count_in lines set)
-    count true q e = omega arith ∙ sym (ap (λ b. kept.count + (cond b line.count 0 + count_in lines set)) e)
-    count false q e = omega arith ∙ sym (ap (λ b. 0 + (cond b line.count 0 + count_in lines set)) e)
-
-    number : (p q : Bool) → q ≡ p → cond p kept.line (line_in lines set) ≡ cond p kept.line (cond q line.line (line_in lines set))
-    number true q e = refl
-    number false q e = sym (ap (λ b. cond b line.line (line_in lines set)) e)
 
 merged_says : (kept : CountedLine) (lines : List CountedLine) (set : List ℕ) → SaysSame (merged_from kept lines) (kept ∷ lines) set
 merged_says kept [] set = says_itself (kept ∷ []) set
@@ -66,17 +52,13 @@ merged-in_order kept [] up = cons_in_order kept.set [] (λ other m. absurd m) no
 merged-in_order kept (line ∷ lines) up =
     at (is_of kept.set line) refl (merged-in_order (with_more kept line.count) lines (λ other m. up.0 other (inr m), up.1.1)) (merged-in_order line lines up.1)
   where
-    apart : (b : Bool) → is_of kept.set line ≡ false → pointwise nat_eq kept.set line.set ≡ b → b ≡ false
-    apart true e f = absurd (false≢true (sym e ∙ subst (λ s. pointwise nat_eq s kept.set ≡ true) (same_items kept.set line.set f) (subst (λ s. pointwise nat_eq kept.set s ≡ true) (sym (same_items kept.set line.set f)) f)))
-    apart false e f = refl
-
     at : (b : Bool) → is_of kept.set line ≡ b → IsInReportOrder (map set_of (merged_from (with_more kept line.count) lines)) → IsInReportOrder (map set_of (merged_from line lines))
         → IsInReportOrder (map set_of (cond b (merged_from (with_more kept line.count) lines) (kept ∷ merged_from line lines)))
     at true one joined alone = joined
     at false one joined alone = cons_in_order kept.set (map set_of (merged_from line lines)) below alone
       where
         less : report_order kept.set line.set ≡ Less
-        less = less_or_same kept.set line.set (up.0 line (inl refl)) (apart (pointwise nat_eq kept.set line.set) one refl)
+        less = less_or_same kept.set line.set (up.0 line (inl refl)) (apart_back line.set kept.set one)
 
         later : (set : List ℕ) → Member set (map set_of (line ∷ lines)) → report_order kept.set set ≡ Less
         later set (inl e) = subst (λ s. report_order kept.set s ≡ Less) e less
@@ -85,18 +67,14 @@ merged-in_order kept (line ∷ lines) up =
             subst (λ s. report_order kept.set s ≡ Less) p.2 (beyond p.0.set (up.1.0 p.0 p.1))
           where
             beyond : (set : List ℕ) → is_lt (report_order set line.set) ≡ false → report_order kept.set set ≡ Less
-            beyond set high = by (report_order line.set set) (report_order set line.set) refl (report_order_total.antisymm line.set set) high
-              where
-                by : (r s : Ordering) → report_order line.set set ≡ r → r ≡ ordering_reverse s → is_lt s ≡ false → report_order kept.set set ≡ Less
-                by Less s e flip h = report_order_total.trans kept.set line.set set less e
-                by Equal s e flip h = subst (λ x. report_order kept.set x ≡ Less) (same_items line.set set (report_order_ties line.set set ∙ ap is_eq e)) less
-                by Greater Less e flip h = absurd (true≢false h)
-                by Greater Equal e flip h = let no : Greater ≡ Equal = flip in cc
-                by Greater Greater e flip h = let no : Greater ≡ Less = flip in cc
+            beyond set high = elim (cases_Bool (pointwise nat_eq line.set set)) [
+              | inl e ↦ subst (λ x. report_order kept.set x ≡ Less) (same_items line.set set e) less
+              | inr e ↦ report_order_total.trans kept.set line.set set less (less_or_same line.set set high e)
+            ]
 
         below : (set : List ℕ) → Member set (map set_of (merged_from line lines)) → report_order kept.set set ≡ Less
         below set m = later set (listed_from_has (line ∷ lines) set (sym (merged_says line lines set).has ∙ has_from_listed (merged_from line lines) set m))
 
-pub merging-in_order : (lines : List CountedLine) → Ascends lines → IsInReportOrder (map set_of (merged lines))
-merging-in_order [] up = nothing_in_order
-merging-in_order (line ∷ lines) up = merged-in_order line lines up
+pub merging_in_order : (lines : List CountedLine) → Ascends lines → IsInReportOrder (map set_of (merged lines))
+merging_in_order [] up = nothing_in_order
+merging_in_order (line ∷ lines) up = merged-in_order line lines up

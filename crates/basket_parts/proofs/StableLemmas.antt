@@ -1,52 +1,37 @@
 -- Lines after a sort by their sets that keeps the order of those that have one set.
-use Rattle.std.proofs.Common.{◌≡◌, ℕ, ◌+◌, ◌<◌, Bool, true, false, ◌||◌, ◌&&◌, not, List, [], ◌∷◌, ◌++◌, filter, cond, refl, sym, ap, ◌∙◌, subst, arith, get_or, suc, zero-add, append_assoc, Ok, Err}
+use Rattle.std.proofs.Common.{◌≡◌, ℕ, ◌+◌, ◌<◌, Bool, true, false, ◌&&◌, not, List, [], ◌∷◌, ◌++◌, map, filter, cond, refl, sym, ap, ◌∙◌, subst, arith, get_or, suc, append_assoc, Ok, Err}
 use Rattle.std.specs.declared.cmp.Ordering.{Ordering}
 use Rattle.std.specs.declared.cmp.Ordering.TheVariants.{Less, Equal, Greater}
 use Rattle.std.specs.Ordering.{is_lt, is_eq, ordering_reverse}
-use Rattle.std.specs.List.{All, list_any, AllByRecursion}
+use Rattle.std.specs.List.{All, list_any}
 use Rattle.std.specs.List.Sorted.{IsSortedByKey, IsStableByKey, ties}
-use Rattle.std.proofs.lemmas.Bool.{or_left, or_right, or_from, ltb-true, lt-ltb, false_from_ne_true}
-use Rattle.std.proofs.lemmas.List.Elements.{recursion_from_All}
+use Rattle.std.proofs.lemmas.Bool.{or_left, or_right, ltb-true, lt-ltb, false_from_ne_true}
+use Rattle.std.proofs.lemmas.List.Folds.{list_any-append, list_any_none}
+use Rattle.std.proofs.lemmas.Map.Views.{any-filter_same}
 use Rattle.std.proofs.lemmas.List.Sorted.{ranks_by, sorted_far}
 use Rattle.basket_read.specs.declared.counted_line.CountedLine.{CountedLine}
 use Rattle.basket_read.specs.declared.fault.ReadFault.TheVariants.{Heavy}
 use Rattle.basket_sets.specs.Database.{MOST_WEIGHT}
-use Rattle.basket_sets.specs.Order.{report_order, report_order_total, report_order_ties}
+use Rattle.basket_sets.specs.Order.{IsInReportOrder, report_order, report_order_total, report_order_ties}
 use Rattle.basket_sets.proofs.theory.Members.{Member, Contains-from_Member}
 use Rattle.basket_parts.specs.CombinedCounts.{is_of, has_set, count_in, line_in, combined, combined_of, is_heavy}
 use Rattle.basket_parts.specs.Merge.{IsLight, with_more, merged_from, merged}
 use Rattle.basket_parts.proofs.theory.Sets.{set_of}
-use Rattle.basket_parts.proofs.SameLemmas.{SaysSame, says_on, adds, count_more, same_together, together_already}
-use Rattle.basket_parts.proofs.MergeLemmas.{Ascends, merging_says, merging-in_order}
+use Rattle.basket_parts.proofs.SameLemmas.{SaysSame, says_on, count_more, same_together, together_already}
+use Rattle.basket_parts.proofs.MergeLemmas.{Ascends, merging_says, merging_in_order}
 
 -- ---- what the lines of one set say
 
 has_kept : (lines : List CountedLine) (set : List ℕ) → has_set (filter (is_of set) lines) set ≡ has_set lines set
-has_kept [] set = refl
-has_kept (line ∷ lines) set = at (is_of set line) refl (has_kept lines set)
-  where
-    at : (b : Bool) → is_of set line ≡ b → has_set (filter (is_of set) lines) set ≡ has_set lines set
-        → has_set (cond b (line ∷ filter (is_of set) lines) (filter (is_of set) lines)) set ≡ (is_of set line || has_set lines set)
-    at true e same = ap (λ h. is_of set line || h) same
-    at false e same = same ∙ sym (ap (λ h. h || has_set lines set) e)
+has_kept lines set = any-filter_same (is_of set) (is_of set) true (λ line e. e) lines
 
 count_kept : (lines : List CountedLine) (set : List ℕ) → count_in (filter (is_of set) lines) set ≡ count_in lines set
 count_kept [] set = refl
-count_kept (line ∷ lines) set = at (is_of set line) refl (count_kept lines set) ∙ sym (count_more line lines set)
-  where
-    at : (b : Bool) → is_of set line ≡ b → count_in (filter (is_of set) lines) set ≡ count_in lines set
-        → count_in (cond b (line ∷ filter (is_of set) lines) (filter (is_of set) lines)) set ≡ adds set line + count_in lines set
-    at true e same = count_more line (filter (is_of set) lines) set ∙ ap (λ n. adds set line + n) same
-    at false e same = same ∙ sym (ap (λ b. cond b line.count 0 + count_in lines set) e ∙ zero-add (count_in lines set))
+count_kept (line ∷ lines) set = let rest = count_kept lines set in grind (arith, count_more)
 
 line_kept : (lines : List CountedLine) (set : List ℕ) → line_in (filter (is_of set) lines) set ≡ line_in lines set
 line_kept [] set = refl
-line_kept (line ∷ lines) set = at (is_of set line) refl (line_kept lines set)
-  where
-    at : (b : Bool) → is_of set line ≡ b → line_in (filter (is_of set) lines) set ≡ line_in lines set
-        → line_in (cond b (line ∷ filter (is_of set) lines) (filter (is_of set) lines)) set ≡ cond (is_of set line) line.line (line_in lines set)
-    at true e same = ap (λ n. cond (is_of set line) line.line n) same
-    at false e same = same ∙ sym (ap (λ b. cond b line.line (line_in lines set)) e)
+line_kept (line ∷ lines) set = let rest = line_kept lines set in grind arith
 
 abbrev before : CountedLine → CountedLine → Bool
 before a b = is_lt (report_order a.set b.set)
@@ -90,26 +75,23 @@ ascends (line ∷ lines) up = (first, ascends lines (rest_sorted line lines up))
         subst (λ o. before o line ≡ false) at.2
         (sorted_far before (ranks_by report_order_total set_of) (line ∷ lines) up 0 (suc at.0) other (omega arith) (let b = at.1 in omega arith))
 
+pub merged_in_order : (sorted : List CountedLine) → IsSortedByKey set_of report_order sorted → IsInReportOrder (map set_of (merged sorted))
+merged_in_order sorted up = merging_in_order sorted (ascends sorted up)
+
 -- a sort and a merge put the lines together
 pub merged_is_together : (lines sorted : List CountedLine) → IsSortedByKey set_of report_order sorted → IsStableByKey set_of report_order lines sorted → merged sorted ≡ combined lines
 merged_is_together lines sorted up stable =
-    sym (together_already (merged sorted) (merging-in_order sorted (ascends sorted up)))
+    sym (together_already (merged sorted) (merged_in_order sorted up))
     ∙ same_together (merged sorted) lines (λ set. says_on (merged sorted) sorted lines set (merging_says sorted set) (sorting_says lines sorted stable set))
 
 -- ---- counts above what a set may have
 
 pub heavy_first : (kept : CountedLine) (lines : List CountedLine) → MOST_WEIGHT < kept.count → list_any is_heavy (merged_from kept lines) ≡ true
 heavy_first kept [] heavy = or_left (is_heavy kept) false (lt-ltb MOST_WEIGHT kept.count heavy)
-heavy_first kept (line ∷ lines) heavy = at (is_of kept.set line) (heavy_first (with_more kept line.count) lines (omega arith))
-  where
-    at : (b : Bool) → list_any is_heavy (merged_from (with_more kept line.count) lines) ≡ true
-        → list_any is_heavy (cond b (merged_from (with_more kept line.count) lines) (kept ∷ merged_from line lines)) ≡ true
-    at true h = h
-    at false h = or_left (is_heavy kept) (list_any is_heavy (merged_from line lines)) (lt-ltb MOST_WEIGHT kept.count heavy)
+heavy_first kept (line ∷ lines) heavy = let joined = heavy_first (with_more kept line.count) lines (omega arith) in let alone = lt-ltb MOST_WEIGHT kept.count heavy in grind arith
 
 pub heavy_after : (front back : List CountedLine) → list_any is_heavy back ≡ true → list_any is_heavy (front ++ back) ≡ true
-heavy_after [] back h = h
-heavy_after (line ∷ front) back h = or_right (is_heavy line) (list_any is_heavy (front ++ back)) (heavy_after front back h)
+heavy_after front back h = list_any-append is_heavy front back ∙ or_right (list_any is_heavy front) (list_any is_heavy back) h
 
 -- a line that is added to the one that is kept makes it heavy
 pub heavy_sum : (kept line : CountedLine) (lines : List CountedLine) → is_of kept.set line ≡ true → MOST_WEIGHT < kept.count + line.count → list_any is_heavy (merged_from kept (line ∷ lines)) ≡ true
@@ -119,20 +101,11 @@ heavy_sum kept line lines one heavy =
 
 -- a line that is heavy itself
 pub heavy_line : (kept line : CountedLine) (lines : List CountedLine) → MOST_WEIGHT < line.count → list_any is_heavy (merged_from kept (line ∷ lines)) ≡ true
-heavy_line kept line lines heavy = at (is_of kept.set line) (heavy_first (with_more kept line.count) lines (omega arith)) (heavy_first line lines heavy)
-  where
-    at : (b : Bool) → list_any is_heavy (merged_from (with_more kept line.count) lines) ≡ true → list_any is_heavy (merged_from line lines) ≡ true
-        → list_any is_heavy (cond b (merged_from (with_more kept line.count) lines) (kept ∷ merged_from line lines)) ≡ true
-    at true h k = h
-    at false h k = or_right (is_heavy kept) (list_any is_heavy (merged_from line lines)) k
-
-light_lines : (lines : List CountedLine) → AllByRecursion IsLight lines → list_any is_heavy lines ≡ false
-light_lines [] light = refl
-light_lines (line ∷ lines) light =
-    or_from (is_heavy line) (list_any is_heavy lines) (false_from_ne_true (is_heavy line) (λ h. let b = ltb-true MOST_WEIGHT line.count h in let l = light.0 in omega arith)) (light_lines lines light.1)
+heavy_line kept line lines heavy = let joined = heavy_first (with_more kept line.count) lines (omega arith) in let alone = heavy_first line lines heavy in grind arith
 
 pub none_heavy : (lines : List CountedLine) → All IsLight lines → list_any is_heavy lines ≡ false
-none_heavy lines light = light_lines lines (recursion_from_All IsLight lines light)
+none_heavy lines light =
+    list_any_none is_heavy lines (λ k d below. false_from_ne_true (is_heavy (get_or lines k d)) (λ h. let b = ltb-true MOST_WEIGHT (get_or lines k d).count h in let l = light k d below in omega arith))
 
 -- the line that is kept goes to the list, and another is kept
 pub apart_more : (list now : List CountedLine) (kept next line : CountedLine) (lines rest whole : List CountedLine) → is_of kept.set line ≡ false → lines ≡ line ∷ rest

@@ -32,6 +32,7 @@ impl Model for CombinedCounts {
 impl CombinedCounts {
     /// Puts the lines together: the counts of one set are added up. They are refused if they add up
     /// to too much.
+    #[tactic(auto, using(crate::proofs::StableLemmas::merged_is_together, crate::proofs::StableLemmas::merged_in_order, crate::proofs::StableLemmas::answers_lines, crate::proofs::StableLemmas::answers_heavy))]
     pub fn of(alloc: Global, mut lines: Vec<CountedLine>) -> Result<Self, ReadFault>
         ensures { Returns result (combined_of lines.items) }
     {
@@ -58,6 +59,7 @@ impl CombinedCounts {
     }
 
     /// The count of the empty set, or 0 if it isn't there.
+    #[tactic(auto, using(crate::proofs::SameLemmas::total_or_none))]
     pub(crate) fn weight(&self) -> u64
         ensures { result ≡ total_in self.now }
     {

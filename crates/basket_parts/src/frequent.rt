@@ -11,6 +11,7 @@ use std::alloc::{AllocError, Global};
 impl CombinedCounts {
     /// The nonempty sets that meet the minimum. The weight of all baskets is the count of the empty
     /// set, or 0 if that isn't there.
+    #[tactic(auto, using(crate::proofs::FrequentLemmas::frequent_lines))]
     pub fn frequent(&self, alloc: Global, minimum: Minimum) -> Result<Frequent, AllocError>
         ensures frequent { IfOk result (λ frequent. frequent ≡ record { sets = frequent_in self.now minimum; total = total_in self.now }) }
         ensures rising { All HasRisingSet self.now }

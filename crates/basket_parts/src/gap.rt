@@ -11,6 +11,7 @@ use std::alloc::{AllocError, Global};
 impl CombinedCounts {
     /// The first frequent set with a subset of one item less that is there with a lower count, or
     /// that is not empty and isn't there.
+    #[tactic(auto, using(crate::proofs::GapLemmas::found_at, crate::proofs::GapLemmas::first_gap_line))]
     pub fn first_gap(
         &self,
         alloc: Global,
@@ -30,6 +31,7 @@ impl CombinedCounts {
 
     /// Whether some subset of the line's set with one item less shows a gap. The list is scratch
     /// space.
+    #[tactic(auto, using(crate::proofs::GapLemmas::gap_found, crate::proofs::GapLemmas::no_gap))]
     fn has_gap(&self, line: &CountedLine, subset: &mut Vec<u32>) -> Result<bool, AllocError>
         requires { 0 < length line.now.set }
         ensures { IfOk result (λ gap. gap ≡ has_gap_below self.now line.now.count line.now.set) }

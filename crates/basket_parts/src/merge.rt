@@ -20,6 +20,7 @@ pub fn sort_by_set(lines: &mut Vec<CountedLine>) -> Result<(), AllocError>
 }
 
 /// Merges neighbouring lines that have one set: the first stays, with the sum of their counts.
+#[tactic(auto, using(crate::proofs::StableLemmas::heavy_first, crate::proofs::StableLemmas::heavy_after, crate::proofs::StableLemmas::heavy_sum, crate::proofs::StableLemmas::heavy_line))]
 pub fn merged(alloc: Global, lines: Vec<CountedLine>) -> Result<Vec<CountedLine>, ReadFault>
     ensures ok { IfOk result (λ list. list.items ≡ merged lines.items) }
     ensures light { IfOk result (λ list. All IsLight list.items) }

@@ -1,13 +1,13 @@
 -- Supports over the parts of a list of baskets: those that a seat has added are bounded by the support in the baskets before the next part, and all together are the supports in the baskets.
-use Rattle.std.proofs.Common.{◌≡◌, ℕ, zero, suc, ◌+◌, ◌-◌, ◌^◌, ◌<◌, ◌≤◌, List, [], ◌∷◌, ◌++◌, map, take, length, get_or, replicate, Ok, refl, ap, sym, ◌∙◌, subst, arith, add-zero}
+use Rattle.std.proofs.Common.{◌≡◌, ℕ, zero, suc, ◌+◌, ◌^◌, ◌<◌, ◌≤◌, List, [], ◌∷◌, ◌++◌, map, take, length, get_or, replicate, Ok, refl, ap, sym, ◌∙◌, subst, arith}
 use Rattle.std.specs.Prelude.{All, Any, IsPermutation, slice_index}
 use Rattle.std.specs.List.{range_with_len, sum_by}
-use Rattle.std.proofs.lemmas.List.{get_or-map, length-map, length-replicate}
+use Rattle.std.proofs.lemmas.List.{ext_get_or, get_or-map, length-map, length-replicate, take-take}
 use Rattle.std.proofs.lemmas.List.Elements.{All-head}
 use Rattle.std.proofs.lemmas.List.Folds.{flat_map-map}
 use Rattle.std.proofs.lemmas.List.Sorted.{sum_by-IsPermutation}
 use Rattle.std.proofs.lemmas.List.Sums.{sum_by-take-le, sum_by_push}
-use Rattle.basket_ranks.proofs.theory.Shards.{shard_more, shards_are_all}
+use Rattle.basket_ranks.proofs.theory.Shards.{shard_more, shard_start-le, shards_are_all}
 use Rattle.basket_ranks.specs.Shards.{shard_of, shard_start}
 use Rattle.basket_sets.proofs.theory.Support.{support-append, support_falls, supports_add_up}
 use Rattle.basket_sets.specs.declared.weighted.Weighted.{Weighted}
@@ -29,15 +29,11 @@ module _ (baskets : List Weighted) (pieces : ℕ) (set : List ℕ) where
   front_more some i =
       ap (λ l. support_of l set) (shard_more i pieces baskets some) ∙ support-append (take (shard_start i pieces (length baskets)) baskets) (shard_of i pieces baskets) set
 
-  front_rises : 1 ≤ pieces → (i more : ℕ) → front i ≤ front (i + more)
-  front_rises some i zero = let e : front (i + zero) ≡ front i = ap front (add-zero i) in omega arith
-  front_rises some i (suc more) =
-      let rest = front_rises some i more in
-      let step = front_more some (i + more) in
-      let e : front (i + suc more) ≡ front ((i + more) + 1) = ap front (let n : i + suc more ≡ (i + more) + 1 = omega arith in n) in omega arith
-
   front-le : 1 ≤ pieces → (i j : ℕ) → i ≤ j → front i ≤ front j
-  front-le some i j le = let r = front_rises some i (j - i) in let e : front (i + (j - i)) ≡ front j = ap front (let n : i + (j - i) ≡ j = omega arith in n) in omega arith
+  front-le some i j le =
+      let low : ℕ = shard_start i pieces (length baskets) in let high : ℕ = shard_start j pieces (length baskets) in
+      let part = sum_by-take-le (weight_at set) (take high baskets) low in
+      omega (arith, part, ap (sum_by (weight_at set)) (take-take low high baskets (shard_start-le i j pieces (length baskets) some le)))
 
   front_is_light : (i : ℕ) → total_of baskets ≤ MOST_WEIGHT → front i ≤ MOST_WEIGHT
   front_is_light i light =
@@ -128,20 +124,12 @@ seats_added baskets pieces sets k within seats all =
     let high = sums_at_most (λ s. sum_by size s.held.claimed) (λ s. slice_index s.held.added k) seats (λ i d below. let one = (all i d below).added k within in omega (arith, one)) in
     omega (arith, low, high, sum_by-flat_map size (λ (s : SeatView). s.held.claimed) seats)
 
-same_at : (xs ys : List ℕ) → length xs ≡ length ys → ((k : ℕ) → k < length xs → slice_index xs k ≡ slice_index ys k) → xs ≡ ys
-same_at [] [] long each = refl
-same_at [] (y ∷ ys) long each = absurd (omega arith)
-same_at (x ∷ xs) [] long each = absurd (omega arith)
-same_at (x ∷ xs) (y ∷ ys) long each =
-    let first = each 0 (omega arith) in
-    let rest = same_at xs ys (omega arith) (λ k within. each (suc k) (omega arith)) in λ i. first i ∷ rest i
-
 -- the totals of the counters are the supports in all baskets
 totals_are_supports : (baskets : List Weighted) (pieces : ℕ) (sets : List (List ℕ)) (seats : List SeatView) (totals : List ℕ) → 1 ≤ pieces → length totals ≡ length sets
     → All (AddsSupports baskets pieces sets) seats → IsPermutation (claimed_by seats) (range_with_len 0 pieces)
     → ((k : ℕ) → k < length totals → slice_index totals k ≡ added_by seats k) → totals ≡ map (support_of baskets) sets
 totals_are_supports baskets pieces sets seats totals some long all claimed each =
-    same_at totals (map (support_of baskets) sets) (long ∙ sym (length-map sets (support_of baskets)))
+    ext_get_or 0 totals (map (support_of baskets) sets) (long ∙ sym (length-map sets (support_of baskets)))
     (λ k within.
     let short : k < length sets = omega arith in
     each k within ∙ seats_added baskets pieces sets k short seats all

@@ -1,20 +1,19 @@
 -- Counts with the supports of sets in one block after another added.
-use Rattle.std.proofs.Common.{◌≡◌, ◌≢◌, ℕ, ◌+◌, ◌-◌, ◌<◌, ◌≤◌, List, [], ◌∷◌, ◌++◌, length, take, drop, get_or, refl, sym, ap, ◌∙◌, subst, inl, inr, arith}
+use Rattle.std.proofs.Common.{◌≡◌, ℕ, ◌+◌, ◌-◌, ◌<◌, ◌≤◌, List, [], ◌∷◌, ◌++◌, length, take, drop, get_or, refl, sym, ap, ◌∙◌, subst, inl, inr, arith, map, zero-add}
+use Rattle.std.specs.Prelude.{replicate}
 use Rattle.std.proofs.Math.ListN.{set}
-use Rattle.std.proofs.lemmas.Bool.{cases_eq, cases_lt}
-use Rattle.std.proofs.lemmas.List.{get_or-set_other, get_or-set_same, length-append, length-map, take_more}
-use Rattle.std.proofs.lemmas.List.Concat.{get_or-flat_map}
+use Rattle.std.proofs.lemmas.Bool.{cases_lt}
+use Rattle.std.proofs.lemmas.List.{ext_get_or, get_or-map, get_or-replicate, get_or-set_other, get_or-set_same, get_or_append_left, length-append, length-map, length-replicate}
 use Rattle.std.proofs.lemmas.List.Folds.{length-flat_map-take}
 use Rattle.std.proofs.lemmas.List.Sums.{sum_by-take-le}
-use Rattle.std.proofs.Math.Seq.{take-add}
+use Rattle.std.proofs.Math.Seq.{get_or-append_right, take-add}
 use Rattle.basket_sets.specs.declared.weighted.Weighted.{Weighted}
 use Rattle.basket_sets.specs.Database.{MOST_WEIGHT}
 use Rattle.basket_sets.specs.Support.{support_of, total_of, weight_at}
 use Rattle.basket_sets.proofs.theory.Support.{support-append, support_falls}
-use Rattle.mine_supports.specs.Counter.{WithSupports}
-use Rattle.mine_supports.specs.Counter.{AreAdded}
+use Rattle.mine_supports.specs.Counter.{AreAdded, WithSupports}
 use Rattle.mine_supports.specs.Extensions.{Group, extend, sets_of}
-use Rattle.mine_supports.proofs.theory.Extensions.{sets_push}
+use Rattle.mine_supports.proofs.theory.Frequent.{sets_next}
 
 module _ (sets : List (List ℕ)) (baskets part : List Weighted) (start size : ℕ) (is : part ≡ take size (drop start baskets)) (old counts : List ℕ) (long : length counts ≡ length old)
     (before : WithSupports sets (take start baskets) old counts) where
@@ -38,10 +37,43 @@ module _ (sets : List (List ℕ)) (baskets part : List Weighted) (start size : �
       let most = light k (omega arith) in
       omega arith
 
--- ---- the sets of a prefix more
+-- ---- sets whose supports are added
 
-abbrev pub extended : Group → List (List ℕ)
-extended group = extend group.prefix group.items
+pub none_yet : (baskets : List Weighted) (start : ℕ) (counts : List ℕ) → AreAdded [] baskets start counts counts
+none_yet baskets start counts = record { added = λ k inside. absurd (omega (arith, inside)); before = λ k below. refl; after = λ k from. refl }
+
+pub one_added : (baskets : List Weighted) (items : List ℕ) (at support : ℕ) (counts : List ℕ) → at < length counts → support ≡ support_of baskets items
+    → AreAdded (items ∷ []) baskets at counts (set counts at (get_or counts at 0 + support))
+one_added baskets items at support counts within is = record {
+  added = λ k inside.
+      let here : at + k ≡ at = omega (arith, inside) in let first : k ≡ 0 = omega (arith, inside) in
+      rw (here, first) (get_or-set_same counts at (get_or counts at 0 + support) 0 within ∙ ap (λ n. get_or counts at 0 + n) is);
+  before = λ k below. get_or-set_other counts at k (get_or counts at 0 + support) 0 (λ e. absurd (omega (arith, e, below)));
+  after = λ k from. get_or-set_other counts at k (get_or counts at 0 + support) 0 (λ e. absurd (omega (arith, e, from)));
+}
+
+pub more_added : (sets more : List (List ℕ)) (baskets : List Weighted) (start : ℕ) (old counts new : List ℕ) → AreAdded sets baskets start old counts → AreAdded more baskets (start + length sets) counts new
+    → AreAdded (sets ++ more) baskets start old new
+more_added sets more baskets start old counts new first next = record {
+  added = λ k inside. elim (cases_lt k (length sets)) [
+    | inl low ↦ next.before (start + k) (omega arith) ∙ first.added k low ∙ ap (λ s. get_or old (start + k) 0 + support_of baskets s) (sym (get_or_append_left sets more [] k low))
+    | inr high ↦
+        (let j : ℕ = k - length sets in
+        let at : start + length sets + j ≡ start + k = omega arith in
+        let here = next.added j (omega (arith, inside, length-append sets more)) in
+        let same = first.after (start + k) (omega arith) in
+        (λ i. get_or new (sym at i) 0) ∙ here ∙ (λ i. get_or counts (at i) 0 + support_of baskets (sym (get_or-append_right sets more k [] high) i))
+        ∙ ap (λ n. n + support_of baskets (get_or (sets ++ more) k [])) same)
+  ];
+  before = λ k below. next.before k (omega arith) ∙ first.before k below;
+  after = λ k from. next.after k (omega (arith, from, length-append sets more)) ∙ first.after k (omega (arith, from, length-append sets more));
+}
+
+pub all_added : (sets : List (List ℕ)) (baskets : List Weighted) (old new : List ℕ) → AreAdded sets baskets 0 old new → WithSupports sets baskets old new
+all_added sets baskets old new are k inside within =
+    let e : 0 + k ≡ k = omega arith in subst (λ n. get_or new n 0 ≡ get_or old n 0 + support_of baskets (get_or sets k [])) e (are.added k inside)
+
+-- ---- the sets of a prefix more
 
 module _ (groups : List Group) (number start : ℕ) (d : Group) (below : number < length groups) (starts : start ≡ length (sets_of (take number groups))) where
   abbrev group : Group
@@ -49,58 +81,34 @@ module _ (groups : List Group) (number start : ℕ) (d : Group) (below : number 
 
   pub next_start : start + length group.items ≡ length (sets_of (take (number + 1) groups))
   next_start =
-      let all = ap (λ l. length (sets_of l)) (take_more groups number d below)
-      ∙ ap length (sets_push (take number groups) group.prefix group.items) ∙ length-append (sets_of (take number groups)) (extended group) in
+      let all = ap length (sets_next groups number d below) ∙ length-append (sets_of (take number groups)) (extend group.prefix group.items) in
       let more = length-map group.items (λ item. group.prefix ++ item ∷ []) in
       omega (arith, all, more, starts)
 
   pub next_within : start + length group.items ≤ length (sets_of groups)
   next_within =
-      let all = length-flat_map-take extended groups number d below in
+      let all = length-flat_map-take (λ (g : Group). extend g.prefix g.items) groups number d below in
       let more = length-map group.items (λ item. group.prefix ++ item ∷ []) in
       omega (arith, all, more, starts)
 
-  set_at : (k : ℕ) → k < length group.items → get_or (sets_of groups) (start + k) [] ≡ get_or (extended group) k []
-  set_at k less =
-      ap (λ n. get_or (sets_of groups) (n + k) []) starts
-      ∙ get_or-flat_map extended groups number k d [] below (let more = length-map group.items (λ item. group.prefix ++ item ∷ []) in omega (arith, more, less))
-
-  module _ (baskets : List Weighted) (initial counts new : List ℕ) (now : AreAdded (extended group) baskets start counts new)
-      (rest : (k : ℕ) → start ≤ k → get_or counts k 0 ≡ get_or initial k 0) where
-    pub rest_more : (k : ℕ) → start + length group.items ≤ k → get_or new k 0 ≡ get_or initial k 0
-    rest_more k from = now.after k (let more = length-map group.items (λ item. group.prefix ++ item ∷ []) in omega (arith, more, from)) ∙ rest k (omega arith)
-
-    pub added_more : ((k : ℕ) → k < start → get_or counts k 0 ≡ get_or initial k 0 + support_of baskets (get_or (sets_of groups) k []))
-        → (k : ℕ) → k < start + length group.items → get_or new k 0 ≡ get_or initial k 0 + support_of baskets (get_or (sets_of groups) k [])
-    added_more added k less = elim (cases_lt k start) [
-      | inl before ↦ now.before k before ∙ added k before
-      | inr from ↦ (let e : start + (k - start) ≡ k = omega arith in
-          subst (λ n. get_or new n 0 ≡ get_or initial n 0 + support_of baskets (get_or (sets_of groups) n [])) e (here (k - start) (omega arith)))
-    ]
-      where
-        here : (n : ℕ) → n < length group.items → get_or new (start + n) 0 ≡ get_or initial (start + n) 0 + support_of baskets (get_or (sets_of groups) (start + n) [])
-        here n below' =
-            now.added n (let more = length-map group.items (λ item. group.prefix ++ item ∷ []) in omega (arith, more, below'))
-            ∙ ap (λ v. v + support_of baskets (get_or (extended group) n [])) (rest (start + n) (omega arith))
-            ∙ ap (λ s. get_or initial (start + n) 0 + support_of baskets s) (sym (set_at n below'))
-
--- ---- one item more
-
-module _ (baskets : List Weighted) (prefix items : List ℕ) (start : ℕ) (initial counts : List ℕ) (number weight : ℕ) (within : start + number < length counts)
-    (is : weight ≡ support_of baskets (prefix ++ get_or items number 0 ∷ [])) where
-  pub one_added : ((k : ℕ) → k < number → get_or counts (start + k) 0 ≡ get_or initial (start + k) 0 + support_of baskets (prefix ++ get_or items k 0 ∷ []))
-      → get_or counts (start + number) 0 ≡ get_or initial (start + number) 0
-      → (k : ℕ) → k < number + 1 → get_or (set counts (start + number) (get_or counts (start + number) 0 + weight)) (start + k) 0 ≡ get_or initial (start + k) 0 + support_of baskets (prefix ++ get_or items k 0 ∷ [])
-  one_added added rest k below = elim (cases_eq k number) [
-    | inl same ↦
-        subst (λ n. get_or (set counts (start + number) (get_or counts (start + number) 0 + weight)) (start + n) 0 ≡ get_or initial (start + n) 0 + support_of baskets (prefix ++ get_or items n 0 ∷ [])) (sym same)
-        (get_or-set_same counts (start + number) (get_or counts (start + number) 0 + weight) 0 within ∙ ap (λ n. n + weight) rest ∙ ap (λ n. get_or initial (start + number) 0 + n) is)
-    | inr differ ↦ get_or-set_other counts (start + number) (start + k) (get_or counts (start + number) 0 + weight) 0 (λ e. absurd (differ (omega (arith, e)))) ∙ added k (omega arith)
-  ]
-
-pub others_stay : (initial counts : List ℕ) (at value k : ℕ) → k ≢ at → get_or counts k 0 ≡ get_or initial k 0 → get_or (set counts at value) k 0 ≡ get_or initial k 0
-others_stay initial counts at value k differ same = get_or-set_other counts at k value 0 differ ∙ same
+  pub group_added : (baskets : List Weighted) (old counts new : List ℕ) → AreAdded (sets_of (take number groups)) baskets 0 old counts → AreAdded (extend group.prefix group.items) baskets start counts new
+      → AreAdded (sets_of (take (number + 1) groups)) baskets 0 old new
+  group_added baskets old counts new before now =
+      let at : start ≡ 0 + length (sets_of (take number groups)) = omega (arith, starts) in
+      subst (λ s. AreAdded s baskets 0 old new) (sym (sets_next groups number d below))
+      (more_added (sets_of (take number groups)) (extend group.prefix group.items) baskets 0 old counts new before (subst (λ n. AreAdded (extend group.prefix group.items) baskets n counts new) at now))
 
 pub some_list : (l : List (List ℕ)) → (l ≡ [] → ⊥) → 1 ≤ length l
 some_list [] none = absurd (none refl)
 some_list (x ∷ l) none = omega arith
+
+-- counts that begin with 0
+pub counts_are_supports : (sets : List (List ℕ)) (baskets : List Weighted) (old new : List ℕ) → old ≡ replicate (length sets) 0 → length new ≡ length old → WithSupports sets baskets old new
+    → new ≡ map (support_of baskets) sets
+counts_are_supports sets baskets old new none same added =
+    let long = ap length none ∙ length-replicate (length sets) 0 in
+    ext_get_or 0 new (map (support_of baskets) sets) (same ∙ long ∙ sym (length-map sets (support_of baskets)))
+    (λ k within. added k (omega arith) (omega arith)
+    ∙ ap (λ n. n + support_of baskets (get_or sets k [])) (ap (λ l. get_or l k 0) none ∙ get_or-replicate (length sets) k 0 0 (omega arith))
+    ∙ zero-add (support_of baskets (get_or sets k []))
+    ∙ sym (get_or-map (support_of baskets) sets k [] 0 (omega arith)))

@@ -5,4 +5,3 @@ mod OnesLemmas
 mod PlaceLemmas
 mod PrefixLemmas
 mod RowLemmas
-mod SupportLemmas

@@ -5,7 +5,7 @@ use Rattle.std.specs.Cmp.{nat_eq_equiv}
 use Rattle.std.specs.List.{All, list_any, slice_get}
 use Rattle.std.proofs.lemmas.Bool.{cases_Bool, le-leb, true≢false}
 use Rattle.std.proofs.lemmas.List.{length_push, take_more}
-use Rattle.std.proofs.lemmas.List.Elements.{All-append, All-from_recursion, All-map, filter-append}
+use Rattle.std.proofs.lemmas.List.Elements.{All-append, All-from_recursion, All-map}
 use Rattle.std.proofs.lemmas.Map.Made.{length-le_from_is_member}
 use Rattle.basket_sets.specs.declared.weighted.Weighted.{Weighted}
 use Rattle.basket_sets.specs.Itemset.{IsRising, contains, has}
@@ -132,8 +132,3 @@ module _ (used : List ℕ) (least : ℕ) where
   pub needed_total : (baskets : List Weighted) → total_of (needed used least baskets) ≤ total_of baskets
   needed_total [] = omega arith
   needed_total (first ∷ baskets) = one_weighs first baskets (needed used least baskets) (needed_total baskets) (is_needed used least first)
-
-  -- one basket more
-  pub needed_more : (baskets : List Weighted) (i : ℕ) (d : Weighted) → i < length baskets
-      → needed used least (take (i + 1) baskets) ≡ needed used least (take i baskets) ++ cond (is_needed used least (get_or baskets i d)) (get_or baskets i d ∷ []) []
-  needed_more baskets i d below = ap (needed used least) (take_more baskets i d below) ∙ filter-append (is_needed used least) (take i baskets) (get_or baskets i d ∷ [])

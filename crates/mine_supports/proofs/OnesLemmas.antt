@@ -1,56 +1,41 @@
 -- The ones of words.
-use Rattle.std.proofs.Common.{◌≡◌, ℕ, zero, suc, ◌+◌, ◌*◌, ◌/◌, ◌%◌, ◌<◌, ◌^◌, refl, sym, ap, ◌∙◌, subst, arith, min, max}
+use Rattle.std.proofs.Common.{◌≡◌, ℕ, zero, suc, ◌+◌, ◌*◌, ◌/◌, ◌%◌, ◌<◌, ◌^◌, refl, sym, ap, ◌∙◌, arith, min, max}
 use Rattle.std.specs.Prelude.{bit_and, bit_or, count_ones}
 use Rattle.std.specs.Int.{bit_at}
 use Rattle.std.specs.Int.Bits.{or_add_and}
-use Rattle.std.proofs.lemmas.Nat.{and_block, or_block, ones_cat, and_le_l, and_comm, pow-add, pow_pos}
+use Rattle.std.proofs.lemmas.Nat.{and_block, or_block, or_lt, ones_cat, and_le_l, and_comm, pow-add, pow_pos}
 use Rattle.std.proofs.lemmas.Nat.Bits.{bit_at_and, bit_at_or, bit_at-zero, bit_at-lt, same_from_bits, and_pow}
 
-low_ones : (r s : ℕ) → r < 2 → s < 2 → bit_and r s ≡ 0 → count_ones (bit_or r s) ≡ count_ones r + count_ones s
+ones_bit : (n : ℕ) → n < 2 → count_ones n ≡ n
 unfolding lib.Count.ones
-low_ones zero zero a b e = refl
-low_ones zero (suc zero) a b e = refl
-low_ones (suc zero) zero a b e = refl
-low_ones (suc zero) (suc zero) a b e = absurd (omega (arith, e))
-low_ones (suc (suc r)) s a b e = absurd (omega arith)
-low_ones zero (suc (suc s)) a b e = absurd (omega arith)
-low_ones (suc zero) (suc (suc s)) a b e = absurd (omega arith)
+ones_bit zero low = refl
+ones_bit (suc zero) low = refl
+ones_bit (suc (suc n)) low = absurd (omega arith)
+
+double : (n : ℕ) → 2 ^ suc n ≡ 2 ^ n * 2
+double n = let e : suc n ≡ n + 1 = omega arith in ap (λ m. 2 ^ m) e ∙ pow-add 2 n 1
 
 -- the ones of two words that share none
 pub ones_or : (n a b : ℕ) → a < 2 ^ n → b < 2 ^ n → bit_and a b ≡ 0 → count_ones (bit_or a b) ≡ count_ones a + count_ones b
 unfolding lib.Count.ones
 ones_or zero a b below under none =
     let x : a ≡ 0 = omega arith in let y : b ≡ 0 = omega arith in
-    subst (λ p. count_ones (bit_or p b) ≡ count_ones p + count_ones b) (sym x) (subst (λ q. count_ones (bit_or 0 q) ≡ count_ones 0 + count_ones q) (sym y) refl)
+    (λ i. count_ones (bit_or (x i) (y i))) ∙ sym (λ i. count_ones (x i) + count_ones (y i))
 ones_or (suc n) a b below under none =
     let P : ℕ = a / 2 in let Q : ℕ = b / 2 in let r : ℕ = a % 2 in let s : ℕ = b % 2 in
     let ea : a ≡ P * 2 ^ 1 + r = omega arith in
     let eb : b ≡ Q * 2 ^ 1 + s = omega arith in
-    let power : 2 ^ suc n ≡ 2 ^ n * 2 = let e : suc n ≡ n + 1 = omega arith in ap (λ m. 2 ^ m) e ∙ pow-add 2 n 1 in
+    let power = double n in
     let lr : r < 2 ^ 1 = omega arith in let ls : s < 2 ^ 1 = omega arith in
-    let ands : bit_and P Q * 2 ^ 1 + bit_and r s ≡ 0 = sym (and_block 1 P Q r s lr ls) ∙ ap (λ x. bit_and x (Q * 2 ^ 1 + s)) (sym ea) ∙ ap (bit_and a) (sym eb) ∙ none in
-    let high : bit_and P Q ≡ 0 = omega arith in
-    let low : bit_and r s ≡ 0 = omega arith in
-    let rest = ones_or n P Q (omega arith) (omega arith) high in
-    let small = or_add_and r s in
-    let or_low : bit_or r s < 2 ^ 1 = or_below r s lr ls in
-    ap (λ x. count_ones (bit_or x b)) ea ∙ ap (λ x. count_ones (bit_or (P * 2 ^ 1 + r) x)) eb ∙ ap count_ones (or_block 1 P Q r s lr ls)
-    ∙ ones_cat 1 (bit_or P Q) (bit_or r s) or_low ∙ ap (λ m. m + count_ones (bit_or r s)) rest ∙ ap (λ m. count_ones P + count_ones Q + m) (low_ones r s lr ls low)
-    ∙ joined (count_ones P) (count_ones Q) (count_ones r) (count_ones s)
-    ∙ ap (λ m. m + (count_ones Q + count_ones s)) (sym (ones_cat 1 P r lr)) ∙ ap (λ m. count_ones (P * 2 ^ 1 + r) + m) (sym (ones_cat 1 Q s ls))
-    ∙ ap (λ x. count_ones x + count_ones (Q * 2 ^ 1 + s)) (sym ea) ∙ ap (λ x. count_ones a + count_ones x) (sym eb)
-  where
-    joined : (p q r s : ℕ) → p + q + (r + s) ≡ (p + r) + (q + s)
-    joined p q r s = omega arith
-
-    or_below : (r s : ℕ) → r < 2 ^ 1 → s < 2 ^ 1 → bit_or r s < 2 ^ 1
-    or_below zero zero a b = omega arith
-    or_below zero (suc zero) a b = omega arith
-    or_below (suc zero) zero a b = omega arith
-    or_below (suc zero) (suc zero) a b = omega arith
-    or_below (suc (suc r)) s a b = absurd (omega arith)
-    or_below zero (suc (suc s)) a b = absurd (omega arith)
-    or_below (suc zero) (suc (suc s)) a b = absurd (omega arith)
+    let ands : bit_and P Q * 2 ^ 1 + bit_and r s ≡ 0 = sym (and_block 1 P Q r s lr ls) ∙ (λ i. bit_and (sym ea i) (sym eb i)) ∙ none in
+    let small : bit_or r s < 2 ^ 1 = or_lt 1 r s lr ls in
+    let low = or_add_and r s in
+    let all : count_ones (bit_or a b) ≡ count_ones (bit_or P Q) + count_ones (bit_or r s) =
+    ap count_ones ((λ i. bit_or (ea i) (eb i)) ∙ or_block 1 P Q r s lr ls) ∙ ones_cat 1 (bit_or P Q) (bit_or r s) small in
+    let first : count_ones a ≡ count_ones P + count_ones r = ap count_ones ea ∙ ones_cat 1 P r lr in
+    let second : count_ones b ≡ count_ones Q + count_ones s = ap count_ones eb ∙ ones_cat 1 Q s ls in
+    let high = ones_or n P Q (omega arith) (omega arith) (omega arith) in
+    omega (arith, ones_bit r (omega arith), ones_bit s (omega arith), ones_bit (bit_or r s) (omega arith))
 
 max_min : (p q r : ℕ) → min (max p q) r ≡ max (min p r) (min q r)
 max_min p q r = omega arith
@@ -72,7 +57,7 @@ apart a b x none = same_from_bits (bit_and (bit_and a x) (bit_and b x)) 0 (λ i.
 
 below_power : (n : ℕ) → n < 2 ^ n
 below_power zero = omega arith
-below_power (suc n) = let rest = below_power n in let e : suc n ≡ n + 1 = omega arith in let double : 2 ^ suc n ≡ 2 ^ n * 2 = ap (λ m. 2 ^ m) e ∙ pow-add 2 n 1 in omega arith
+below_power (suc n) = let rest = below_power n in let power = double n in omega arith
 
 -- what a word shares with two words that share none
 pub ones_shared : (a b x : ℕ) → bit_and a b ≡ 0 → count_ones (bit_and (bit_or a b) x) ≡ count_ones (bit_and a x) + count_ones (bit_and b x)
@@ -87,9 +72,7 @@ unfolding lib.Count.ones
 one_shared j x = ap count_ones (and_comm (2 ^ j) x ∙ and_pow x j) ∙ one (bit_at x j) (bit_at-lt x j)
   where
     one : (b : ℕ) → b < 2 → count_ones (b * 2 ^ j) ≡ b
-    one b low = let e : b * 2 ^ j ≡ b * 2 ^ j + 0 = omega arith in ap count_ones e ∙ ones_cat j b 0 (pow_pos j) ∙ small b low
-      where
-        small : (b : ℕ) → b < 2 → count_ones b + count_ones 0 ≡ b
-        small zero low = refl
-        small (suc zero) low = refl
-        small (suc (suc b)) low = absurd (omega arith)
+    one b low =
+        let e : b * 2 ^ j ≡ b * 2 ^ j + 0 = omega arith in
+        let both : count_ones (b * 2 ^ j) ≡ count_ones b + count_ones 0 = ap count_ones e ∙ ones_cat j b 0 (pow_pos j) in
+        omega (arith, both, ones_bit b low, ones_bit 0 (omega arith))

@@ -1,25 +1,27 @@
--- TidWord of a block of baskets as bits, and what rows have of them.
-use Rattle.std.proofs.Common.{◌≡◌, ℕ, zero, suc, ◌+◌, ◌*◌, ◌/◌, ◌%◌, ◌<◌, ◌≤◌, ◌^◌, Bool, true, false, ◌&&◌, List, [], ◌∷◌, ◌++◌, length, take, drop, get_or, ◌-◌, cond, eqb, refl, sym, ap, ◌∙◌, subst, inl, inr, arith, min, w64}
+-- The tids of a block of baskets as bits of words, and what rows have of them.
+use Rattle.std.proofs.Common.{◌≡◌, ℕ, suc, ◌+◌, ◌*◌, ◌/◌, ◌%◌, ◌<◌, ◌≤◌, ◌^◌, Bool, true, ◌&&◌, List, [], ◌∷◌, ◌++◌, length, map, take, drop, get_or, ◌-◌, cond, eqb, refl, sym, ap, ◌∙◌, subst, inl, inr, arith, min, w64}
 use Rattle.std.specs.Prelude.{bit_and, bit_or, count_ones}
 use Rattle.std.specs.Int.{bit_at, trailing_zeros}
 use Rattle.std.proofs.Math.Bool.{and-true, and_assoc as all_three}
 use Rattle.std.proofs.Math.ListN.{set}
-use Rattle.std.proofs.Math.Nat.{add-mul, zero-mul, one-mul}
-use Rattle.std.proofs.lemmas.List.{take-append-drop}
+use Rattle.std.proofs.Math.Nat.{add-mul}
+use Rattle.std.proofs.lemmas.List.{get_or-map, length-map, take-append-drop}
 use Rattle.std.proofs.lemmas.List.Sums.{sum_by_more, sum_by-set}
-use Rattle.std.proofs.lemmas.Nat.{and_assoc}
+use Rattle.std.proofs.lemmas.Nat.{and_assoc, one_shl}
 use Rattle.std.proofs.lemmas.Nat.Bits.{bit_at_above, bit_at_and, bit_at_ones, bit_at-lt, bit_at-trailing_zeros}
-use Rattle.std.proofs.Math.Pow.{pow-lt}
 use Rattle.std.proofs.lemmas.Bool.{cases_lt}
+use Rattle.std.proofs.lemmas.Bool.Decides.{nat_tests}
 use Rattle.basket_sets.specs.declared.weighted.Weighted.{Weighted}
 use Rattle.basket_sets.specs.Itemset.{contains, has}
-use Rattle.basket_sets.specs.Support.{support_of, weight_at}
+use Rattle.basket_sets.specs.Support.{support_of, total_of, weight_at}
 use Rattle.basket_sets.proofs.theory.Members.{Member, Member-append_left, Member-append_right}
 use Rattle.basket_sets.proofs.theory.Rising.{Member-from_has, contains_each, has-from_Member, has_each}
 use Rattle.basket_sets.proofs.theory.Support.{support-cons, support_falls}
 use Rattle.mine_supports.specs.declared.tid_words.TidWord.{TidWord}
 use Rattle.mine_supports.specs.TidWord.{AreKept, ArePlacesOf, IsJoinable, IsRowOf, basket_at, has_place, part_weight, shared_weight, weight_from}
 use Rattle.mine_supports.specs.UsedItems.{AreUsed}
+use Rattle.mine_supports.specs.Extensions.{Group}
+use Rattle.mine_supports.proofs.theory.Extensions.{no_group}
 use Rattle.mine_supports.proofs.OnesLemmas.{one_shared, ones_shared}
 
 abbrev pub places_at : ℕ → ℕ → ℕ → TidWord
@@ -50,21 +52,13 @@ added_part row places at part more below is join =
     omega arith
 
 bit_times : (b weight : ℕ) → b < 2 → b * weight ≡ cond (eqb b 1) weight 0
-bit_times zero weight low = zero-mul weight
-bit_times (suc zero) weight low = one-mul weight
-bit_times (suc (suc b)) weight low = absurd (omega arith)
+bit_times b weight low = grind (arith, nat_tests)
 
--- a place weighs its weight where a row has it
-pub place_weight : (row : ℕ → ℕ) (place weight : ℕ) → part_weight row (places_at (place / 64) (2 ^ (place % 64)) weight) ≡ cond (has_place row place) weight 0
-place_weight row place weight =
-    ap (λ n. n * weight) (one_shared (place % 64) (row (place / 64))) ∙ bit_times (bit_at (row (place / 64)) (place % 64)) weight (bit_at-lt (row (place / 64)) (place % 64))
-
-power_fits : (place : ℕ) → 1 * 2 ^ (place % 64) % 2 ^ 64 ≡ 2 ^ (place % 64)
-power_fits place = let low : place % 64 < 64 = omega arith in let small = pow-lt {i = place % 64} {j = 64} low in omega arith
-
--- the same with the word of the place as it is made
+-- a tid weighs its weight where a row has it
 pub made_weight : (row : ℕ → ℕ) (place weight : ℕ) → part_weight row (places_at (place / 64) (1 * 2 ^ (place % 64) % 2 ^ 64) weight) ≡ cond (has_place row place) weight 0
-made_weight row place weight = ap (λ b. part_weight row (places_at (place / 64) b weight)) (power_fits place) ∙ place_weight row place weight
+made_weight row place weight =
+    ap (λ b. part_weight row (places_at (place / 64) b weight)) (one_shl (place % 64) 64 (omega arith))
+    ∙ ap (λ n. n * weight) (one_shared (place % 64) (row (place / 64))) ∙ bit_times (bit_at (row (place / 64)) (place % 64)) weight (bit_at-lt (row (place / 64)) (place % 64))
 
 -- the lowest bit of a number is no greater than the number
 pub lowest_bit : (rest : ℕ) → 0 < rest → rest < 2 ^ 64 → 1 * 2 ^ (trailing_zeros w64 rest) % 2 ^ 64 ≤ rest
@@ -76,8 +70,7 @@ lowest_bit rest some fits =
     ]
 
 cond_parts : (b : Bool) (weight part : ℕ) → part ≤ weight → cond b part 0 + cond b (weight - part) 0 ≡ cond b weight 0
-cond_parts true weight part le = omega arith
-cond_parts false weight part le = refl
+cond_parts b weight part le = grind arith
 
 -- a part of a weight more
 pub rest_more : (row : ℕ → ℕ) (place rest part start now new : ℕ) → part ≤ rest → new ≡ now + cond (has_place row place) part 0 → now + cond (has_place row place) rest 0 ≡ start
@@ -115,13 +108,7 @@ from_push at row items (first ∷ baskets) basket =
     omega (arith, rest, last)
 
 both_low : (a b : ℕ) → a < 2 → b < 2 → eqb (min a b) 1 ≡ (eqb a 1 && eqb b 1)
-both_low zero zero low high = refl
-both_low zero (suc zero) low high = refl
-both_low (suc zero) zero low high = refl
-both_low (suc zero) (suc zero) low high = refl
-both_low (suc (suc a)) b low high = absurd (omega arith)
-both_low zero (suc (suc b)) low high = absurd (omega arith)
-both_low (suc zero) (suc (suc b)) low high = absurd (omega arith)
+both_low a b low high = grind (arith, nat_tests)
 
 -- two rows both have a place where each has it
 has_both : (r row : ℕ → ℕ) (place : ℕ) → has_place (both r row) place ≡ (has_place r place && has_place row place)
@@ -134,20 +121,10 @@ contains_push basket [] item = and-true (has basket item)
 contains_push basket (x ∷ items) item = ap (λ b. has basket x && b) (contains_push basket items item) ∙ sym (all_three (has basket x) (contains basket items) (has basket item))
 
 both_conds : (holds has_item in_row : Bool) (weight : ℕ) → cond (has_item && in_row) (cond holds weight 0) 0 ≡ cond in_row (cond (holds && has_item) weight 0) 0
-both_conds true true true weight = refl
-both_conds true true false weight = refl
-both_conds true false true weight = refl
-both_conds true false false weight = refl
-both_conds false true true weight = refl
-both_conds false true false weight = refl
-both_conds false false true weight = refl
-both_conds false false false weight = refl
+both_conds holds has_item in_row weight = grind arith
 
 one_cond : (holds has_item : Bool) (weight : ℕ) → cond has_item (cond holds weight 0) 0 ≡ cond (holds && has_item) weight 0
-one_cond true true weight = refl
-one_cond true false weight = refl
-one_cond false true weight = refl
-one_cond false false weight = refl
+one_cond holds has_item weight = grind arith
 
 -- a row has the places, from one on, of the baskets that have an item
 abbrev HasRow : ℕ → (ℕ → ℕ) → ℕ → List Weighted → Type 0
@@ -207,6 +184,10 @@ pub weighs_support : (baskets : List Weighted) (items : List ℕ) (item : ℕ) (
     → ArePlacesOf baskets items places → IsRowOf baskets item r → shared_weight (words r) places ≡ support_of baskets (items ++ item ∷ [])
 weighs_support baskets items item r places are is = are.weighs (words r) ∙ from_row 0 (words r) items item baskets (row_of baskets item r is)
 
+pub weighs_light : (baskets : List Weighted) (items : List ℕ) (item : ℕ) (r : List ℕ) (places : List TidWord)
+    → ArePlacesOf baskets items places → IsRowOf baskets item r → shared_weight (words r) places ≤ total_of baskets
+weighs_light baskets items item r places are is = omega (arith, weighs_support baskets items item r places are is, support_falls baskets (items ++ item ∷ []) [] refl)
+
 -- a set without places has no support
 pub none_support : (baskets : List Weighted) (items : List ℕ) → ArePlacesOf baskets items [] → support_of baskets items ≡ 0
 none_support baskets items are = sym (from_ones 0 items baskets) ∙ sym (are.weighs ones)
@@ -222,9 +203,12 @@ all_more baskets basket place places new long added before = record {
       ∙ ap (λ p. weight_from 0 row [] baskets + cond (has_place row p) basket.weight 0) e ∙ sym (from_push 0 row [] baskets basket);
 }
 
--- all items of a set are used
-pub set_used : (sets : List (List ℕ)) (used : List ℕ) (k : ℕ) → AreUsed sets used → k < length sets → contains used (get_or sets k []) ≡ true
-set_used sets used k all within = contains_each used (get_or sets k []) (λ item m. Member-from_has used item (all k item within (has-from_Member (get_or sets k []) item m)))
+-- all items of a list are used
+pub list_used : (groups : List Group) (f : Group → List ℕ) (used now : List ℕ) (number : ℕ) (list : List ℕ) → AreUsed (map f groups) used → now ≡ used → number < length groups → list ≡ f (get_or groups number no_group)
+    → contains now list ≡ true
+list_used groups f used now number list all same within is = contains_each now list (λ item m.
+    let here = subst (λ l. has l item ≡ true) (is ∙ sym (get_or-map f groups number no_group [] within)) (has-from_Member list item m) in
+    Member-from_has now item (subst (λ u. has u item ≡ true) (sym same) (all number item (omega (arith, within, length-map groups f)) here)))
 
 -- a set has no support where a prefix has no places
 pub none_with_prefix : (baskets : List Weighted) (items : List ℕ) (depth : ℕ) → ArePlacesOf baskets (take depth items) [] → support_of baskets items ≡ 0

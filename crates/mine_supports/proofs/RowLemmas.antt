@@ -1,16 +1,18 @@
 -- Rows of bits, one after another, whose bits are set one by one.
-use Rattle.std.proofs.Common.{◌≡◌, ◌≢◌, ℕ, ◌+◌, ◌*◌, ◌/◌, ◌%◌, ◌<◌, ◌≤◌, ◌^◌, Bool, true, false, ◌&&◌, ◌||◌, List, [], ◌∷◌, ◌++◌, length, take, drop, get_or, map, eqb, refl, sym, ap, ◌∙◌, inl, inr, arith, w64}
+use Rattle.std.proofs.Common.{◌≡◌, ℕ, zero, suc, ◌+◌, ◌*◌, ◌/◌, ◌%◌, ◌<◌, ◌≤◌, ◌^◌, Bool, false, ◌&&◌, ◌||◌, List, [], ◌∷◌, ◌++◌, length, take, drop, get_or, map, eqb, refl, sym, ap, ◌∙◌, inl, inr, arith, w64}
 use Rattle.std.specs.Prelude.{bit_or}
 use Rattle.std.specs.Int.{bit_at}
 use Rattle.std.proofs.Math.ListN.{set}
-use Rattle.std.proofs.lemmas.Bool.{cases_eq, cases_lt, eq-eqb}
-use Rattle.std.proofs.lemmas.List.{get_or-map, get_or-set_other, get_or-set_same, get_or-drop, get_or-take, get_or_past, get_or_append_left, get_or_push, length-take, length-map, length_push}
+use Rattle.std.proofs.lemmas.Bool.{and_parts, cases_eq, cases_lt, eqb-true, false_from_ne_true}
+use Rattle.std.proofs.lemmas.Bool.Decides.{nat_tests}
+use Rattle.std.proofs.lemmas.List.{get_or-set_other, get_or-drop, get_or-take, get_or_past, length-take, length-map, length_push, map-append}
+use Rattle.std.proofs.lemmas.Grind.{get_or-set_at}
 use Rattle.std.proofs.lemmas.Nat.{div-mul-add}
 use Rattle.std.proofs.lemmas.Nat.Bits.{bit_at-zero, bit_at_set_other, bit_at_set_same}
 use Rattle.basket_sets.specs.declared.weighted.Weighted.{Weighted}
 use Rattle.basket_sets.specs.Itemset.{IsRising, has}
 use Rattle.basket_sets.proofs.theory.Rising.{has_more}
-use Rattle.basket_sets.proofs.theory.Tests.{apart_eqb, or_false, or_true}
+use Rattle.basket_sets.proofs.theory.Tests.{or_false}
 use Rattle.mine_supports.specs.declared.rows.Rows.{Rows}
 use Rattle.mine_supports.specs.TidWord.{IsRowOf, basket_at}
 use Rattle.mine_supports.specs.Rows.{AreRows, bit_in}
@@ -22,15 +24,8 @@ abbrev pub AreMarkedAt : ℕ → ℕ → List ℕ → List ℕ → List ℕ → 
 AreMarkedAt words place numbers old new = (number other : ℕ) → other < words * 64
     → bit_in new words number other ≡ (bit_in old words number other || (eqb other place && has numbers number))
 
-or_none : (b c : Bool) → (b || (c && false)) ≡ b
-or_none true c = refl
-or_none false true = refl
-or_none false false = refl
-
 or_grow : (a b c d : Bool) → ((a || (b && c)) || (b && d)) ≡ (a || (b && (c || d)))
-or_grow true b c d = refl
-or_grow false true c d = refl
-or_grow false false c d = refl
+or_grow a b c d = grind arith
 
 -- the bits of rows once that of a place is set in the row of a number
 abbrev pub IsSetAt : ℕ → ℕ → ℕ → List ℕ → List ℕ → Type 0
@@ -45,11 +40,12 @@ marked_more words place numbers i old bits new below marked sets number other in
     ∙ or_grow (bit_in old words number other) (eqb other place) (has (take i numbers) number) (eqb (get_or numbers i 0) number)
     ∙ ap (λ b. bit_in old words number other || (eqb other place && b)) (sym (has_more numbers i number below))
 
-no_word : (b c d : Bool) → c ≡ false → b ≡ (b || (c && d))
-no_word b c d e = sym (ap (λ x. b || (x && d)) e ∙ or_false b)
-
-no_number : (b c d : Bool) → d ≡ false → b ≡ (b || (c && d))
-no_number b c d e = sym (ap (λ x. b || (c && x)) e ∙ or_none b c)
+-- a word with one bit more
+one_bit : (v k i : ℕ) → k < 64 → eqb (bit_at (bit_or v (1 * 2 ^ k % 2 ^ 64)) i) 1 ≡ (eqb (bit_at v i) 1 || eqb i k)
+one_bit v k i low = elim (cases_eq i k) [
+  | inl same ↦ (let one = bit_at_set_same w64 v k low in let now = ap (bit_at (bit_or v (1 * 2 ^ k % 2 ^ 64))) same in grind (arith, nat_tests))
+  | inr differ ↦ (let other = bit_at_set_other w64 v k low i differ in grind (arith, nat_tests))
+]
 
 -- the bit of a place in the row of a number
 pub set_bit : (words place k at v : ℕ) (bits : List ℕ) → k * words + words ≤ length bits → place < words * 64
@@ -59,34 +55,19 @@ set_bit words place k at v bits long low stands value number other inside =
     let col : place / 64 < words = omega arith in
     let column : other / 64 < words = omega arith in
     let all : at < length bits = omega (arith, long, col, stands) in
-    let others : (index ≢ at) → bit_in (set bits at v) words number other ≡ bit_in bits words number other =
-    λ differ. ap (λ n. eqb (bit_at n (other % 64)) 1) (get_or-set_other bits at index v 0 differ) in
-    elim (cases_eq number k) [
-      | inl same ↦ elim (cases_eq (other / 64) (place / 64)) [
-        | inl word ↦
-            (let there : index ≡ at = ap (λ n. n * words + other / 64) same ∙ ap (λ n. k * words + n) word ∙ sym stands in
-            let now : bit_in (set bits at v) words number other ≡ eqb (bit_at v (other % 64)) 1 =
-            ap (λ n. eqb (bit_at (get_or (set bits at v) n 0) (other % 64)) 1) there ∙ ap (λ n. eqb (bit_at n (other % 64)) 1) (get_or-set_same bits at v 0 all) in
-            elim (cases_eq (other % 64) (place % 64)) [
-              | inl low_bits ↦
-                  (let whole : other ≡ place = omega arith in
-                  let one : eqb (bit_at v (other % 64)) 1 ≡ true = ap (λ n. eqb (bit_at v n) 1) low_bits ∙ ap (λ n. eqb (bit_at n (place % 64)) 1) value
-                  ∙ ap (λ n. eqb n 1) (bit_at_set_same w64 (get_or bits at 0) (place % 64) (omega arith)) in
-                  now ∙ one ∙ sym (ap (λ b. bit_in bits words number other || (b && eqb k number)) (eq-eqb other place whole)
-                  ∙ ap (λ b. bit_in bits words number other || b) (eq-eqb k number (sym same)) ∙ or_true (bit_in bits words number other)))
-              | inr differ ↦
-                  (let apart : eqb other place ≡ false = apart_eqb other place (λ e. differ (ap (λ n. n % 64) e)) in
-                  now ∙ ap (λ n. eqb (bit_at n (other % 64)) 1) value ∙ ap (λ n. eqb n 1) (bit_at_set_other w64 (get_or bits at 0) (place % 64) (omega arith) (other % 64) differ)
-                  ∙ ap (λ n. eqb (bit_at (get_or bits n 0) (other % 64)) 1) (sym there) ∙ no_word (bit_in bits words number other) (eqb other place) (eqb k number) apart)
-            ])
-        | inr differ ↦
-            (let apart : eqb other place ≡ false = apart_eqb other place (λ e. differ (ap (λ n. n / 64) e)) in
-            others (λ e. differ (let f : k * words + other / 64 ≡ k * words + place / 64 = ap (λ n. n * words + other / 64) (sym same) ∙ e ∙ stands in omega arith))
-            ∙ no_word (bit_in bits words number other) (eqb other place) (eqb k number) apart)
-      ]
+    elim (cases_eq index at) [
+      | inl same ↦
+          (let row : number ≡ k = sym (div-mul-add number words (other / 64) column) ∙ ap (λ n. n / words) (same ∙ stands) ∙ div-mul-add k words (place / 64) col in
+          let word : other / 64 ≡ place / 64 = let e = ap (λ n. n * words) row in omega arith in
+          let there : eqb (other % 64) (place % 64) ≡ (eqb other place && eqb k number) = grind (arith, nat_tests) in
+          ap (λ n. eqb (bit_at n (other % 64)) 1) (get_or-set_at bits at index v 0 same all ∙ value) ∙ one_bit (get_or bits at 0) (place % 64) (other % 64) (omega arith)
+          ∙ (λ i. eqb (bit_at (get_or bits (sym same i) 0) (other % 64)) 1 || there i))
       | inr differ ↦
-          (others (λ e. differ (sym (div-mul-add number words (other / 64) column) ∙ ap (λ n. n / words) (e ∙ stands) ∙ div-mul-add k words (place / 64) col))
-          ∙ no_number (bit_in bits words number other) (eqb other place) (eqb k number) (apart_eqb k number (λ e. differ (sym e))))
+          (let apart : (eqb other place && eqb k number) ≡ false = false_from_ne_true (eqb other place && eqb k number)
+          (λ e. let both = and_parts (eqb other place) (eqb k number) e in let p = eqb-true other place both.0 in let q = eqb-true k number both.1 in
+          differ (let row = ap (λ n. n * words) q in omega arith)) in
+          ap (λ n. eqb (bit_at n (other % 64)) 1) (get_or-set_other bits at index v 0 differ)
+          ∙ sym (ap (λ b. bit_in bits words number other || b) apart ∙ or_false (bit_in bits words number other)))
     ]
 
 -- ---- the rows of some baskets
@@ -94,27 +75,19 @@ set_bit words place k at v bits long low stands value number other inside =
 past_basket : (baskets : List Weighted) (place : ℕ) → length baskets ≤ place → basket_at baskets place ≡ []
 past_basket baskets place past = get_or_past (map (λ (b : Weighted). b.basket) baskets) place [] (omega (arith, length-map baskets (λ (b : Weighted). b.basket)))
 
-here_basket : (baskets : List Weighted) (place : ℕ) (basket : Weighted) → place < length baskets → basket_at baskets place ≡ (get_or baskets place basket).basket
-here_basket baskets place basket here = get_or-map (λ (b : Weighted). b.basket) baskets place basket [] here
+set_more : (sets : List (List ℕ)) (set : List ℕ) (place u : ℕ) → (has (get_or sets place []) u || (eqb place (length sets) && has set u)) ≡ has (get_or (sets ++ set ∷ []) place []) u
+set_more [] set zero u = refl
+set_more [] set (suc place) u = grind (arith, nat_tests)
+set_more (first ∷ sets) set zero u = grind (arith, nat_tests)
+set_more (first ∷ sets) set (suc place) u = let rest = set_more sets set place u in grind (arith, nat_tests)
 
 -- a basket more
 basket_more : (baskets : List Weighted) (basket : Weighted) (place u : ℕ)
     → (has (basket_at baskets place) u || (eqb place (length baskets) && has basket.basket u)) ≡ has (basket_at (baskets ++ basket ∷ []) place) u
-basket_more baskets basket place u = elim (cases_eq place (length baskets)) [
-  | inl same ↦
-      (let none = past_basket baskets place (omega (arith, same)) in
-      let now : basket_at (baskets ++ basket ∷ []) place ≡ basket.basket =
-      here_basket (baskets ++ basket ∷ []) place basket (omega (arith, length_push baskets basket, same)) ∙ ap (λ (b : Weighted). b.basket) (get_or_push baskets basket basket place (sym same)) in
-      ap (λ l. has l u || (eqb place (length baskets) && has basket.basket u)) none ∙ ap (λ b. b && has basket.basket u) (eq-eqb place (length baskets) same) ∙ ap (λ l. has l u) (sym now))
-  | inr differ ↦
-      (let kept : basket_at baskets place ≡ basket_at (baskets ++ basket ∷ []) place = elim (cases_lt place (length baskets)) [
-        | inl less ↦
-            here_basket baskets place basket less ∙ ap (λ (b : Weighted). b.basket) (sym (get_or_append_left baskets (basket ∷ []) basket place less))
-            ∙ sym (here_basket (baskets ++ basket ∷ []) place basket (omega (arith, length_push baskets basket, less)))
-        | inr past ↦ past_basket baskets place past ∙ sym (past_basket (baskets ++ basket ∷ []) place (omega (arith, length_push baskets basket, past, differ)))
-      ] in
-      ap (λ b. has (basket_at baskets place) u || (b && has basket.basket u)) (apart_eqb place (length baskets) differ) ∙ or_false (has (basket_at baskets place) u) ∙ ap (λ l. has l u) kept)
-]
+basket_more baskets basket place u =
+    let items = λ (b : Weighted). b.basket in
+    (λ i. has (basket_at baskets place) u || (eqb place (sym (length-map baskets items) i) && has basket.basket u)) ∙ set_more (map items baskets) basket.basket place u
+    ∙ ap (λ l. has (get_or l place []) u) (sym (map-append items baskets (basket ∷ [])))
 
 -- the rows of one basket more
 pub rows_more : (used : List ℕ) (before : List Weighted) (basket : Weighted) (numbers bits : List ℕ) (old new : Rows) → IsRising used → AreRows used before old → AreNumbers used basket.basket numbers

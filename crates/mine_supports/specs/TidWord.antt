@@ -1,4 +1,4 @@
--- TidWord of a block of baskets as bits. A row is a word for each 64 places, by its number.
+-- The tids of a block of baskets as bits of words. A row is a word for each 64 tids, by its number.
 use Rattle.std.specs.Prelude.{◌≡◌, ◌+◌, ◌*◌, ◌/◌, ◌%◌, ◌==◌, ℕ, Bool, List, [], ◌∷◌, bit_and, count_ones, map, slice_index, slice_index_or, if◌then◌else◌}
 use Rattle.std.specs.Int.{bit_at}
 use Rattle.std.specs.List.{sum_by}

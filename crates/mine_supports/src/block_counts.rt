@@ -102,6 +102,7 @@ impl Block<'_> {
 
     /// The support of the set that has the items of a set whose places are given, and one more.
     #[inline]
+    #[tactic(auto, using(crate::proofs::PlaceLemmas::weighs_light, crate::proofs::PlaceLemmas::weighs_support))]
     fn weight(&self, places: &[TidWord], item: u32) -> u64
         requires used { IsTrue (has self.now.used.now item) }
         requires places { (set : List ℕ) × ArePlacesOf (placed self.now) set places.now }

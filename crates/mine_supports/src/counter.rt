@@ -69,6 +69,7 @@ impl<'a> RowCounter<'a> {
     }
 
     /// Adds the support of each set in some baskets to its count, block by block.
+    #[tactic(auto, using(crate::proofs::CounterLemmas::block_fits))]
     pub fn add(
         &self,
         alloc: Global,

@@ -46,8 +46,7 @@ impl Extensions {
         }
     }
 
-    /// The sets, except those without items. Sets that share their prefix and have rising last items are best given in a
-    /// row, as in report order.
+    /// The sets that have items. Sets with one prefix and rising last items are best in a row, as in report order.
     pub fn of_sets(alloc: Global, sets: &[Itemset]) -> Result<Self, AllocError>
         ensures sets { IfOk result (λ extensions. sets_of extensions ≡ filter is_some sets.now) }
         ensures rising { IfOk result (λ extensions. All IsRising (sets_of extensions)) }
@@ -71,6 +70,7 @@ impl Extensions {
     }
 
     /// The sets, and then those of one more prefix, which is left out if nothing extends it.
+    #[tactic(auto, using(crate::proofs::theory::Extensions::groups_append, crate::proofs::theory::Extensions::long_push, crate::proofs::theory::Extensions::rising_again))]
     pub fn with_items(
         self,
         alloc: Global,
@@ -123,6 +123,7 @@ impl Extensions {
     }
 
     /// The sets, and then others.
+    #[tactic(auto, using(crate::proofs::theory::Extensions::groups_append, crate::proofs::theory::Extensions::long_append))]
     fn followed_by(self, others: Extensions) -> Result<Self, AllocError>
         ensures { IfOk result (λ all. all ≡ self ++ others) }
     {
@@ -173,6 +174,7 @@ impl Extensions {
     }
 
     /// The prefixes.
+    #[tactic(auto, using(crate::proofs::theory::Extensions::prefixes_back))]
     pub fn prefixes(&self) -> &[Itemset]
         ensures { result.now ≡ prefixes_of self.now }
     {
@@ -180,6 +182,7 @@ impl Extensions {
     }
 
     /// For each prefix the items that extend it.
+    #[tactic(auto, using(crate::proofs::theory::Extensions::lists_back))]
     pub fn lists(&self) -> &[Itemset]
         ensures { result.now ≡ lists_of self.now }
     {
@@ -201,6 +204,7 @@ impl Extensions {
     }
 
     /// All prefixes.
+    #[tactic(auto, using(crate::proofs::theory::Extensions::groups_long))]
     pub fn range(&self) -> PrefixRange
         ensures { (result.start ≡ 0) × (result.end ≡ length self.now) }
     {
@@ -218,6 +222,7 @@ fn count_prefixes(parts: &[Extensions]) -> usize {
 }
 
 /// Whether an item can be added to rising ones.
+#[tactic(auto, using(crate::proofs::theory::Extensions::rises_after, crate::proofs::theory::Extensions::rises_alone, crate::proofs::theory::Extensions::last_below))]
 fn rises(items: &[u32], item: u32) -> bool
     requires { IsRising items.now }
     ensures { IsTrue result ↔ IsRising (items.now ++ item ∷ []) }
@@ -229,6 +234,7 @@ fn rises(items: &[u32], item: u32) -> bool
 }
 
 /// A number of items that a prefix has at least with any of the items that extend it.
+#[tactic(auto, using(crate::proofs::NeededLemmas::extended_at_least, crate::proofs::NeededLemmas::prefix_at_least))]
 fn least_of(prefix: &[u32], items: &[u32]) -> usize
     requires prefix { IsRising prefix.now }
     requires items { IsRising items.now }

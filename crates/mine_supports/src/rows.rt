@@ -47,6 +47,7 @@ impl Rows {
 
     /// The row of an item by its number.
     #[inline]
+    #[tactic(auto, using(crate::proofs::RowLemmas::row_is))]
     pub fn row(&self, number: usize) -> &[u64]
         requires { (items : List ℕ) × (baskets : List Basket) × (number < length items) × AreRows items baskets self.now }
         ensures { (items : List ℕ) (baskets : List Basket) → number < length items → AreRows items baskets self.now → IsRowOf baskets (slice_index items number) result.now }

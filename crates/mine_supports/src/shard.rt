@@ -20,13 +20,13 @@ pub fn count_shard(
 {
     let counted = count_extensions(alloc, baskets, &Extensions::of_sets(alloc, sets)?)?;
     let mut counts = Vec::with_capacity(alloc, sets.len())?;
-    let mut next = 0;
+    let mut rest: &[u64] = &counted;
     for set in sets {
         if set.is_empty() {
             counts.push(weight_of(baskets))?;
-        } else {
-            counts.push(counted[next])?;
-            next += 1;
+        } else if let Some((count, others)) = rest.split_first() {
+            counts.push(*count)?;
+            rest = others;
         }
     }
     Ok(counts)

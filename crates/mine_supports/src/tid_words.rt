@@ -1,14 +1,14 @@
-//! TidWord of a block of baskets, as bits.
+//! The tids of a block of baskets, as bits of words.
 ghost use Rattle.std.specs.Prelude.{◌≡◌, ◌≤◌, ◌<◌, ◌+◌, ℕ, IfSome, OnOk, bit_and, bit_or, length, slice_index, slice_index_or, if◌then◌else◌};
 ghost use Rattle.basket_sets.specs.Database.{MOST_WEIGHT};
 ghost use Rattle.mine_supports.specs.TidWord.{AreKept, IsJoinable, has_place, part_weight, shared_weight};
 
 use std::alloc::AllocError;
 
-/// How many places have a bit in a word.
+/// How many tids have a bit in a word.
 pub const WORD: usize = 64;
 
-/// TidWord of one weight that have their bits in one word.
+/// Tids of one weight that have their bits in one word.
 #[derive(Clone, Copy)]
 pub struct TidWord {
     pub word: usize,
@@ -30,6 +30,7 @@ fn joinable(places: &[TidWord], start: usize, more: TidWord) -> Option<usize>
 }
 
 /// Adds some places, to those from a number on that they can be added to.
+#[tactic(auto, using(crate::proofs::PlaceLemmas::added_part))]
 fn add_part(places: &mut Vec<TidWord>, start: usize, more: TidWord) -> Result<(), AllocError>
     ensures { OnOk result ((row : ℕ → ℕ) → shared_weight row places.new.items ≡ shared_weight row places.old.items + part_weight row more) }
 {
@@ -47,6 +48,7 @@ fn add_part(places: &mut Vec<TidWord>, start: usize, more: TidWord) -> Result<()
 }
 
 /// Adds a place of a weight, bit by bit of the weight, so that most weights have their places together.
+#[tactic(auto, using(crate::proofs::PlaceLemmas::lowest_bit, crate::proofs::PlaceLemmas::rest_more, crate::proofs::PlaceLemmas::made_weight))]
 pub fn add_place(
     places: &mut Vec<TidWord>,
     start: usize,

@@ -32,6 +32,7 @@ impl Model for UsedItems {
 
 impl UsedItems {
     /// The items of some sets and of some others.
+    #[tactic(auto, using(crate::proofs::theory::UsedItems::has_rising))]
     pub fn of(alloc: Global, sets: &[Itemset], others: &[Itemset]) -> Result<Self, AllocError>
         ensures sets { IfOk result (AreUsed sets.now) }
         ensures others { IfOk result (AreUsed others.now) }
@@ -67,6 +68,7 @@ impl UsedItems {
 
     /// The number of an item, if it is used.
     #[inline]
+    #[tactic(auto, using(basket_sets::proofs::theory::Rising::found_at))]
     pub fn number(&self, item: u32) -> Option<usize>
         ensures { MatchOption result (has self.now item ≡ false) (λ number. (number < length self.now) × (slice_index self.now number ≡ item)) }
     {
@@ -88,22 +90,16 @@ impl UsedItems {
     }
 }
 
-/// Whether what stands before a place and at it shows that an item is missing.
+/// Whether what stands before an index and at it shows that an item is missing.
 #[inline]
-fn is_missing(items: &[u32], item: u32, place: usize) -> bool
+#[tactic(auto, using(crate::proofs::theory::UsedItems::missing_at))]
+fn is_missing(items: &[u32], item: u32, index: usize) -> bool
     requires { IsRising items.now }
     ensures { IsTrue result → has items.now item ≡ false }
 {
-    if place > items.len() {
-        return false;
-    }
-    if place > 0 && items[place - 1] >= item {
-        return false;
-    }
-    if place < items.len() {
-        return item < items[place];
-    }
-    true
+    index <= items.len()
+        && (index == 0 || items[index - 1] < item)
+        && (index == items.len() || item < items[index])
 }
 
 /// Adds the items of the sets.
@@ -120,6 +116,7 @@ fn add_items(alloc: Global, sets: &[Itemset], items: &mut Vec<u32>) -> Result<()
 }
 
 /// Leaves repeated items out if there are more items than this. Returns how many there may be before the next time.
+#[tactic(auto, using(crate::proofs::theory::UsedItems::has_rising))]
 fn keep_distinct(alloc: Global, items: &mut Vec<u32>, most: usize) -> Result<usize, AllocError>
     ensures { OnOk result ((item : ℕ) → has items.new.items item ≡ has items.old.items item) }
 {

@@ -6,7 +6,7 @@ use Rattle.std.specs.Ordering.{is_lt, is_eq, ordering_reverse}
 use Rattle.std.specs.Prelude.{nat_eq}
 use Rattle.std.specs.Cmp.Lexicographic.{pointwise, bytes_decides}
 use Rattle.std.specs.List.Sorted.{IsStrictlySortedBy}
-use Rattle.std.proofs.lemmas.Bool.{false≢true, true≢false, or_cases, or_left, or_right}
+use Rattle.std.proofs.lemmas.Bool.{false_from_ne_true, false≢true, true≢false, or_cases, or_left, or_right}
 use Rattle.basket_read.specs.declared.counted_line.CountedLine.{CountedLine}
 use Rattle.basket_sets.specs.Order.{IsInReportOrder, report_order, report_order_total, report_order_ties}
 use Rattle.basket_sets.proofs.theory.Members.{Member, All-from_Member, first_is_less, rest_is_sorted, same_members}
@@ -19,14 +19,13 @@ set_of line = line.set
 
 -- a set that is neither after another nor the same is before it
 pub less_or_same : (a b : List ℕ) → is_lt (report_order b a) ≡ false → pointwise nat_eq a b ≡ false → report_order a b ≡ Less
-less_or_same a b up apart = at (report_order a b) (report_order b a) refl (report_order_total.antisymm a b) up (sym (report_order_ties a b) ∙ apart)
+less_or_same a b up apart =
+    let flip = report_order_total.antisymm a b in flip ∙ turned (report_order b a) up (ap is_eq (sym flip) ∙ sym (report_order_ties a b) ∙ apart)
   where
-    at : (r s : Ordering) → report_order a b ≡ r → r ≡ ordering_reverse s → is_lt s ≡ false → is_eq r ≡ false → report_order a b ≡ Less
-    at Less s e flip low differ = e
-    at Equal s e flip low differ = absurd (true≢false differ)
-    at Greater Less e flip low differ = absurd (true≢false low)
-    at Greater Equal e flip low differ = let no : Greater ≡ Equal = flip in cc
-    at Greater Greater e flip low differ = let no : Greater ≡ Less = flip in cc
+    turned : (o : Ordering) → is_lt o ≡ false → is_eq (ordering_reverse o) ≡ false → ordering_reverse o ≡ Less
+    turned Less low differ = absurd (true≢false low)
+    turned Equal low differ = absurd (true≢false differ)
+    turned Greater low differ = refl
 
 less_from_test : (r : Ordering) → is_lt r ≡ true → r ≡ Less
 less_from_test Less e = refl
@@ -39,6 +38,9 @@ same_items a b e = (bytes_decides a b).0 e
 
 pub itself : (set : List ℕ) → pointwise nat_eq set set ≡ true
 itself set = (bytes_decides set set).1 refl
+
+pub apart_back : (a b : List ℕ) → pointwise nat_eq a b ≡ false → pointwise nat_eq b a ≡ false
+apart_back a b apart = false_from_ne_true (pointwise nat_eq b a) (λ e. true≢false (sym (itself a) ∙ subst (λ s. pointwise nat_eq a s ≡ false) (same_items b a e) apart))
 
 -- a set before a set before others
 pub first_before : (first : List ℕ) (sets : List (List ℕ)) (set : List ℕ) → IsInReportOrder (first ∷ sets) → report_order set first ≡ Less → (other : List ℕ) → Member other (first ∷ sets)
@@ -91,20 +93,10 @@ order_at : (set first : List ℕ) (sets rest : List (List ℕ)) (p q : Bool) →
 order_at set first sets rest true q less is up later from =
     cons_in_order set (first ∷ sets) (first_before first sets set up (less_from_test (report_order set first) less)) up
 order_at set first sets rest false true less is up later from = up
-order_at set first sets rest false false less is up later from = cons_in_order first rest below later
-  where
-    apart : pointwise nat_eq first set ≡ false
-    apart = at (pointwise nat_eq first set) refl
-      where
-        at : (b : Bool) → pointwise nat_eq first set ≡ b → b ≡ false
-        at true e = absurd (true≢false (sym (subst (λ s. pointwise nat_eq s first ≡ true) (same_items first set e) (itself first)) ∙ is))
-        at false e = refl
-
-    below : (other : List ℕ) → Member other rest → report_order first other ≡ Less
-    below other m = elim (from other m) [
-      | inl e ↦ subst (λ s. report_order first s ≡ Less) e (less_or_same first set less apart)
-      | inr n ↦ first_is_less report_order_total first other sets up n
-    ]
+order_at set first sets rest false false less is up later from = cons_in_order first rest (λ other m. elim (from other m) [
+  | inl e ↦ subst (λ s. report_order first s ≡ Less) e (less_or_same first set less (apart_back set first is))
+  | inr n ↦ first_is_less report_order_total first other sets up n
+]) later
 
 with_set-in_order : (set : List ℕ) (sets : List (List ℕ)) → IsInReportOrder sets → IsInReportOrder (with_set set sets)
 with_set-in_order set [] up = cons_in_order set [] (λ other m. absurd m) up

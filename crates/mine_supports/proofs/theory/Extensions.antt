@@ -4,10 +4,10 @@ use Rattle.std.proofs.lemmas.Grind.{flat_map-append}
 use Rattle.std.specs.List.{slice_get}
 use Rattle.std.specs.Prelude.{slice_range}
 use Rattle.std.proofs.lemmas.List.{get_or-drop, get_or-map, get_or-take, length-append, length-drop, length-map, length-take-le, map-append, take-append-drop, take_all, take_more}
-use Rattle.std.proofs.lemmas.List.Elements.{filter-append}
-use Rattle.basket_sets.specs.Itemset.{IsRising}
+use Rattle.std.proofs.lemmas.List.Elements.{filter-append, filter_more}
+use Rattle.basket_sets.specs.Itemset.{IsRising, rising}
 use Rattle.basket_sets.proofs.theory.Items.{filter-map}
-use Rattle.basket_sets.proofs.theory.Rising.{cons_rises, first_below, nil_rises, rest_rises}
+use Rattle.basket_sets.proofs.theory.Rising.{cons_rises, first_below, nil_rises, rest_rises, rising-rising}
 use Rattle.mine_supports.specs.Extensions.{Group, groups_of, prefixes_of, lists_of, extend, sets_of, has_items, is_some}
 
 -- ---- prefixes and lists
@@ -23,30 +23,39 @@ lists_back [] (l ∷ lists) e = absurd (omega (arith, e))
 lists_back (p ∷ prefixes) [] e = absurd (omega (arith, e))
 lists_back (p ∷ prefixes) (l ∷ lists) e = ap (λ r. l ∷ r) (lists_back prefixes lists (omega (arith, e)))
 
+pub lists_are : (prefixes lists : List (List ℕ)) (groups : List Group) → length lists ≡ length prefixes → groups_of prefixes lists ≡ groups → lists ≡ lists_of groups
+lists_are prefixes lists groups same is = sym (lists_back prefixes lists same) ∙ ap lists_of is
+
+pub rising_again : (items : List ℕ) → IsRising items → rising items ≡ items
+rising_again = rising-rising
+
 pub groups_back : (groups : List Group) → groups_of (prefixes_of groups) (lists_of groups) ≡ groups
 groups_back [] = refl
 groups_back (group ∷ groups) = ap (λ r. group ∷ r) (groups_back groups)
 
-pub groups_push : (prefixes lists : List (List ℕ)) (prefix items : List ℕ) → length lists ≡ length prefixes
-    → groups_of (prefixes ++ prefix ∷ []) (lists ++ items ∷ []) ≡ groups_of prefixes lists ++ record { prefix = prefix; items = items } ∷ []
-groups_push [] [] prefix items e = refl
-groups_push [] (l ∷ lists) prefix items e = absurd (omega (arith, e))
-groups_push (p ∷ prefixes) [] prefix items e = absurd (omega (arith, e))
-groups_push (p ∷ prefixes) (l ∷ lists) prefix items e = ap (λ r. record { prefix = p; items = l } ∷ r) (groups_push prefixes lists prefix items (omega (arith, e)))
+pub groups_append : (prefixes lists more others : List (List ℕ)) → length lists ≡ length prefixes → groups_of (prefixes ++ more) (lists ++ others) ≡ groups_of prefixes lists ++ groups_of more others
+groups_append [] [] more others e = refl
+groups_append [] (l ∷ lists) more others e = absurd (omega (arith, e))
+groups_append (p ∷ prefixes) [] more others e = absurd (omega (arith, e))
+groups_append (p ∷ prefixes) (l ∷ lists) more others e = ap (λ r. record { prefix = p; items = l } ∷ r) (groups_append prefixes lists more others (omega (arith, e)))
+
+pub sets_append : (groups others : List Group) → sets_of (groups ++ others) ≡ sets_of groups ++ sets_of others
+sets_append groups others = flat_map-append (λ (group : Group). extend group.prefix group.items) groups others
 
 pub sets_push : (groups : List Group) (prefix items : List ℕ) → sets_of (groups ++ record { prefix = prefix; items = items } ∷ []) ≡ sets_of groups ++ extend prefix items
-sets_push groups prefix items =
-    flat_map-append (λ (group : Group). extend group.prefix group.items) groups (record { prefix = prefix; items = items } ∷ [])
-    ∙ ap (λ l. sets_of groups ++ l) (append-nil (extend prefix items))
+sets_push groups prefix items = sets_append groups (record { prefix = prefix; items = items } ∷ []) ∙ ap (λ l. sets_of groups ++ l) (append-nil (extend prefix items))
+
+pub long_append : (prefixes lists more others : List (List ℕ)) (len size : ℕ) → length lists ≡ length prefixes → len ≡ length (sets_of (groups_of prefixes lists)) → size ≡ length (sets_of (groups_of more others))
+    → len + size ≡ length (sets_of (groups_of (prefixes ++ more) (lists ++ others)))
+long_append prefixes lists more others len size e is has =
+    let all = ap (λ g. length (sets_of g)) (groups_append prefixes lists more others e)
+    ∙ ap length (sets_append (groups_of prefixes lists) (groups_of more others)) ∙ length-append (sets_of (groups_of prefixes lists)) (sets_of (groups_of more others)) in
+    omega (arith, all, is, has)
 
 pub long_push : (prefixes lists : List (List ℕ)) (prefix items : List ℕ) (len : ℕ) → length lists ≡ length prefixes → len ≡ length (sets_of (groups_of prefixes lists))
     → len + length items ≡ length (sets_of (groups_of (prefixes ++ prefix ∷ []) (lists ++ items ∷ [])))
 long_push prefixes lists prefix items len e is =
-    let all = ap (λ g. length (sets_of g)) (groups_push prefixes lists prefix items e)
-    ∙ ap length (sets_push (groups_of prefixes lists) prefix items)
-    ∙ length-append (sets_of (groups_of prefixes lists)) (extend prefix items) in
-    let more = length-map items (λ item. prefix ++ item ∷ []) in
-    omega (arith, all, more, is)
+    long_append prefixes lists (prefix ∷ []) (items ∷ []) len (length items) e is (sym (ap length (append-nil (extend prefix items)) ∙ length-map items (λ item. prefix ++ item ∷ [])))
 
 -- ---- what is kept
 
@@ -62,7 +71,7 @@ sets_filled (group ∷ groups) = filled_step group.prefix group.items (filter ha
 -- the sets of one more prefix
 pub sets_with : (groups : List Group) (prefix items : List ℕ) → sets_of (groups ++ filter has_items (record { prefix = prefix; items = items } ∷ [])) ≡ sets_of groups ++ extend prefix items
 sets_with groups prefix items =
-    flat_map-append (λ (group : Group). extend group.prefix group.items) groups (filter has_items (record { prefix = prefix; items = items } ∷ []))
+    sets_append groups (filter has_items (record { prefix = prefix; items = items } ∷ []))
     ∙ ap (λ l. sets_of groups ++ l) (sets_filled (record { prefix = prefix; items = items } ∷ []) ∙ append-nil (extend prefix items))
 
 abbrev pub passing : (List ℕ → Bool) → Group → Group
@@ -88,15 +97,11 @@ some_last (x ∷ first) last = refl
 pub some_more : (sets : List (List ℕ)) (i : ℕ) (set first : List ℕ) (last : ℕ) (before : List (List ℕ)) → i < length sets → set ≡ get_or sets i set → set ≡ first ++ last ∷ [] → before ≡ filter is_some (take i sets)
     → before ++ (first ++ last ∷ []) ∷ [] ≡ filter is_some (take (i + 1) sets)
 some_more sets i set first last before below is parts same =
-    (λ j. same j ++ cond (sym (some_last first last) j) ((first ++ last ∷ []) ∷ []) [])
-    ∙ sym (filter-append is_some (take i sets) ((first ++ last ∷ []) ∷ []))
-    ∙ ap (λ s. filter is_some (take i sets ++ s ∷ [])) (sym parts ∙ is)
-    ∙ ap (filter is_some) (sym (take_more sets i set below))
+    (λ j. same j ++ cond (sym (some_last first last) j) ((first ++ last ∷ []) ∷ []) []) ∙ ap (λ s. filter is_some (take i sets) ++ cond (is_some s) (s ∷ []) []) (sym parts ∙ is) ∙ sym (filter_more is_some sets i set below)
 
 pub none_more : (sets : List (List ℕ)) (i : ℕ) (set : List ℕ) (before : List (List ℕ)) → i < length sets → set ≡ get_or sets i set → set ≡ [] → before ≡ filter is_some (take i sets) → before ≡ filter is_some (take (i + 1) sets)
 none_more sets i set before below is none same =
-    same ∙ sym (append-nil (filter is_some (take i sets))) ∙ sym (filter-append is_some (take i sets) ([] ∷ []))
-    ∙ ap (λ s. filter is_some (take i sets ++ s ∷ [])) (sym none ∙ is) ∙ ap (filter is_some) (sym (take_more sets i set below))
+    same ∙ sym (append-nil (filter is_some (take i sets))) ∙ ap (λ s. filter is_some (take i sets) ++ cond (is_some s) (s ∷ []) []) (sym none ∙ is) ∙ sym (filter_more is_some sets i set below)
 
 -- an item more
 pub item_more : (found : List (List ℕ)) (prefix items : List ℕ) (item : ℕ) → found ++ extend prefix (items ++ item ∷ []) ≡ (found ++ extend prefix items) ++ (prefix ++ item ∷ []) ∷ []
@@ -104,7 +109,7 @@ item_more found prefix items item =
     ap (λ l. found ++ l) (map-append (λ x. prefix ++ x ∷ []) items (item ∷ [])) ∙ sym (append_assoc found (extend prefix items) ((prefix ++ item ∷ []) ∷ []))
 
 -- an item above the last of rising ones
-pub rises_above : (items : List ℕ) (item : ℕ) → IsRising items → ((last : ℕ) → slice_get items (length items - 1) ≡ Some last → last < item) → IsRising (items ++ item ∷ [])
+rises_above : (items : List ℕ) (item : ℕ) → IsRising items → ((last : ℕ) → slice_get items (length items - 1) ≡ Some last → last < item) → IsRising (items ++ item ∷ [])
 rises_above [] item up above = cons_rises item [] (λ y m. absurd m) nil_rises
 rises_above (x ∷ []) item up above = cons_rises x (item ∷ []) (λ y m. elim m [ inl e ↦ (let h = above x refl in omega arith) | inr n ↦ absurd n ]) (cons_rises item [] (λ y m. absurd m) nil_rises)
 rises_above (x ∷ y ∷ items) item up above =
@@ -123,11 +128,17 @@ last_below (x ∷ y ∷ items) item last up is =
     last_below (y ∷ items) item last (rest_rises x (y ∷ items ++ item ∷ []) up)
     (ap (slice_get (x ∷ y ∷ items)) (let e : suc (length (y ∷ items) - 1) ≡ length (x ∷ y ∷ items) - 1 = omega arith in e) ∙ is)
 
-pub above_last : (items : List ℕ) (item last : ℕ) → slice_get items (length items - 1) ≡ Some last → last < item → (other : ℕ) → slice_get items (length items - 1) ≡ Some other → other < item
+above_last : (items : List ℕ) (item last : ℕ) → slice_get items (length items - 1) ≡ Some last → last < item → (other : ℕ) → slice_get items (length items - 1) ≡ Some other → other < item
 above_last items item last is less other e = let same : Some last ≡ Some other = sym is ∙ e in let one : last ≡ other = cc in omega arith
 
-pub above_none : (items : List ℕ) (item : ℕ) → slice_get items (length items - 1) ≡ None → (other : ℕ) → slice_get items (length items - 1) ≡ Some other → other < item
+above_none : (items : List ℕ) (item : ℕ) → slice_get items (length items - 1) ≡ None → (other : ℕ) → slice_get items (length items - 1) ≡ Some other → other < item
 above_none items item none other e = absurd (let same : None ≡ Some other = sym none ∙ e in cc)
+
+pub rises_after : (items : List ℕ) (item last : ℕ) → IsRising items → slice_get items (length items - 1) ≡ Some last → last < item → IsRising (items ++ item ∷ [])
+rises_after items item last up is less = rises_above items item up (above_last items item last is less)
+
+pub rises_alone : (items : List ℕ) (item : ℕ) → IsRising items → slice_get items (length items - 1) ≡ None → IsRising (items ++ item ∷ [])
+rises_alone items item up none = rises_above items item up (above_none items item none)
 
 -- ---- a prefix and its items, as they are read
 
@@ -147,15 +158,6 @@ pub lists_long : (groups : List Group) → length (lists_of groups) ≡ length g
 lists_long groups = length-map groups (λ group. group.items)
 
 -- ---- some of the prefixes
-
-pub groups_append : (prefixes lists more others : List (List ℕ)) → length lists ≡ length prefixes → groups_of (prefixes ++ more) (lists ++ others) ≡ groups_of prefixes lists ++ groups_of more others
-groups_append [] [] more others e = refl
-groups_append [] (l ∷ lists) more others e = absurd (omega (arith, e))
-groups_append (p ∷ prefixes) [] more others e = absurd (omega (arith, e))
-groups_append (p ∷ prefixes) (l ∷ lists) more others e = ap (λ r. record { prefix = p; items = l } ∷ r) (groups_append prefixes lists more others (omega (arith, e)))
-
-pub sets_append : (groups others : List Group) → sets_of (groups ++ others) ≡ sets_of groups ++ sets_of others
-sets_append groups others = flat_map-append (λ (group : Group). extend group.prefix group.items) groups others
 
 pub range_all : (groups : List Group) → slice_range groups 0 (length groups) ≡ groups
 range_all groups = ap (λ n. take n groups) (let e : length groups - 0 ≡ length groups = omega arith in e) ∙ take_all (length groups) groups (omega arith)

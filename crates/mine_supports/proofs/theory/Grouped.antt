@@ -1,19 +1,21 @@
 -- Sets of one size in report order are grouped by their prefixes.
-use Rattle.std.proofs.Common.{◌≡◌, ◌≢◌, ℕ, ◌<◌, ◌≤◌, true, List, [], ◌∷◌, ◌++◌, length, filter, take, get_or, cond, refl, sym, ap, ◌∙◌, subst, inl, inr, arith, zero, suc}
+use Rattle.std.proofs.Common.{◌≡◌, ◌≢◌, ℕ, ◌<◌, ◌≤◌, true, List, [], ◌∷◌, ◌++◌, length, filter, take, get_or, cond, refl, sym, ap, ◌∙◌, subst, inl, inr, arith, suc}
 use Rattle.std.specs.declared.cmp.Ordering.{Ordering}
 use Rattle.std.specs.declared.cmp.Ordering.TheVariants.{Less, Equal, Greater}
-use Rattle.std.specs.Cmp.{IsTotalOrder, nat_cmp_total}
+use Rattle.std.specs.Cmp.{nat_cmp_total}
 use Rattle.std.specs.Cmp.Lexicographic.{slice_cmp, nat_list_cmp_total}
 use Rattle.std.specs.List.{All}
 use Rattle.std.specs.List.Sorted.{IsStrictlySortedBy}
 use Rattle.std.specs.Ordering.{nat_cmp, ordering_then}
 use Rattle.std.proofs.lemmas.Bool.Decides.{nat_tests}
 use Rattle.std.proofs.lemmas.Cmp.{tied_itself}
-use Rattle.std.proofs.lemmas.List.{get_or_default, length_push, map-append}
+use Rattle.std.proofs.lemmas.List.{get_or-take, get_or_default, length-take, length_push, map-append}
 use Rattle.std.proofs.lemmas.List.Elements.{All-append, All-from_recursion, All-take, recursion_from_All}
+use Rattle.std.proofs.lemmas.Map.Keys.{Less-from_sorted}
+use Rattle.std.proofs.lemmas.Map.Views.{All-before_last}
 use Rattle.basket_sets.specs.Itemset.{IsRising}
-use Rattle.basket_sets.specs.Order.{report_order, report_order_total}
-use Rattle.basket_sets.proofs.theory.Members.{Member, Member-append, Member-append_right, Member-from_Contains, Member-map, All-from_Member, at_Member, first_is_less, rest_is_sorted, sorted_append}
+use Rattle.basket_sets.specs.Order.{IsInReportOrder, report_order}
+use Rattle.basket_sets.proofs.theory.Members.{Contains-from_Member, Member, Member-append, Member-append_right, Member-map, All-from_Member, at_Member, sorted_append}
 use Rattle.basket_sets.proofs.theory.Rising.{Less-from_lt, cons_rises, lt-from_Less, nil_rises}
 use Rattle.mine_supports.specs.Extensions.{AreGrouped, Group, extend, has_items, is_some, prefixes_of}
 use Rattle.mine_supports.specs.Sizes.{AreOfOneSize, AreOfSize, IsRegular}
@@ -91,20 +93,13 @@ front_less (x ∷ a) (y ∷ b) u v e differ h =
     then_less (nat_cmp x y) (slice_cmp nat_cmp (a ++ u) (b ++ v)) (slice_cmp nat_cmp a b)
     (λ is less. front_less a b u v (omega (arith, e)) (λ same. differ (λ i. equal x y is i ∷ same i)) less) h
 
--- what stands before a place of a sorted list is less
-module _ {K : Type 0} {R : K → K → Ordering} (o : IsTotalOrder R) where
-  before_place : (xs : List K) (i : ℕ) (x d : K) → IsStrictlySortedBy R xs → i < length xs → Member x (take i xs) → R x (get_or xs i d) ≡ Less
-  before_place [] i x d up here m = absurd (omega arith)
-  before_place (first ∷ xs) zero x d up here m = absurd m
-  before_place (first ∷ xs) (suc i) x d up here (inl e) =
-      subst (λ y. R y (get_or xs i d) ≡ Less) e
-      (first_is_less o first (get_or xs i d) xs up (Member-from_Contains (get_or xs i d) xs (i, omega arith, get_or_default xs i (get_or xs i d) d (omega arith))))
-  before_place (first ∷ xs) (suc i) x d up here (inr m) = before_place xs i x d (rest_is_sorted o first xs up) (omega arith) m
-
-  before_last : (xs : List K) (last x : K) → IsStrictlySortedBy R (xs ++ last ∷ []) → Member x xs → R x last ≡ Less
-  before_last [] last x up m = absurd m
-  before_last (first ∷ xs) last x up (inl e) = subst (λ y. R y last ≡ Less) e (first_is_less o first last (xs ++ last ∷ []) up (Member-append_right last xs (last ∷ []) (inl refl)))
-  before_last (first ∷ xs) last x up (inr m) = before_last xs last x (rest_is_sorted o first (xs ++ last ∷ []) up) m
+-- what stands before an index of sets in order is less
+before_place : (sets : List (List ℕ)) (i : ℕ) (set d : List ℕ) → IsInReportOrder sets → i < length sets → Member set (take i sets) → report_order set (get_or sets i d) ≡ Less
+before_place sets i set d up here m =
+    let at = Contains-from_Member set (take i sets) m in
+    let low : at.0 < i = let below = at.1 in omega (arith, length-take i sets) in
+    subst (λ s. report_order s (get_or sets i d) ≡ Less) (sym (get_or-take i sets at.0 set low) ∙ at.2)
+    (ap (λ s. report_order s (get_or sets i d)) (get_or_default sets at.0 set d (omega arith)) ∙ Less-from_sorted report_order sets at.0 i d up low here)
 
 -- ---- groups in order
 
@@ -148,7 +143,7 @@ group_after groups last next grouped long less =
   where
     up_to : (a : List ℕ) → Member a (prefixes_of groups ++ last.prefix ∷ []) → slice_cmp nat_cmp a next.prefix ≡ Less
     up_to a m = elim (Member-append a (prefixes_of groups) (last.prefix ∷ []) m) [
-      | inl n ↦ nat_list_cmp_total.trans a last.prefix next.prefix (before_last nat_list_cmp_total (prefixes_of groups) last.prefix a (subst (IsStrictlySortedBy (slice_cmp nat_cmp)) (prefixes_push groups last) grouped.sorted) n) less
+      | inl n ↦ nat_list_cmp_total.trans a last.prefix next.prefix (at_each (λ p. slice_cmp nat_cmp p last.prefix ≡ Less) (prefixes_of groups) (All-before_last (slice_cmp nat_cmp) (prefixes_of groups) last.prefix (subst (IsStrictlySortedBy (slice_cmp nat_cmp)) (prefixes_push groups last) grouped.sorted)) a n) less
       | inr n ↦ elim n [ inl e ↦ subst (λ s. slice_cmp nat_cmp s next.prefix ≡ Less) e less | inr none ↦ absurd none ]
     ]
 
@@ -200,7 +195,7 @@ are_before sets i set before ends regular here is are = record { long = long; le
 
     less : (other : List ℕ) → Member other ends → slice_cmp nat_cmp other set ≡ Less
     less other m =
-        sym (same_order other set (long other m)) ∙ ap (report_order other) is ∙ before_place report_order_total sets i other set regular.1 here (taken other m)
+        sym (same_order other set (long other m)) ∙ ap (report_order other) is ∙ before_place sets i other set regular.1 here (taken other m)
 
 -- a greater set with the same prefix has a greater last item
 pub item_rises : (prefix items : List ℕ) (item : ℕ) → AreBefore (extend prefix items) (prefix ++ item ∷ []) → IsRising items → IsRising (items ++ item ∷ [])

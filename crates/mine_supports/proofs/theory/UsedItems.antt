@@ -1,14 +1,18 @@
 -- Whether an item is among rising ones, and its number.
 use Rattle.std.proofs.Common.{◌≡◌, ◌≢◌, ℕ, ◌<◌, ◌≤◌, ◌+◌, ◌-◌, false, List, [], ◌∷◌, ◌++◌, append-nil, cond, filter, length, get_or, take, inl, inr, ap, subst, sym, ◌∙◌, arith}
 use Rattle.std.proofs.lemmas.Bool.{cases_Bool, cases_eq, cases_lt}
-use Rattle.std.proofs.lemmas.List.{get_or_default, map-append, take_more}
-use Rattle.std.proofs.lemmas.List.Elements.{All-push, filter-append, recursion_from_All}
+use Rattle.std.proofs.lemmas.List.{get_or_default, map-append}
+use Rattle.std.proofs.lemmas.List.Elements.{All-push, filter_more, recursion_from_All}
 use Rattle.std.proofs.lemmas.Map.Keys.{non_decreasing_from_sorted}
-use Rattle.basket_sets.specs.Itemset.{IsRising, has}
+use Rattle.basket_sets.specs.Itemset.{IsRising, has, rising}
 use Rattle.basket_sets.proofs.theory.Members.{Member, Contains-from_Member, Member-filter, Member-from_filter, Member-from_map, Member-map, at_Member}
-use Rattle.basket_sets.proofs.theory.Rising.{Member-from_has, has-from_Member, has_place, same_test}
+use Rattle.basket_sets.proofs.theory.Rising.{Member-from_has, has-from_Member, has-rising, has_place, same_test}
 use Rattle.basket_sets.proofs.theory.Tests.{rising_at}
 use Rattle.mine_supports.specs.UsedItems.{AreNumbers}
+
+-- by a name without a dash, which a list of the source's can have
+pub has_rising : (numbers : List ℕ) (item : ℕ) → has (rising numbers) item ≡ has numbers item
+has_rising = has-rising
 
 pub nowhere : (items : List ℕ) (item : ℕ) → ((k : ℕ) → k < length items → get_or items k 0 ≢ item) → has items item ≡ false
 nowhere items item none = elim (cases_Bool (has items item)) [
@@ -56,14 +60,12 @@ pub number_more : (used items numbers : List ℕ) (i number : ℕ) → i < lengt
 number_more used items numbers i number here within is are = record {
   below = All-push (λ n. n < length used) numbers number are.below within;
   named = map-append (λ n. get_or used n 0) numbers (number ∷ []) ∙ (λ k. are.named k ++ is k ∷ [])
-      ∙ sym (ap (filter (has used)) (take_more items i 0 here) ∙ filter-append (has used) (take i items) (get_or items i 0 ∷ [])
-      ∙ ap (λ b. filter (has used) (take i items) ++ cond b (get_or items i 0 ∷ []) []) (ap (has used) (sym is) ∙ has_place used number within));
+      ∙ sym (filter_more (has used) items i 0 here ∙ ap (λ b. filter (has used) (take i items) ++ cond b (get_or items i 0 ∷ []) []) (ap (has used) (sym is) ∙ has_place used number within));
 }
 
 pub no_number_more : (used items numbers : List ℕ) (i : ℕ) → i < length items → has used (get_or items i 0) ≡ false → AreNumbers used (take i items) numbers → AreNumbers used (take (i + 1) items) numbers
 no_number_more used items numbers i here none are = record {
   below = are.below;
   named = are.named
-      ∙ sym (ap (filter (has used)) (take_more items i 0 here) ∙ filter-append (has used) (take i items) (get_or items i 0 ∷ [])
-      ∙ ap (λ b. filter (has used) (take i items) ++ cond b (get_or items i 0 ∷ []) []) none ∙ append-nil (filter (has used) (take i items)));
+      ∙ sym (filter_more (has used) items i 0 here ∙ ap (λ b. filter (has used) (take i items) ++ cond b (get_or items i 0 ∷ []) []) none ∙ append-nil (filter (has used) (take i items)));
 }

@@ -2,7 +2,7 @@ use Rattle.std.proofs.Common.{◌≡◌, ap, length, subst, ◌∙◌}
 use Rattle.std.specs.Prelude.{replicate}
 use Rattle.std.proofs.lemmas.List.{take_at}
 use Rattle.mine_supports.specs.Counter.{WithSupports}
-use Rattle.mine_supports.proofs.SupportLemmas.{counts_are_supports}
+use Rattle.mine_supports.proofs.CounterLemmas.{counts_are_supports}
 use Rattle.mine_supports.specs.Extensions.{sets_of}
 use Rattle.mine_supports.proofs.shard.count_extensions.Goals as goal
 

@@ -1,50 +1,46 @@
-use Rattle.std.proofs.Common.{[], ◌∷◌, ◌++◌, ℕ, ◌+◌, ◌<◌, get_or, length, refl, sym, ap, ◌∙◌, arith}
-use Rattle.std.proofs.lemmas.List.{get_or-map, length-map}
-use Rattle.basket_sets.specs.Support.{support_of}
+use Rattle.std.proofs.Common.{◌≡◌, [], ◌∷◌, ◌++◌, ◌+◌, ◌<◌, get_or, length, take, refl, sym, ap, ◌∙◌, subst, arith}
+use Rattle.std.proofs.Math.ListN.{set as set_at}
+use Rattle.std.proofs.lemmas.List.{length-map, length-take, map-append, take_all, take_more}
 use Rattle.basket_sets.proofs.theory.Support.{support_falls}
 use Rattle.mine_supports.specs.BlockCounts.{placed}
-use Rattle.mine_supports.proofs.CounterLemmas.{one_added, others_stay}
+use Rattle.mine_supports.specs.Counter.{AreAdded}
+use Rattle.mine_supports.specs.Extensions.{extend}
+use Rattle.mine_supports.proofs.CounterLemmas.{more_added, none_yet, one_added}
 use Rattle.mine_supports.proofs.block.Block.add_weights.Goals as goal
+
+pub loop-number-init : goal.loop-number-init
+loop-number-init c set are = none_yet (placed c.args.self.now) c.args.start c.args.counts.now
 
 pub overflow_add-counts-in-loop-number : goal.overflow_add-counts-in-loop-number
 overflow_add-counts-in-loop-number c =
-    let baskets = placed c.args.self.now in
-    let at : ℕ = c.args.start + c.loop-number.number in
+    let items = c.args.items.now in
+    let number = c.loop-number.number in
     let set = c.requires.places.0 in
     let is = c.weight.ensures set c.requires.places.1 in
-    let falls = support_falls baskets (set ++ get_or c.args.items.now c.loop-number.number 0 ∷ []) [] refl in
-    let same = c.loop-number.invariant.after at (omega arith) in
-    let light = c.requires.light c.loop-number.number c.loop-number-test.true in
+    let falls = support_falls (placed c.args.self.now) (set ++ get_or items number 0 ∷ []) [] refl in
+    let same = (c.loop-number.invariant set c.requires.places.1).after (c.args.start + number) (omega (arith, length-map (take number items) (λ item. set ++ item ∷ []), length-take number items)) in
+    let light = c.requires.light number c.loop-number-test.true in
     record { fits = omega (arith, is, falls, same, light) }
 
 pub loop-number-preserved : goal.loop-number-preserved
-loop-number-preserved c =
+loop-number-preserved c set are =
     let baskets = placed c.args.self.now in
     let items = c.args.items.now in
     let start = c.args.start in
     let number = c.loop-number.number in
-    let old = c.args.counts.now in
     let counts = c.loop-number.counts in
-    let inv = c.loop-number.invariant in
-    let within : start + number < length counts = omega (arith, c.requires.within, c.loop-number-test.true, c.loop-number.auto.counts) in
-    record {
-      added = λ set are. one_added baskets set items start old counts number c.weight.result within (c.weight.ensures set are) (inv.added set are) (inv.after (start + number) (omega arith));
-      before = λ k below. others_stay old counts (start + number) _ k (λ e. absurd (omega (arith, e, below))) (inv.before k below);
-      after = λ k from. others_stay old counts (start + number) _ k (λ e. absurd (omega (arith, e, from))) (inv.after k (omega (arith, from)));
-    }
+    let here = c.loop-number-test.true in
+    let longer = set ++ get_or items number 0 ∷ [] in
+    let more : extend set (take (number + 1) items) ≡ extend set (take number items) ++ longer ∷ [] =
+    ap (extend set) (take_more items number 0 here) ∙ map-append (λ item. set ++ item ∷ []) (take number items) (get_or items number 0 ∷ []) in
+    let at : start + number ≡ start + length (extend set (take number items)) = omega (arith, here, length-map (take number items) (λ item. set ++ item ∷ []), length-take number items) in
+    let new = set_at counts (start + number) (get_or counts (start + number) 0 + c.weight.result) in
+    let within : start + number < length counts = omega (arith, c.requires.within, here, c.loop-number.auto.counts) in
+    subst (λ s. AreAdded s baskets start c.args.counts.now new) (sym more)
+    (more_added (extend set (take number items)) (longer ∷ []) baskets start c.args.counts.now counts new (c.loop-number.invariant set are)
+    (subst (λ n. AreAdded (longer ∷ []) baskets n counts new) at (one_added baskets longer (start + number) c.weight.result counts within (c.weight.ensures set are))))
 
 pub returns : goal.returns
 returns c set are =
-    let baskets = placed c.args.self.now in
-    let items = c.args.items.now in
-    let start = c.args.start in
-    let inv = c.loop-number.invariant in
-    let long = length-map items (λ item. set ++ item ∷ []) in
-    record {
-      added = λ k inside.
-          let below : k < length items = omega (arith, inside, long) in
-          inv.added set are k (omega (arith, below, c.loop-number-test.false))
-          ∙ ap (λ s. get_or c.args.counts.now (start + k) 0 + support_of baskets s) (sym (get_or-map (λ item. set ++ item ∷ []) items k 0 [] below));
-      before = inv.before;
-      after = λ k from. inv.after k (omega (arith, from, long, c.loop-number.auto.number-end));
-    }
+    subst (λ l. AreAdded (extend set l) (placed c.args.self.now) c.args.start c.args.counts.now c.loop-number.counts) (take_all c.loop-number.number c.args.items.now (omega (arith, c.loop-number-test.false)))
+    (c.loop-number.invariant set are)

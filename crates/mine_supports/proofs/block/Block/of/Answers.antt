@@ -1,6 +1,7 @@
 use Rattle.std.proofs.Common.{◌≡◌, ◌+◌, ◌*◌, ◌++◌, ◌∷◌, [], cond, filter, get_or, length, take, append-nil, subst, sym, ap, ◌∙◌, arith}
 use Rattle.std.proofs.lemmas.Bool.{le-leb, lt-leb}
 use Rattle.std.proofs.lemmas.List.{length-map, length_push}
+use Rattle.std.proofs.lemmas.List.Elements.{filter_more}
 use Rattle.std.proofs.lemmas.List.Sums.{sum_by-take-le}
 use Rattle.basket_sets.specs.Itemset.{has}
 use Rattle.basket_sets.specs.Support.{weight_at}
@@ -8,7 +9,7 @@ use Rattle.mine_supports.specs.Needed.{is_needed, needed}
 use Rattle.mine_supports.specs.TidWord.{ArePlacesOf}
 use Rattle.mine_supports.specs.Rows.{AreRows}
 use Rattle.mine_supports.specs.UsedItems.{AreNumbers}
-use Rattle.mine_supports.proofs.NeededLemmas.{needed_more, needed_total}
+use Rattle.mine_supports.proofs.NeededLemmas.{needed_total}
 use Rattle.mine_supports.proofs.PlaceLemmas.{all_more}
 use Rattle.mine_supports.proofs.block.Block.of.Goals as goal
 use Rattle.mine_supports.proofs.block.Block.of.Goals.{then-len-least+in_ok-add_place, else-len-least}
@@ -25,7 +26,7 @@ loop-read-preserved c =
     let numbers = subst (λ l. AreNumbers used l c.put_numbers.new.numbers.items) c.items.ensures.items c.in_ok-put_numbers.ensures in
     let count = sym (length-map c.put_numbers.new.numbers.items (λ n. get_or used n 0)) ∙ ap length numbers.named in
     let tested = ap (is_needed used least) (sym c.index-baskets-read.is) in
-    let more = needed_more used least baskets read basket c.loop-read-test.true in
+    let more = filter_more (is_needed used least) baskets read basket c.loop-read-test.true in
     elim c.if-len-least.branch [
       | then-len-least+in_ok-add_place w ↦
           (let one : needed used least (take (read + 1) baskets) ≡ kept ++ basket ∷ [] =

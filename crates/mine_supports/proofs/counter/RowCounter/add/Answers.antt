@@ -1,12 +1,7 @@
-use Rattle.std.proofs.Common.{◌-◌, ◌≤◌, ℕ, drop, length, refl, arith}
+use Rattle.std.proofs.Common.{◌-◌, ◌≤◌, ℕ, drop, length, arith}
 use Rattle.std.proofs.lemmas.List.{length-take, take-take}
-use Rattle.mine_supports.proofs.CounterLemmas.{block_fits, supports_joined}
+use Rattle.mine_supports.proofs.CounterLemmas.{supports_joined}
 use Rattle.mine_supports.proofs.counter.RowCounter.add.Goals as goal
-
-pub add_block-requires-clause-light : goal.add_block-requires-clause-light
-add_block-requires-clause-light c =
-    block_fits c.args.self.now c.args.baskets.now _ c.loop-start.start _ refl c.args.counts.now c.loop-start.counts c.loop-start.auto.counts c.loop-start.invariant.added
-    c.requires.long c.requires.light
 
 pub loop-start-preserved : goal.loop-start-preserved
 loop-start-preserved c =

@@ -1,6 +1,6 @@
-use Rattle.std.proofs.Common.{◌≡◌, ◌<◌, ◌+◌, ◌-◌, [], ℕ, List, true, get_or, length, take, refl, subst, sym, ap, ◌∙◌, arith}
+use Rattle.std.proofs.Common.{◌≡◌, ◌<◌, ◌+◌, ◌-◌, [], ℕ, true, get_or, length, take, refl, subst, sym, ap, ◌∙◌, arith}
 use Rattle.std.proofs.lemmas.Bool.{true≢false}
-use Rattle.std.proofs.lemmas.List.{get_or-map, get_or_default, take_all}
+use Rattle.std.proofs.lemmas.List.{get_or_default, take_all}
 use Rattle.std.proofs.lemmas.List.Sums.{sum_by-take-le}
 use Rattle.basket_sets.specs.Itemset.{contains}
 use Rattle.basket_sets.specs.Support.{support_of, total_of, weight_at}
@@ -8,13 +8,12 @@ use Rattle.mine_supports.specs.BlockCounts.{placed}
 use Rattle.mine_supports.specs.Needed.{IsAtLeast}
 use Rattle.mine_supports.specs.Prefixes.{ArePrefixes}
 use Rattle.mine_supports.specs.Counter.{AreAdded, IsShared}
-use Rattle.mine_supports.specs.Extensions.{extend, groups_of, lists_of, prefixes_of, sets_of}
-use Rattle.mine_supports.specs.UsedItems.{AreUsed}
+use Rattle.mine_supports.specs.Extensions.{extend, groups_of, sets_of}
 use Rattle.mine_supports.proofs.PrefixLemmas.{prefixes_shared}
-use Rattle.mine_supports.proofs.CounterLemmas.{added_more, next_start, next_within, rest_more, some_list}
+use Rattle.mine_supports.proofs.CounterLemmas.{all_added, group_added, next_start, next_within, none_yet, some_list}
 use Rattle.mine_supports.proofs.theory.Extensions.{groups_back, groups_long, items_read, lists_long, no_group, prefix_read}
 use Rattle.mine_supports.proofs.NeededLemmas.{needed_support, needed_total, sets_used}
-use Rattle.mine_supports.proofs.PlaceLemmas.{set_used}
+use Rattle.mine_supports.proofs.PlaceLemmas.{list_used}
 use Rattle.mine_supports.proofs.counter.RowCounter.add_block.Goals as goal
 use Rattle.mine_supports.proofs.counter.RowCounter.add_block.Goals.{After-add-arg-1}
 
@@ -29,8 +28,7 @@ loop-number-init c =
     let first = get_or c.prefixes-prefixes.result.now 0 [] in
     record {
       starts = refl;
-      added = λ k below. absurd (omega (arith, below));
-      rest = λ k from. refl;
+      added = none_yet (placed c.in_ok-block.block) 0 c.args.counts.now;
       prefixes = c.in_ok-shared.ensures first;
     }
 
@@ -50,21 +48,13 @@ prefix_is c = prefix_read c.self.inside.sets.now c.prefixes-prefixes.result.now 
 
 pub add-requires-clause-used : goal.add-requires-clause-used
 add-requires-clause-used c =
-    let groups = c.self.inside.sets.now in
-    let number = c.loop-number.number in
-    let used = subst (AreUsed (prefixes_of groups)) (sym c.in_ok-block.ensures.used.0) c.self.invariant.0 in
-    let at = get_or-map (λ group. group.prefix) groups number no_group [] (below c) in
-    subst (λ l. contains c.in_ok-block.block.used.now l ≡ true) (sym (c.items-in-loop-number-2.ensures.items ∙ prefix_is c ∙ sym at))
-    (set_used (prefixes_of groups) c.in_ok-block.block.used.now number used (omega (arith, below c, groups_long groups)))
+    list_used c.self.inside.sets.now (λ group. group.prefix) c.self.inside.used c.in_ok-block.block.used.now c.loop-number.number c.items-in-loop-number-2.result.now
+    c.self.invariant.0 c.in_ok-block.ensures.used.0 (below c) (c.items-in-loop-number-2.ensures.items ∙ prefix_is c)
 
 pub add-requires-clause-items_used : goal.add-requires-clause-items_used
 add-requires-clause-items_used c =
-    let groups = c.self.inside.sets.now in
-    let number = c.loop-number.number in
-    let used = subst (AreUsed (lists_of groups)) (sym c.in_ok-block.ensures.used.0) c.self.invariant.1 in
-    let at = get_or-map (λ group. group.items) groups number no_group [] (below c) in
-    subst (λ l. contains c.in_ok-block.block.used.now l ≡ true) (sym (c.items-in-loop-number-3.ensures.items ∙ list_is c ∙ sym at))
-    (set_used (lists_of groups) c.in_ok-block.block.used.now number used (omega (arith, below c, lists_long groups)))
+    list_used c.self.inside.sets.now (λ group. group.items) c.self.inside.used c.in_ok-block.block.used.now c.loop-number.number c.items-in-loop-number-3.result.now
+    c.self.invariant.1 c.in_ok-block.ensures.used.0 (below c) (c.items-in-loop-number-3.ensures.items ∙ list_is c)
 
 pub add-requires-clause-prefixes : goal.add-requires-clause-prefixes
 add-requires-clause-prefixes c =
@@ -91,7 +81,8 @@ add-requires-clause-light c = λ k inside.
     let at : ℕ = c.loop-number.start + k in
     let long = ap length (c.items-in-loop-number-3.ensures.items ∙ list_is c) in
     let light = c.requires.light at (omega (arith, within, inside, long, c.requires.long, ap length c.self.view_is)) in
-    let same = c.loop-number.invariant.rest at (omega arith) in
+    let inv = c.loop-number.invariant in
+    let same = inv.added.after at (omega (arith, inv.starts)) in
     let block = c.in_ok-block.block in
     let few = needed_total block.used.now block.least block.baskets.now in
     let part = ap total_of c.in_ok-block.ensures.baskets in
@@ -117,15 +108,13 @@ loop-number-preserved c =
     let here = below before in
     let prefix = c.items-in-loop-number-2.ensures.items ∙ prefix_is before in
     let items = c.items-in-loop-number-3.ensures.items ∙ list_is before in
-    let long : start + c.len-start.result ≡ start + length (get_or groups number no_group).items = ap (λ n. start + n) (c.len-start.ensures ∙ ap length (list_is before)) in
+    let long = ap (λ n. start + n) (c.len-start.ensures ∙ ap length (list_is before)) in
     let same = (λ i. groups_of (c.prefixes-prefixes.ensures i) (c.lists-items-items.ensures i)) ∙ groups_back groups in
-    let now = subst (λ s. AreAdded s baskets start counts new) (λ i. extend (prefix i) (items i)) c.in_ok-add.ensures.supports in
-    let added = subst (λ (sets : List (List ℕ)). (k : ℕ) → k < start → get_or counts k 0 ≡ get_or old k 0 + support_of baskets (get_or sets k [])) (sym c.self.view_is) c.loop-number.invariant.added in
     record {
       starts = long ∙ next_start groups number start no_group here (starts before) ∙ ap (λ l. length (sets_of (take (number + 1) l))) (sym same);
-      added = subst (λ (sets : List (List ℕ)). (k : ℕ) → k < start + c.len-start.result → get_or new k 0 ≡ get_or old k 0 + support_of baskets (get_or sets k [])) c.self.view_is
-          (λ k less. added_more groups number start no_group here (starts before) baskets old counts new now c.loop-number.invariant.rest added k (omega (arith, less, long)));
-      rest = λ k from. rest_more groups number start no_group here (starts before) baskets old counts new now c.loop-number.invariant.rest k (omega (arith, from, long));
+      added = subst (λ g. AreAdded (sets_of (take (number + 1) g)) baskets 0 old new) (sym same)
+          (group_added groups number start no_group here (starts before) baskets old counts new (subst (λ g. AreAdded (sets_of (take number g)) baskets 0 old counts) same c.loop-number.invariant.added)
+          (subst (λ s. AreAdded s baskets start counts new) (λ i. extend (prefix i) (items i)) c.in_ok-add.ensures.supports));
       prefixes =
           let one : number ≡ number + 1 - 1 = omega arith in
           let at = get_or_default c.prefixes-prefixes.result.now number c.index-prefixes-number.result [] (omega (arith, here, ap length c.prefixes-prefixes.ensures, groups_long groups)) in
@@ -140,13 +129,12 @@ returns-clause-added c k inside within =
     let block = c.in_ok-block.block in
     let same = (λ i. groups_of (c.prefixes-prefixes.ensures i) (c.lists-items-items.ensures i)) ∙ groups_back groups in
     let end = take_all number groups (omega (arith, c.loop-number-test.false, ap length c.lists-items-items.ensures, lists_long groups)) in
-    let all = c.loop-number.invariant.starts ∙ ap (λ l. length (sets_of (take number l))) same ∙ ap (λ l. length (sets_of l)) end in
+    let all = ap (λ l. sets_of (take number l)) same ∙ ap sets_of end in
+    let added = all_added (sets_of groups) (placed block) c.args.counts.now c.loop-number.counts (subst (λ s. AreAdded s (placed block) 0 c.args.counts.now c.loop-number.counts) all c.loop-number.invariant.added) in
     let here : k < length (sets_of groups) = omega (arith, inside, ap length c.self.view_is) in
     let used = c.in_ok-block.ensures.used in
     let uses = subst (λ u. contains u (get_or (sets_of groups) k []) ≡ true) (sym used.0) (sets_used groups c.self.inside.used c.self.invariant.0 c.self.invariant.1 k [] here) in
     let is = subst (λ n. IsAtLeast n (get_or (sets_of groups) k [])) (sym used.1) (c.self.invariant.2 k [] here) in
-    let supports = needed_support block.used.now block.least (get_or (sets_of groups) k []) uses is block.baskets.now in
-    c.loop-number.invariant.added k (omega (arith, here, all))
+    added k here within
     ∙ ap (λ n. get_or c.args.counts.now k 0 + n)
-    (ap (λ (l : List (List ℕ)). support_of (placed block) (get_or l k [])) (sym c.self.view_is) ∙ supports
-    ∙ (λ i. support_of (c.in_ok-block.ensures.baskets i) (get_or (c.self.view_is i) k [])))
+    (needed_support block.used.now block.least (get_or (sets_of groups) k []) uses is block.baskets.now ∙ (λ i. support_of (c.in_ok-block.ensures.baskets i) (get_or (c.self.view_is i) k [])))

@@ -1,12 +1,9 @@
-use Rattle.std.proofs.Common.{◌≡◌, ◌+◌, ◌<◌, ℕ, List, length, sym, ap, ◌∙◌, arith}
+use Rattle.std.proofs.Common.{◌≡◌, ◌+◌, ◌<◌, length, ap, arith}
 use Rattle.std.specs.Prelude.{slice_range}
-use Rattle.mine_supports.specs.Extensions.{Group, groups_of, lists_of, sets_of}
-use Rattle.mine_supports.proofs.theory.Extensions.{count_more, count_within, items_read, lists_back, lists_long, no_group}
+use Rattle.mine_supports.specs.Extensions.{sets_of}
+use Rattle.mine_supports.proofs.theory.Extensions.{count_more, count_within, items_read, lists_are, lists_long, no_group}
 use Rattle.mine_supports.proofs.extensions.Extensions.count_in.Goals as goal
 use Rattle.mine_supports.proofs.extensions.Extensions.count_in.Goals.{After-len-count}
-
-lists_are : (prefixes lists : List (List ℕ)) (groups : List Group) → length lists ≡ length prefixes → groups_of prefixes lists ≡ groups → lists ≡ lists_of groups
-lists_are prefixes lists groups same is = sym (lists_back prefixes lists same) ∙ ap lists_of is
 
 pub index-requires : goal.index-requires
 index-requires c = omega (arith, c.loop-place-test.true, c.requires, ap length (lists_are c.self.inside.prefixes.items c.self.inside.lists.items c.args.self.now c.self.invariant.0 c.self.view_is), lists_long c.args.self.now)
