@@ -14,6 +14,9 @@ use mine_baskets::span::{BASKETS_AHEAD, Span, read_ahead};
 use mine_baskets::words::{WORD_RANKS, Word, add, bit_of};
 use std::alloc::{AllocError, Global};
 
+/// A list of at most this many ranks is in the nearest cache, so nothing is read ahead.
+pub const NEAR_RANKS: usize = 16_384;
+
 /// Sets the bit of each rank's place in the list.
 pub fn set_bits(of: &mut [u64], kept: &[u32])
     requires none { of.old ≡ replicate (length of.old) 0 }
@@ -66,8 +69,9 @@ pub fn words_of(
 {
     let mut words = Vec::with_capacity(alloc, baskets.len())?;
     let mut end_ranks = [0u32; BASKETS_AHEAD];
+    let is_far = ranks.len() > NEAR_RANKS;
     for (place, basket) in baskets.iter().enumerate() {
-        if place % BASKETS_AHEAD == 0 {
+        if is_far && place % BASKETS_AHEAD == 0 {
             end_ranks = read_ahead(ranks, &baskets[place..]);
         }
         // What was read has bits in the table: it never asks for room.

@@ -8,7 +8,7 @@ ghost use Rattle.mine_baskets.specs.ListBaskets.{AreRankBaskets, HaveSameWeights
 ghost use Rattle.mine_conditional.specs.LocalNumbers.{ArePlaces, by_table, table_places};
 ghost use Rattle.mine_baskets.specs.Span.{IsWithin, baskets_at};
 
-use crate::bit_table::{clear_bits, set_bits, words_of};
+use crate::bit_table::{NEAR_RANKS, clear_bits, set_bits, words_of};
 use crate::conditional::Conditional;
 use mine_baskets::span::{BASKETS_AHEAD, Span, place, read_ahead};
 use mine_baskets::words::WORD_RANKS;
@@ -184,8 +184,9 @@ fn coded_spans(
     let mut spans = Vec::with_capacity(alloc, baskets.len())?;
     let mut end_ranks = [0u32; BASKETS_AHEAD];
     let mut end = 0;
+    let is_far = ranks.len() > NEAR_RANKS;
     for (number, basket) in baskets.iter().enumerate() {
-        if number % BASKETS_AHEAD == 0 {
+        if is_far && number % BASKETS_AHEAD == 0 {
             end_ranks = read_ahead(ranks, &baskets[number..]);
         }
         // What was read has a slot: it never asks for room.

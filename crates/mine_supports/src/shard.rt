@@ -6,7 +6,7 @@ ghost use Rattle.mine_supports.specs.Extensions.{sets_of};
 
 use crate::counter::RowCounter;
 use crate::extensions::Extensions;
-use basket_sets::{Itemset, Weighted};
+use basket_sets::{Itemset, Weighted, weight_of};
 use std::alloc::{AllocError, Global};
 
 /// The support of each set in the baskets. The sets may come in any order and have any sizes.
@@ -44,16 +44,4 @@ pub fn count_extensions(
     let mut counts = vec![in alloc; 0; sets.len()]?;
     RowCounter::of(alloc, sets)?.add(alloc, baskets, &mut counts)?;
     Ok(counts)
-}
-
-/// What the baskets weigh together.
-fn weight_of(baskets: &[Weighted]) -> u64
-    requires { total_of baskets.now ≤ MOST_WEIGHT }
-    ensures { result ≡ total_of baskets.now }
-{
-    let mut weight = 0;
-    for basket in baskets {
-        weight += basket.weight;
-    }
-    weight
 }
