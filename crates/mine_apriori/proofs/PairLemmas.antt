@@ -16,7 +16,6 @@ use Rattle.std.proofs.lemmas.List.Sorted.{All-permutation, IsPermutation-map}
 use Rattle.std.proofs.lemmas.Map.Keys.{IsDistinct-from_sorted}
 use Rattle.std.proofs.lemmas.Simd.{map-map}
 use Rattle.basket_ranks.specs.Codes.{Coding, IsCoding}
-use Rattle.basket_ranks.proofs.theory.Added.{map_members}
 use Rattle.basket_ranks.proofs.theory.Decoding.{ranks_below}
 use Rattle.basket_sets.specs.declared.weighted.Weighted.{Weighted}
 use Rattle.basket_sets.specs.declared.minimum.Minimum.TheVariants.{Count}
@@ -41,6 +40,11 @@ use Rattle.mine_supports.proofs.theory.Grouped.{at_each, one_rises}
 use Rattle.mine_apriori.proofs.JoinLemmas.{rises_after}
 use Rattle.mine_apriori.proofs.PruneLemmas.{Member-flat_map, Member-into_flat_map}
 use Rattle.mine_apriori.proofs.LevelsLemmas.{from_level, into_level, items_rise}
+
+-- functions that agree on the members of a list give one list
+map_members : {X Y : Type 0} (f g : X → Y) (xs : List X) → ((x : X) → Member x xs → f x ≡ g x) → map f xs ≡ map g xs
+map_members f g [] same = refl
+map_members f g (x ∷ xs) same = let first = same x (inl refl) in let rest = map_members f g xs (λ y m. same y (inr m)) in λ i. first i ∷ rest i
 
 -- ---- a least support
 
