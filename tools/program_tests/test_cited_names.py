@@ -72,3 +72,30 @@ class CitedNames(unittest.TestCase):
         cited = set(re.findall(r"`(\w+\.rt)`", text_of("DECISIONS")))
         self.assertGreater(len(cited), 50)
         self.assertEqual(cited - there, set())
+
+
+def examples() -> dict[str, str]:
+    """The example in the first lines of each crate that has one."""
+    found = {}
+    for path in (ROOT / "crates").glob("*/src/lib.rt"):
+        text = path.read_text(encoding="utf-8")
+        for example in re.findall(r"(?m)^//! ```\n((?://!.*\n)+?)//! ```$", text):
+            found[path.parts[-3]] = stripped(example.replace("//!", ""))
+    return found
+
+
+def stripped(text: str) -> str:
+    return "".join(f"{line.strip()}\n" for line in text.splitlines())
+
+
+class Examples(unittest.TestCase):
+    """The first lines of a crate show calls that a test makes, so that the gate compiles, proves and runs them."""
+
+    def test_each_example_of_a_crate_stands_in_a_test(self) -> None:
+        paths = (ROOT / "crates").glob("*/src/tests/*.rt")
+        tests = [stripped(path.read_text(encoding="utf-8")) for path in paths]
+        shown = examples()
+        self.assertGreaterEqual(len(shown), 10)
+        for crate, example in shown.items():
+            with self.subTest(crate=crate):
+                self.assertTrue(any(f"\n{example}" in test for test in tests), example)

@@ -1,4 +1,10 @@
 //! From the bytes of an input to the bytes of a report.
+//!
+//! ```
+//! let database = read_fimi(alloc, &mut SliceSource::new(text))?;
+//! let plan = Plan::of(Ask::Sets, Minimum::Count(2));
+//! let (frequent, _) = mine(rt, alloc, &database, &plan, &Open)?;
+//! ```
 #![tactic(auto)]
 
 mod count;

@@ -1,5 +1,12 @@
 //! The list of the frequent sets, and fractions. The names of the crates below come with it: ranks
 //! and coded baskets, itemsets, databases and minimums, sources and sinks, and the limit on the list.
+//!
+//! ```
+//! for found in frequent.sets().iter(alloc) {
+//!     let found = found?;
+//!     writeln!(lines, "{:?}: {} of {total}", found.set.items(), found.count)?;
+//! }
+//! ```
 #![tactic(auto)]
 
 mod compare;

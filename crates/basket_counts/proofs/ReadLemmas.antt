@@ -1,4 +1,5 @@
 -- What a list of some bytes says.
+use Rattle.std.proofs.lemmas.Grind.{common_steps}
 use Rattle.std.proofs.Common.{◌≡◌, ◌≢◌, ℕ, ◌<◌, ◌≤◌, Bool, true, false, cond, ltb, List, [], ◌∷◌, ◌++◌, length, take, min, Option, Some, None, Result, Ok, Err, refl, sym, ap, ◌∙◌, subst, arith}
 use Rattle.std.specs.Prelude.{IfSome, Vec}
 use Rattle.std.proofs.Math.Nat.{min_comm}
@@ -78,16 +79,13 @@ unread bytes = at (first_fault (text_of (take MOST_BYTES bytes))) (ltb MOST_BYTE
 
 -- no bytes could be taken in
 pub untaken : (left : Option (List ℕ)) (failed : Bool) (fault : ReadFault) → fault ≡ cond failed Read Memory → Reads AreEntries entries_in IsRead left failed (Err fault)
-untaken left true fault is = (λ working. absurd cc, λ _. is, λ _. refl)
-untaken None false fault is = (λ _. tt, λ broken. absurd cc, λ e. absurd cc)
-untaken (Some bytes) false fault is = (λ _ no_memory. absurd (no_memory is), λ broken. absurd cc, λ e. absurd cc)
+untaken left failed fault h1 = grind (arith, common_steps)
 
 module _ (left : Option (List ℕ)) (failed : Bool) where
   -- what a reader read that did not fail
   module _ {X Y : Type 0} (fits : X → Result Y ReadFault → Type 0) (defined : List ℕ → Result Y ReadFault) where
     working : (result : Result X ReadFault) → failed ≡ false → result ≢ Err Read → IfSome left (λ bytes. ReturnsBy fits result (defined bytes)) → Reads fits defined IsRead left failed result
-    working (Ok read) e other told = (e, told)
-    working (Err fault) e other told = (λ _. told, λ broken. absurd cc, λ is. absurd (other (ap Err is)))
+    working result h1 h2 h3 = grind (arith, common_steps)
 
   -- what bytes say that were taken in
   pub taken : (bytes : List ℕ) (result : Result ListedSets ReadFault) → failed ≡ false → IfSome left (AreTakenOf bytes) → ReturnsBy AreEntries result (entries_in bytes)

@@ -1,22 +1,20 @@
 -- Counted sets that are written are read back.
-use Rattle.std.proofs.Common.{◌≡◌, ℕ, ◌+◌, ◌^◌, ◌<◌, ◌≤◌, Bool, true, false, ◌&&◌, not, leb, eqb, List, [], ◌∷◌, ◌++◌, length, map, filter, take, drop, codes, decimal, cond, Some, None, Ok, refl, sym, ap, ◌∙◌, append_assoc, arith, nat_eq}
+use Rattle.std.proofs.lemmas.Grind.{common_steps}
+use Rattle.std.proofs.Common.{◌≡◌, ℕ, ◌+◌, ◌^◌, ◌<◌, ◌≤◌, Bool, true, false, not, leb, eqb, List, [], ◌∷◌, ◌++◌, length, map, filter, decimal, Some, Ok, refl, sym, ap, ◌∙◌, append_assoc, arith}
 use Rattle.std.specs.Prelude.{All}
 use Rattle.std.specs.List.{list_all, flat_map}
-use Rattle.std.specs.Cmp.Lexicographic.{pointwise}
-use Rattle.std.proofs.lemmas.Bool.{and_parts, and_from, le-leb, le-ltb, leb-true, ne_eqb, not-true}
+use Rattle.std.proofs.lemmas.Bool.{and_parts, and_from, le-ltb, leb-true, ne_eqb, not-true}
 use Rattle.std.proofs.lemmas.List.{append-nil, take_all}
 use Rattle.std.proofs.lemmas.List.Elements.{All-head, All-tail}
-use Rattle.std.proofs.lemmas.List.Folds.{list_all-append, list_all-map}
+use Rattle.std.proofs.lemmas.List.Folds.{list_all-map}
 use Rattle.basket_sets.specs.declared.counted.Counted.{Counted}
 use Rattle.basket_sets.specs.Database.{MOST_WEIGHT}
 use Rattle.basket_sets.specs.Number.{is_digit, value_of}
 use Rattle.basket_sets.proofs.theory.Numerals.{all_push, IsNumeral, numeral}
 use Rattle.basket_sets.proofs.theory.Rising.{rising-rising}
-use Rattle.basket_read.specs.declared.fault.ReadFault.TheVariants.{TooLong}
 use Rattle.basket_read.specs.Cut.{Cut, cut_at}
-use Rattle.basket_read.specs.Fimi.{is_blank, is_line_feed, is_nil, is_number, are_numbers, numbers_of, text_of, or_else, MOST_NUMBER, MOST_BYTES}
-use Rattle.basket_read.specs.Fault.{result_and_then}
-use Rattle.basket_counts.specs.Counts.{is_open, is_close, is_count, is_tail_of, is_tail, is_line_of, is_line, is_good, first_fault, fault_in, entry, count_before, entry_of_parts, entry_of, entries_from, entries_of, counted_before, counts_among, entries_said}
+use Rattle.basket_read.specs.Fimi.{is_blank, is_line_feed, is_nil, is_number, are_numbers, numbers_of, text_of, MOST_NUMBER, MOST_BYTES}
+use Rattle.basket_counts.specs.Counts.{is_open, is_close, is_line, is_good, entry_of, entries_from, counts_among}
 use Rattle.basket_counts.specs.Laws.{items_text, set_line, IsWritten, lines_from, ListsAreReadBack}
 use Rattle.basket_read.proofs.theory.Cuts.{cut, cut_ended, cut_on_by}
 use Rattle.basket_read.proofs.theory.Numbers.{within, digit_is_no_blank}
@@ -25,13 +23,10 @@ use Rattle.basket_counts.proofs.GrammarLemmas.{good_is_faultless}
 -- ---- the digits of a number
 
 not_nil : (word : List ℕ) → 0 < length word → is_nil word ≡ false
-not_nil [] h = absurd (omega (arith, h))
-not_nil (x ∷ xs) h = refl
+not_nil word h1 = grind (arith, common_steps)
 
 number_is : (n bound : ℕ) → n ≤ bound → n < 2 ^ 64 → within bound (decimal n) ≡ true
-number_is n bound below small =
-    let d = numeral n small in let e = d.value in
-    and_from (list_all is_digit (decimal n)) (leb (value_of (decimal n)) bound) d.digits (le-leb (value_of (decimal n)) bound (omega arith))
+number_is n bound below small = let d = numeral n small in let digits = d.digits in let value = d.value in grind (arith, common_steps)
 
 -- ---- cuts of texts without a separator
 
@@ -42,7 +37,7 @@ cut_free : (p : ℕ → Bool) (xs ys : List ℕ) → free p ys ≡ true → cut_
 cut_free p xs ys h = cut_on_by p (λ y. not (p y)) xs ys (λ y other. not-true (p y) other) h
 
 free-append : (p : ℕ → Bool) (xs ys : List ℕ) → free p xs ≡ true → free p ys ≡ true → free p (xs ++ ys) ≡ true
-free-append p xs ys h k = list_all-append (λ x. not (p x)) xs ys ∙ and_from (free p xs) (free p ys) h k
+free-append p xs ys h k = grind (arith, common_steps)
 
 -- a class of bytes that digits and spaces are not in
 record Spares (p : ℕ → Bool) : Type 0 where
@@ -51,8 +46,7 @@ record Spares (p : ℕ → Bool) : Type 0 where
 digits_free : (p : ℕ → Bool) → Spares p → (word : List ℕ) → list_all is_digit word ≡ true → free p word ≡ true
 digits_free p s [] h = refl
 digits_free p s (byte ∷ word) h =
-    let q = and_parts (is_digit byte) (list_all is_digit word) h in
-    and_from (not (p byte)) (free p word) (ap not (s.digit byte q.0)) (digits_free p s word q.1)
+    let q = and_parts (is_digit byte) (list_all is_digit word) h in let other = s.digit byte q.0 in let rest = digits_free p s word q.1 in grind (arith, common_steps)
 
 spares : (k : ℕ) → k < 48 → Spares (λ byte. eqb byte k)
 spares k low = record { digit = λ byte d. let least = leb-true 48 byte (and_parts (leb 48 byte) (leb byte 57) d).0 in ne_eqb byte k (λ e. absurd (omega arith)) }
@@ -63,14 +57,10 @@ cut_texts : {X : Type 0} (p : ℕ → Bool) (text : X → List ℕ) (sep : ℕ) 
 cut_texts p text sep s [] xs h e = ap (cut_at p) (append-nil xs) ∙ (λ i. cut (sym (append-nil (cut_at p xs).ended) i) (e i))
 cut_texts p text sep s (x ∷ items) xs h e =
     let q = and_parts (free p (text x)) (list_all (λ x. free p (text x)) items) h in
-    let ended = (cut_at p xs).ended in
-    let rest = flat_map (λ x. text x ++ sep ∷ []) items in
-    let word : cut_at p (xs ++ text x) ≡ cut ended (text x) = cut_free p xs (text x) q.0 ∙ ap (λ l. cut ended (l ++ text x)) e in
-    let one : cut_at p ((xs ++ text x) ++ sep ∷ []) ≡ cut (ended ++ text x ∷ []) [] = cut_ended p (xs ++ text x) sep s ∙ ap (λ (k : Cut). cut (k.ended ++ k.last ∷ []) []) word in
-    ap (λ l. cut_at p (xs ++ l)) (append_assoc (text x) (sep ∷ []) rest)
-    ∙ ap (cut_at p) (sym (append_assoc (xs ++ text x) (sep ∷ []) rest ∙ append_assoc xs (text x) (sep ∷ rest)))
-    ∙ cut_texts p text sep s items ((xs ++ text x) ++ sep ∷ []) q.1 (ap (λ (k : Cut). k.last) one)
-    ∙ ap (λ (k : Cut). cut (k.ended ++ map text items) []) one ∙ ap (λ l. cut l []) (append_assoc ended (text x ∷ []) (map text items))
+    let word = cut_free p xs (text x) q.0 in
+    let one = cut_ended p (xs ++ text x) sep s in
+    let rest = cut_texts p text sep s items ((xs ++ text x) ++ sep ∷ []) q.1 (ap (λ (k : Cut). k.last) one) in
+    grind (arith, common_steps)
 
 all_pass : {X : Type 0} (P : X → Type 0) (test : X → Bool) → ((x : X) → P x → test x ≡ true) → (xs : List X) → All P xs → list_all test xs ≡ true
 all_pass P test step [] h = refl
@@ -88,8 +78,8 @@ items_free : (p : ℕ → Bool) → Spares p → p 32 ≡ false → (items : Lis
 items_free p s e [] h = refl
 items_free p s e (item ∷ items) h =
     let word = digits_free p s (decimal item) (item_numeral item (All-head IsItem item items h)).digits in
-    free-append p (decimal item ++ 32 ∷ []) (items_text items) (free-append p (decimal item) (32 ∷ []) word (and_from (not (p 32)) true (ap not e) refl))
-    (items_free p s e items (All-tail IsItem item items h))
+    let rest = items_free p s e items (All-tail IsItem item items h) in
+    grind (arith, common_steps)
 
 -- a text of these numbers, which may stand before a count
 record Says (items text : List ℕ) : Type 0 where
@@ -102,8 +92,7 @@ words_are : (items : List ℕ) → All IsItem items → map value_of (filter (λ
 words_are [] h = refl
 words_are (item ∷ items) h =
     let n = item_numeral item (All-head IsItem item items h) in
-    let rest = filter (λ word. not (is_nil word)) (map decimal items ++ [] ∷ []) in
-    ap (λ b. map value_of (cond (not b) (decimal item ∷ rest) rest)) (not_nil (decimal item) n.some) ∙ (λ i. n.value i ∷ words_are items (All-tail IsItem item items h) i)
+    let some = not_nil (decimal item) n.some in let value = n.value in let rest = words_are items (All-tail IsItem item items h) in grind (arith, common_steps)
 
 blank_spares : Spares is_blank
 blank_spares = record { digit = digit_is_no_blank }
@@ -130,10 +119,7 @@ abbrev body : Counted → List ℕ
 body counted = items_text counted.set ++ 40 ∷ tail_of counted.count
 
 line_is : (counted : Counted) → set_line counted ≡ body counted ++ 10 ∷ []
-line_is counted = sym (parts (items_text counted.set) (decimal counted.count))
-  where
-    parts : (items count : List ℕ) → (items ++ 40 ∷ (count ++ 41 ∷ [])) ++ 10 ∷ [] ≡ items ++ codes "(" ++ count ++ codes ")\n"
-    parts items count = simp append_assoc
+line_is counted = grind (arith, common_steps)
 
 module _ (counted : Counted) (written : IsWritten counted) where
   abbrev prefix : List ℕ
@@ -146,35 +132,31 @@ module _ (counted : Counted) (written : IsWritten counted) where
   count_numeral = numeral counted.count (let e = written.count in omega arith)
 
   tail_free : (p : ℕ → Bool) → Spares p → p 41 ≡ false → free p (tail_of counted.count) ≡ true
-  tail_free p s e = free-append p (decimal counted.count) (41 ∷ []) (digits_free p s (decimal counted.count) count_numeral.digits) (and_from (not (p 41)) true (ap not e) refl)
+  tail_free p s e = let digits = digits_free p s (decimal counted.count) count_numeral.digits in grind (arith, common_steps)
 
   tail_cut : cut_at is_close (tail_of counted.count) ≡ cut (decimal counted.count ∷ []) []
   tail_cut =
-      cut_ended is_close (decimal counted.count) 41 refl
-      ∙ ap (λ (k : Cut). cut (k.ended ++ k.last ∷ []) []) (cut_free is_close [] (decimal counted.count) (digits_free is_close (spares 41 (omega arith)) (decimal counted.count) count_numeral.digits))
+      let word = cut_free is_close [] (decimal counted.count) (digits_free is_close (spares 41 (omega arith)) (decimal counted.count) count_numeral.digits) in
+      let end = cut_ended is_close (decimal counted.count) 41 refl in
+      grind (arith, common_steps)
 
   body_cut : cut_at is_open (body counted) ≡ cut (prefix ∷ []) (tail_of counted.count)
   body_cut =
-      ap (cut_at is_open) (sym (append_assoc prefix (40 ∷ []) (tail_of counted.count)))
-      ∙ cut_free is_open (prefix ++ 40 ∷ []) (tail_of counted.count) (tail_free is_open (spares 40 (omega arith)) refl)
-      ∙ ap (λ (k : Cut). cut k.ended (k.last ++ tail_of counted.count))
-      (cut_ended is_open prefix 40 refl ∙ ap (λ (k : Cut). cut (k.ended ++ k.last ∷ []) []) (cut_free is_open [] prefix says.no_open))
+      let items = cut_free is_open [] prefix says.no_open in
+      let opened = cut_ended is_open prefix 40 refl in
+      let tail = cut_free is_open (prefix ++ 40 ∷ []) (tail_of counted.count) (tail_free is_open (spares 40 (omega arith)) refl) in
+      grind (arith, common_steps)
 
   body_good : is_line (body counted) ≡ true
   body_good =
-      ap (λ (k : Cut). is_line_of k.ended k.last) body_cut
-      ∙ and_from (are_numbers prefix) (is_tail (tail_of counted.count)) says.numbers
-      (ap (λ (k : Cut). is_tail_of k.ended k.last) tail_cut
-      ∙ and_from (not (is_nil (decimal counted.count)) && is_count (decimal counted.count)) true
-      (and_from (not (is_nil (decimal counted.count))) (is_count (decimal counted.count)) (ap not (not_nil (decimal counted.count) count_numeral.some))
-      (number_is counted.count MOST_WEIGHT written.count (let e = written.count in omega arith))) refl)
+      let some = not_nil (decimal counted.count) count_numeral.some in
+      let small = number_is counted.count MOST_WEIGHT written.count (let e = written.count in omega arith) in
+      let numbers = says.numbers in let opened = body_cut in let close = tail_cut in grind (arith, common_steps)
 
   body_says : (line : ℕ) → entry_of (body counted) line ≡ record { set = counted.set; count = Some counted.count; line = line } ∷ []
   body_says line =
-      ap (λ (k : Cut). entry_of_parts k.ended k.last line) body_cut
-      ∙ ap (λ (k : Cut). entry (numbers_of prefix) (count_before k.ended) line ∷ []) tail_cut
-      ∙ (λ i. entry (says.values i) (Some (count_numeral.value i)) line ∷ [])
-      ∙ ap (λ set. record { set = set; count = Some counted.count; line = line } ∷ []) (rising-rising counted.set written.rising)
+      let values = says.values in let count = count_numeral.value in let rises = rising-rising counted.set written.rising in
+      let opened = body_cut in let close = tail_cut in grind (arith, common_steps)
 
   body_free : free is_line_feed (body counted) ≡ true
   body_free = free-append is_line_feed prefix (40 ∷ tail_of counted.count) says.no_feed (tail_free is_line_feed (spares 10 (omega arith)) refl)
@@ -191,48 +173,31 @@ text_cut sets written =
 
 text_good : (sets : List Counted) → All IsWritten sets → is_good (text sets) ≡ true
 text_good sets written =
-    ap (λ (k : Cut). list_all is_line (k.ended ++ k.last ∷ [])) (text_cut sets written) ∙ all_push is_line (map body sets) []
-    ∙ and_from (list_all is_line (map body sets)) true (list_all-map is_line body sets ∙ all_pass IsWritten (λ counted. is_line (body counted)) body_good sets written) refl
+    let all = all_pass IsWritten (λ counted. is_line (body counted)) body_good sets written in let parts = text_cut sets written in grind (arith, common_steps, list_all-map is_line body sets)
 
 lines_say : (line : ℕ) (sets : List Counted) → All IsWritten sets → counts_among (entries_from line (map body sets ++ [] ∷ [])) ≡ Ok (lines_from line sets)
 lines_say line [] written = refl
 lines_say line (counted ∷ sets) written =
-    ap (λ l. counts_among (l ++ entries_from (line + 1) (map body sets ++ [] ∷ []))) (body_says counted (All-head IsWritten counted sets written) line)
-    ∙ ap (counted_before counted.set (Some counted.count) line) (lines_say (line + 1) sets (All-tail IsWritten counted sets written))
+    let here = body_says counted (All-head IsWritten counted sets written) line in let rest = lines_say (line + 1) sets (All-tail IsWritten counted sets written) in grind (arith, common_steps)
 
 -- a text that begins with a digit or a parenthesis has no mark
 plain : (word rest : List ℕ) → list_all is_digit word ≡ true → is_nil word ≡ false → text_of (word ++ rest) ≡ word ++ rest
-plain [] rest d some = absurd cc
-plain (byte ∷ word) rest d some =
-    let range = and_parts (leb 48 byte) (leb byte 57) (and_parts (is_digit byte) (list_all is_digit word) d).0 in
-    let high = leb-true byte 57 range.1 in
-    ap (λ x. cond (x && pointwise nat_eq (187 ∷ 191 ∷ []) (take 2 (word ++ rest))) (drop 2 (word ++ rest)) (byte ∷ (word ++ rest))) (ne_eqb 239 byte (λ same. absurd (omega arith)))
+plain word rest h1 h2 = grind (arith, common_steps)
 
 items_plain : (items rest : List ℕ) → All IsItem items → text_of (items_text items ++ 40 ∷ rest) ≡ items_text items ++ 40 ∷ rest
-items_plain [] rest h = refl
-items_plain (item ∷ items) rest h =
-    let n = item_numeral item (All-head IsItem item items h) in
-    let same = first_item (decimal item) (items_text items) rest in
-    ap text_of same ∙ plain (decimal item) (32 ∷ (items_text items ++ 40 ∷ rest)) n.digits (not_nil (decimal item) n.some) ∙ sym same
-  where
-    first_item : (word items rest : List ℕ) → ((word ++ 32 ∷ []) ++ items) ++ 40 ∷ rest ≡ word ++ 32 ∷ (items ++ 40 ∷ rest)
-    first_item word items rest = simp append_assoc
-
-first_count : (items count rest : List ℕ) → (items ++ codes "(" ++ count ++ codes ")\n") ++ rest ≡ items ++ 40 ∷ (count ++ 41 ∷ 10 ∷ rest)
-first_count items count rest = simp append_assoc
+items_plain items rest h1 = grind (arith, common_steps, item_numeral, All-head, plain, not_nil, append_assoc)
 
 text_plain : (sets : List Counted) → All IsWritten sets → text_of (text sets) ≡ text sets
 text_plain [] written = refl
 text_plain (counted ∷ sets) written =
-    let same = first_count (items_text counted.set) (decimal counted.count) (text sets) in
-    ap text_of same ∙ items_plain counted.set (decimal counted.count ++ 41 ∷ 10 ∷ text sets) (All-head IsWritten counted sets written).items ∙ sym same
+    let this = items_plain counted.set (decimal counted.count ++ 41 ∷ 10 ∷ text sets) (All-head IsWritten counted sets written).items in grind (arith, common_steps)
 
 pub lists_are_read_back : ListsAreReadBack
 lists_are_read_back sets written few =
     let all = take_all MOST_BYTES (text sets) few in
     let same = text_plain sets written in
-    let none : fault_in (text sets) ≡ None =
-    ap (λ b. or_else (first_fault (text_of (take MOST_BYTES (text sets)))) (cond b (Some TooLong) None)) (le-ltb MOST_BYTES (length (text sets)) few)
-    ∙ ap (λ l. or_else (first_fault l) None) (ap text_of all ∙ same) ∙ ap (λ f. or_else f None) ((good_is_faultless (text sets)).0 (text_good sets written)) in
-    (λ i. result_and_then counts_among (entries_said (none i) (entries_of (same i))))
-    ∙ ap (λ (k : Cut). counts_among (entries_from 1 (k.ended ++ k.last ∷ []))) (text_cut sets written) ∙ lines_say 1 sets written
+    let none = (good_is_faultless (text sets)).0 (text_good sets written) in
+    let parts = text_cut sets written in
+    let say = lines_say 1 sets written in
+    let short = le-ltb MOST_BYTES (length (text sets)) few in
+    grind (arith, common_steps)

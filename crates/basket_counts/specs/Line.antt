@@ -59,24 +59,9 @@ abbrev pub IsTaken : Bool → SetLine → List ℕ → Type 0
 IsTaken true line bytes = IsLineSoFar line bytes
 IsTaken false line bytes = is_line bytes ≡ false
 
--- a tail after a digit, after a blank and after a `)`, if they can stand there
-abbrev pub digit_added : CountSuffix → ℕ → Option CountSuffix
-digit_added Absent digit = None
-digit_added Opened digit = Some (Count digit)
-digit_added (Count count) digit = if nat_le (count * 10 + digit) MOST_WEIGHT then Some (Count (count * 10 + digit)) else None
-digit_added (Closed count) digit = None
-
-abbrev pub blank_added : CountSuffix → Option CountSuffix
-blank_added Absent = None
-blank_added Opened = None
-blank_added (Count count) = None
-blank_added (Closed count) = Some (Closed count)
-
-abbrev pub close_added : CountSuffix → Option CountSuffix
-close_added Absent = None
-close_added Opened = None
-close_added (Count count) = Some (Closed count)
-close_added (Closed count) = None
+-- a count with one digit more, if it is not above the bound
+abbrev pub count_with : ℕ → ℕ → Option CountSuffix
+count_with count digit = if nat_le (count * 10 + digit) MOST_WEIGHT then Some (Count (count * 10 + digit)) else None
 
 -- whether the line has a `(`
 abbrev pub is_there : CountSuffix → Bool

@@ -50,6 +50,7 @@ impl SetLine {
 
     /// Takes digits and blanks of numbers from the beginning of the bytes, as `Numbers::take_run` does.
     #[inline(always)]
+    #[tactic(auto, using(std::proofs::lemmas::Grind::common_steps, crate::proofs::LineLemmas::numbers_on))]
     pub fn take_run(&mut self, bytes: &[u8]) -> Result<usize, AllocError>
         ensures within { IfOk result (λ taken. taken ≤ length bytes.now) }
         ensures line { (line : List ℕ) → IsLineSoFar self.old line →

@@ -47,6 +47,7 @@ impl ListedSets {
 
     /// Adds the set of a line.
     #[inline(always)]
+    #[tactic(auto, using(std::proofs::lemmas::Grind::common_steps, crate::proofs::ListedLemmas::uncounted_append))]
     pub fn add(&mut self, set: Itemset, count: Option<u64>, line: u32) -> Result<(), AllocError>
         ensures { (entries : List ListedSet) → HasEntries self.old entries →
             OnOk result (HasEntries self.new (entries ++ record { set = set; count = count; line = line } ∷ [])) }
@@ -61,6 +62,7 @@ impl ListedSets {
     }
 
     /// Adds what the lines after these say.
+    #[tactic(auto, using(std::proofs::lemmas::Grind::common_steps, crate::proofs::ListedLemmas::uncounted_append))]
     pub fn append(&mut self, mut later: ListedSets) -> Result<(), AllocError>
         ensures { (entries more : List ListedSet) → HasEntries self.old entries → HasEntries later more →
             OnOk result (HasEntries self.new (entries ++ more)) }
@@ -71,6 +73,7 @@ impl ListedSets {
     }
 
     /// The sets.
+    #[tactic(auto, using(std::proofs::lemmas::Grind::common_steps, crate::proofs::ListedLemmas::sets_are))]
     pub fn sets(self, alloc: Global) -> Result<Vec<Itemset>, ReadFault>
         ensures answers { (entries : List ListedSet) → HasEntries self entries → ReturnsList result (Ok (sets_among entries)) }
         ensures not_read { result ≢ Err Read }
@@ -80,6 +83,7 @@ impl ListedSets {
     }
 
     /// The sets with their counts, or the first that has none.
+    #[tactic(auto, using(std::proofs::lemmas::Grind::common_steps, crate::proofs::ListedLemmas::counts_are))]
     pub fn counts(self) -> Result<Vec<CountedLine>, ReadFault>
         ensures answers { (entries : List ListedSet) → HasEntries self entries → ReturnsList result (counts_among entries) }
         ensures not_read { result ≢ Err Read }

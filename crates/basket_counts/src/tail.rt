@@ -1,5 +1,6 @@
 ghost use Rattle.std.specs.Prelude.{◌≡◌, ◌<◌, List, ℕ, true};
 ghost use Rattle.basket_counts.specs.Counts.{is_tail};
+ghost use Rattle.basket_counts.specs.Line.{count_with};
 
 use basket_read::{ByteClass, ReadFault, class_of};
 
@@ -20,52 +21,21 @@ pub enum CountSuffix {
 }
 
 impl CountSuffix {
-    ghost use Rattle.basket_counts.specs.Line.{tail_at, tail_with, digit_added, blank_added, close_added, is_there, count_in, digit_fault_in};
+    ghost use Rattle.basket_counts.specs.Line.{tail_at, tail_with, is_there, count_in, digit_fault_in};
 
     /// The tail after one more byte, if it can stand there.
     pub fn with(self, byte: u8) -> Option<Self>
         ensures { (tail : List ℕ) → is_tail tail ≡ true → self ≡ tail_at tail → result ≡ tail_with tail byte }
     {
-        match class_of(byte) {
-            ByteClass::Digit(digit) => self.with_digit(digit),
-            ByteClass::Blank => self.with_blank(),
-            ByteClass::Other if byte == b')' => self.closed(),
-            ByteClass::Other => None,
-        }
-    }
-
-    fn with_digit(self, digit: u8) -> Option<Self>
-        requires { digit < 10 }
-        ensures { result ≡ digit_added self digit }
-    {
-        match self {
-            CountSuffix::Opened => Some(CountSuffix::Count(u64::from(digit))),
-            CountSuffix::Count(count) if count <= MAX_COUNT / 10 => {
-                let count = count * 10 + u64::from(digit);
-                if count <= MAX_COUNT {
-                    Some(CountSuffix::Count(count))
-                } else {
-                    None
-                }
+        match (self, class_of(byte)) {
+            (CountSuffix::Opened, ByteClass::Digit(digit)) => {
+                Some(CountSuffix::Count(u64::from(digit)))
             }
-            _ => None,
-        }
-    }
-
-    fn with_blank(self) -> Option<Self>
-        ensures { result ≡ blank_added self }
-    {
-        match self {
-            CountSuffix::Closed(_) => Some(self),
-            _ => None,
-        }
-    }
-
-    fn closed(self) -> Option<Self>
-        ensures { result ≡ close_added self }
-    {
-        match self {
-            CountSuffix::Count(count) => Some(CountSuffix::Closed(count)),
+            (CountSuffix::Count(count), ByteClass::Digit(digit)) => with_digit(count, digit),
+            (CountSuffix::Count(count), ByteClass::Other) if byte == b')' => {
+                Some(CountSuffix::Closed(count))
+            }
+            (CountSuffix::Closed(_), ByteClass::Blank) => Some(self),
             _ => None,
         }
     }
@@ -96,5 +66,21 @@ impl CountSuffix {
             CountSuffix::Opened | CountSuffix::Count(_) => ReadFault::Count { line },
             CountSuffix::Closed(_) => ReadFault::Byte { line, byte },
         }
+    }
+}
+
+/// A count with one digit more, if it is not above the bound.
+fn with_digit(count: u64, digit: u8) -> Option<CountSuffix>
+    requires { digit < 10 }
+    ensures { result ≡ count_with count digit }
+{
+    if count > MAX_COUNT / 10 {
+        return None;
+    }
+    let count = count * 10 + u64::from(digit);
+    if count <= MAX_COUNT {
+        Some(CountSuffix::Count(count))
+    } else {
+        None
     }
 }

@@ -1,8 +1,9 @@
--- The last field of a record, and its last byte.
-use Rattle.std.proofs.Common.{◌≡◌, ℕ, ◌-◌, false, eqb, List, [], ◌∷◌, ◌++◌, length, Option, Some, None, unwrap_or, refl, sym, ap, ◌∙◌, arith}
-use Rattle.std.specs.Prelude.{slice_get}
+-- The fields of a record, the last of them, and its last byte.
+use Rattle.std.proofs.Common.{◌≡◌, Bor, ℕ, zero, suc, ◌-◌, ◌<◌, ◌≤◌, false, eqb, List, [], ◌∷◌, ◌++◌, length, map, get_or, Option, Some, None, unwrap_or, refl, sym, ap, ◌∙◌, arith}
+use Rattle.std.specs.Prelude.{option_copied, option_map, slice_get}
+use Rattle.std.specs.Slice.{IsItemAt}
 use Rattle.csv.specs.Records.{field_at}
-use Rattle.basket_csv.specs.Records.{last_after, may_go_on}
+use Rattle.basket_csv.specs.Record.{last_after, may_go_on}
 
 -- ---- the last of a list
 
@@ -42,3 +43,25 @@ no_field [] index at_index is = refl
 no_field (first ∷ fields) index at_index is =
     let last : index ≡ length fields = omega (arith, at_index) in
     absurd (let none : ◌≡◌ {A = Option (List ℕ)} None (Some (last_after first fields)) = is ∙ ap (field_at (first ∷ fields)) last ∙ last_field first fields in cc)
+
+-- ---- the field at an index
+
+abbrev pub texts : List (Bor (List ℕ)) → List (List ℕ)
+texts fields = map (λ field. field.now) fields
+
+field_there : (fields : List (Bor (List ℕ))) (index : ℕ) (other : Bor (List ℕ)) → index < length fields → Some (get_or fields index other).now ≡ field_at (texts fields) index
+unfolding field_at
+field_there [] index other below = absurd (omega arith)
+field_there (field ∷ fields) zero other below = refl
+field_there (field ∷ fields) (suc index) other below = field_there fields index other (omega arith)
+
+field_beyond : (fields : List (Bor (List ℕ))) (index : ℕ) → length fields ≤ index → None ≡ field_at (texts fields) index
+unfolding field_at
+field_beyond [] index all = refl
+field_beyond (field ∷ fields) zero all = absurd (omega arith)
+field_beyond (field ∷ fields) (suc index) all = field_beyond fields index (omega arith)
+
+pub field_got : (fields : List (Bor (List ℕ))) (index : ℕ) (got : Option (Bor (Bor (List ℕ)))) → IsItemAt fields index got
+    → option_map (λ (field : Bor (List ℕ)). field.now) (option_copied got) ≡ field_at (texts fields) index
+field_got fields index None is = field_beyond fields index is.3
+field_got fields index (Some field) is = ap (λ (f : Bor (List ℕ)). Some f.now) is.1 ∙ field_there fields index field.now is.3.0

@@ -7,7 +7,7 @@ use Rattle.std.proofs.lemmas.List.{take_more, take_all, length-drop, get_or-drop
 use Rattle.csv.specs.Reading.{strip_bom, is_bom}
 use Rattle.basket_read.specs.Fimi.{text_of}
 use Rattle.basket_csv.specs.Parts.{IsCut}
-use Rattle.basket_csv.specs.Records.{last_after}
+use Rattle.basket_csv.specs.Record.{last_after}
 use Rattle.basket_csv.proofs.LastLemmas.{last_push}
 
 -- a text is no longer without its mark

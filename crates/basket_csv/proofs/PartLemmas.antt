@@ -9,7 +9,8 @@ use Rattle.csv.specs.declared.parser.Action.{Action}
 use Rattle.csv.specs.declared.parser.Action.TheVariants as act
 use Rattle.basket_csv.specs.Csv.{after_header}
 use Rattle.basket_csv.specs.Parts.{IsWhole}
-use Rattle.basket_csv.specs.Records.{config_of, records_of, last_after, may_go_on, last_may_go_on}
+use Rattle.basket_csv.specs.Record.{config_of, last_after, may_go_on}
+use Rattle.basket_csv.specs.Records.{records_of, last_may_go_on}
 use Rattle.basket_csv.proofs.RecordLemmas.{leaves, fewer_left, records_none, records_some}
 use Rattle.basket_csv.proofs.LastLemmas.{last_push}
 use Rattle.basket_csv.proofs.MarkLemmas.{ends_stripped, stripped_part}

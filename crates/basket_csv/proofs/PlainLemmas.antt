@@ -11,14 +11,12 @@ use Rattle.csv.specs.declared.parser.State.TheVariants as st
 use Rattle.csv.specs.declared.parser.Action.{Action}
 use Rattle.csv.specs.declared.parser.Action.TheVariants as act
 use Rattle.csv.specs.declared.parser.Terminator.TheVariants as term
-use Rattle.csv.specs.Records.{field_at, fields_of as copied_fields}
 use Rattle.csv.proofs.ReadFacts.{run-copies, runs-step}
-use Rattle.basket_csv.specs.Plain.{Begins, BeginsUnquoted, Takes, ends_field, is_line_end}
-use Rattle.basket_csv.specs.Records.{config_of, is_plain, records_left, records_of, rows_by}
-use Rattle.basket_csv.specs.declared.record.Record.{Record}
-use Rattle.basket_csv.specs.declared.records.Records.{Records}
-use Rattle.basket_csv.specs.Record.{fields_of}
-use Rattle.basket_csv.proofs.RecordLemmas.{ends_after_end, one_more, records_some}
+use Rattle.basket_read.specs.Fimi.{is_line_feed}
+use Rattle.basket_csv.specs.Field.{ends_field, is_line_end, is_quoted}
+use Rattle.basket_csv.specs.Record.{Begins, Takes, config_of, last_after, may_go_on}
+use Rattle.basket_csv.proofs.LastLemmas.{last_push, texts}
+use Rattle.basket_csv.proofs.RecordLemmas.{ends_after_end, one_more, records_none, records_some}
 
 -- ---- a byte of a field without quotes
 
@@ -44,6 +42,18 @@ runs_inside separator text (suc end) within inside =
     subst (λ n. Runs (config_of separator) st.InField (take n text)) one
     (inside_more separator text end (omega arith) (inside end (omega arith)) (runs_inside separator text end (omega arith) (λ index below. inside index (omega arith))))
 
+-- and no line feed is its last
+no_feed : (separator byte : ℕ) → ends_field separator byte ≡ false → is_line_feed byte ≡ false
+no_feed separator byte e = grind (arith, nat_tests)
+
+ends_inside : (separator : ℕ) (text : List ℕ) (end : ℕ) → end ≤ length text → ((index : ℕ) → index < end → ends_field separator (get_or text index 0) ≡ false)
+    → is_line_feed (last_after 0 (take end text)) ≡ false
+ends_inside separator text zero within inside = refl
+ends_inside separator text (suc end) within inside =
+    let one : suc end ≡ end + 1 = omega arith in
+    ap (λ n. is_line_feed (last_after 0 (take n text))) one ∙ ap (λ l. is_line_feed (last_after 0 l)) (take_more text end 0 (omega arith))
+    ∙ ap is_line_feed (last_push 0 (get_or text end 0) (take end text)) ∙ no_feed separator (get_or text end 0) (inside end (omega arith))
+
 -- ---- what a byte makes of a record
 
 abbrev next_by : Config → List (List ℕ) → List ℕ → ℕ → List ℕ → State × Action → Option Read
@@ -63,7 +73,7 @@ first_field separator (byte ∷ rest) h some =
     let same : step cfg st.StartRecord byte ≡ step cfg st.StartField byte = ap (λ b. cond b (st.StartRecord, act.Skip) (start_field cfg byte)) h in
     stepped cfg st.StartRecord [] [] byte rest (step cfg st.StartField byte) same ∙ sym (stepped cfg st.StartField [] [] byte rest (step cfg st.StartField byte) refl)
 
-unquoted : (separator : ℕ) (fields : List (List ℕ)) (text : List ℕ) → BeginsUnquoted text
+unquoted : (separator : ℕ) (fields : List (List ℕ)) (text : List ℕ) → is_quoted text ≡ false
     → next_record (config_of separator) st.StartField fields [] text ≡ next_record (config_of separator) st.InField fields [] text
 unfolding next_record
 unquoted separator fields [] h = refl
@@ -73,7 +83,7 @@ unquoted separator fields (byte ∷ rest) h =
     stepped cfg st.StartField fields [] byte rest (step cfg st.InField byte) same ∙ sym (stepped cfg st.InField fields [] byte rest (step cfg st.InField byte) refl)
 
 -- a field without quotes
-pub field_passed : (separator : ℕ) (fields : List (List ℕ)) (text : List ℕ) (end : ℕ) → BeginsUnquoted text → Runs (config_of separator) st.InField (take end text)
+pub field_passed : (separator : ℕ) (fields : List (List ℕ)) (text : List ℕ) (end : ℕ) → is_quoted text ≡ false → Runs (config_of separator) st.InField (take end text)
     → next_record (config_of separator) st.StartField fields [] text ≡ next_record (config_of separator) st.InField fields (take end text) (drop end text)
 field_passed separator fields text end h runs =
     let cfg = config_of separator in
@@ -144,6 +154,11 @@ records_same separator s byte more begins e =
 pub line_end_passed : (separator byte : ℕ) (more : List ℕ) → is_line_end byte ≡ true → records (config_of separator) (byte ∷ more) ≡ records (config_of separator) more
 line_end_passed separator byte more e = records_same separator st.StartRecord byte more refl (passed_over separator byte more e)
 
+-- a text without bytes has no record
+pub no_record : (separator : ℕ) (text : List ℕ) → length text ≡ 0 → records (config_of separator) text ≡ []
+unfolding next_record
+no_record separator text none = ap (records (config_of separator)) (nil_from_length text none) ∙ records_none (config_of separator) st.StartRecord [] refl
+
 -- ---- a record that was taken
 
 line_end_is_low : (byte : ℕ) → is_line_end byte ≡ true → byte < 14
@@ -155,40 +170,35 @@ no_mark byte [] e = refl
 no_mark byte (b ∷ []) e = refl
 no_mark byte (b ∷ c ∷ more) e = rw e refl
 
-pub taken_by_end : (separator : ℕ) (text : List ℕ) (fields : List (List ℕ)) (field : List ℕ)
+pub taken_by_end : (separator : ℕ) (text : List ℕ) (fields : List (List ℕ)) (field : List ℕ) → may_go_on (fields ++ field ∷ []) ≡ false
     → next_record (config_of separator) st.StartRecord [] [] text ≡ next_record (config_of separator) st.InField fields field [] → Takes separator text (fields ++ field ∷ []) []
 unfolding next_record strip_bom
-taken_by_end separator text fields field e = record {
+taken_by_end separator text fields field whole e = record {
   rows = records_some (config_of separator) st.StartRecord text (fields ++ field ∷ [], st.StartRecord, []) refl e;
+  whole = whole;
   unmarked = refl;
 }
 
-pub taken_by_line : (separator : ℕ) (text : List ℕ) (fields : List (List ℕ)) (field : List ℕ) (byte : ℕ) (more : List ℕ) → eqb byte separator ≡ false → ends_field separator byte ≡ true
+pub taken_by_line : (separator : ℕ) (text : List ℕ) (fields : List (List ℕ)) (field : List ℕ) (byte : ℕ) (more : List ℕ) → may_go_on (fields ++ field ∷ []) ≡ false
+    → eqb byte separator ≡ false → ends_field separator byte ≡ true
     → next_record (config_of separator) st.StartRecord [] [] text ≡ next_record (config_of separator) st.InField fields field (byte ∷ more) → Takes separator text (fields ++ field ∷ []) (byte ∷ more)
-taken_by_line separator text fields field byte more other ends e =
+taken_by_line separator text fields field byte more whole other ends e =
     let cfg = config_of separator in
     let line : is_line_end byte ≡ true = sym (ap (λ b. b || is_line_end byte) other) ∙ ends in
     let low = line_end_is_low byte line in
-    let whole = e ∙ record_ended separator fields field byte more other line in
+    let read = e ∙ record_ended separator fields field byte more other line in
     let s = after_end term.CRLF byte in
     let later = records_same separator s byte more (ends_after_end term.CRLF byte) (passed_over separator byte more line ∙ sym (after_line separator byte more)) in
     record {
-      rows = records_some cfg st.StartRecord text (fields ++ field ∷ [], s, more) refl whole ∙ ap (λ rows. (fields ++ field ∷ []) ∷ rows) (sym later);
+      rows = records_some cfg st.StartRecord text (fields ++ field ∷ [], s, more) refl read ∙ ap (λ rows. (fields ++ field ∷ []) ∷ rows) (sym later);
+      whole = whole;
       unmarked = no_mark byte more (grind (arith, nat_tests));
     }
 
--- ---- what is left of a text
-
-pub left_to_read : (r : Records) → is_plain r ≡ false → records_left r ≡ rows_by r.reader
-left_to_read r e = ap (λ b. cond b (records_of r.separator r.left.now) (rows_by r.reader)) e
-
 -- ---- the fields of a record, one after another
 
-abbrev pub texts : List (Bor (List ℕ)) → List (List ℕ)
-texts fields = map (λ field. field.now) fields
-
 module _ (separator : ℕ) (text rest : List ℕ) (fields all : List (Bor (List ℕ))) (field : Bor (List ℕ)) (behind : List ℕ) (end : ℕ)
-    (plain : BeginsUnquoted rest) (within : end ≤ length rest) (inside : (index : ℕ) → index < end → ends_field separator (get_or rest index 0) ≡ false)
+    (plain : is_quoted rest ≡ false) (within : end ≤ length rest) (inside : (index : ℕ) → index < end → ends_field separator (get_or rest index 0) ≡ false)
     (front : field.now ≡ take end rest) (back : behind ≡ drop end rest) (more : all ≡ fields ++ field ∷ [])
     (so_far : next_record (config_of separator) st.StartRecord [] [] text ≡ next_record (config_of separator) st.StartField (texts fields) [] rest) where
   one_more_text : texts fields ++ take end rest ∷ [] ≡ texts all
@@ -198,11 +208,14 @@ module _ (separator : ℕ) (text rest : List ℕ) (fields all : List (Bor (List 
   to_end = so_far ∙ field_passed separator (texts fields) rest end plain (runs_inside separator rest end within inside)
       ∙ ap (next_record (config_of separator) st.InField (texts fields) (take end rest)) (sym back)
 
+  stays : may_go_on (texts fields ++ take end rest ∷ []) ≡ false
+  stays = ap (λ f. is_line_feed (last_after 0 f)) (last_push [] (take end rest) (texts fields)) ∙ ends_inside separator rest end within inside
+
   pub last_taken : length behind ≡ 0 → Takes separator text (texts all) behind
   last_taken none =
       let empty : [] ≡ behind = sym (nil_from_length behind none) in
       subst (λ (bytes : List ℕ). next_record (config_of separator) st.StartRecord [] [] text ≡ next_record (config_of separator) st.InField (texts fields) (take end rest) bytes → Takes separator text (texts all) bytes) empty
-      (λ e. subst (λ fs. Takes separator text fs []) one_more_text (taken_by_end separator text (texts fields) (take end rest) e)) to_end
+      (λ e. subst (λ fs. Takes separator text fs []) one_more_text (taken_by_end separator text (texts fields) (take end rest) stays e)) to_end
 
   module _ (byte : ℕ) (later : List ℕ) (split : behind ≡ byte ∷ later) where
     reached : next_record (config_of separator) st.StartRecord [] [] text ≡ next_record (config_of separator) st.InField (texts fields) (take end rest) (byte ∷ later)
@@ -221,22 +234,5 @@ module _ (separator : ℕ) (text rest : List ℕ) (fields all : List (Bor (List 
         let at : end ≡ end + 0 = omega arith in
         let first : get_or rest end 0 ≡ byte = ap (λ k. get_or rest k 0) at ∙ sym (get_or-drop end rest 0 0) ∙ ap (λ bytes. get_or bytes 0 0) same in
         let stops = ap (ends_field separator) (sym first) ∙ ends (omega (arith, size, counted)) in
-        let took = taken_by_line separator text (texts fields) (take end rest) byte later (ne_eqb byte separator other) stops reached in
+        let took = taken_by_line separator text (texts fields) (take end rest) byte later stays (ne_eqb byte separator other) stops reached in
         subst (λ bytes. Takes separator text (texts all) bytes) (sym split) (subst (λ fs. Takes separator text fs (byte ∷ later)) one_more_text took)
-
--- ---- the field at an index
-
-pub field_there : (fields : List (Bor (List ℕ))) (index : ℕ) (other : Bor (List ℕ)) → index < length fields → Some (get_or fields index other).now ≡ field_at (texts fields) index
-unfolding field_at
-field_there [] index other below = absurd (omega arith)
-field_there (field ∷ fields) zero other below = refl
-field_there (field ∷ fields) (suc index) other below = field_there fields index other (omega arith)
-
-pub field_beyond : (fields : List (Bor (List ℕ))) (index : ℕ) → length fields ≤ index → None ≡ field_at (texts fields) index
-unfolding field_at
-field_beyond [] index all = refl
-field_beyond (field ∷ fields) zero all = absurd (omega arith)
-field_beyond (field ∷ fields) (suc index) all = field_beyond fields index (omega arith)
-
-pub slices_are : (r : Record) → r.is_copied ≡ false → fields_of r ≡ texts r.slices.items
-slices_are r e = ap (λ b. cond b (copied_fields r.copied) (texts r.slices.items)) e

@@ -11,7 +11,8 @@ use Rattle.csv.specs.declared.parser.Terminator.{Terminator}
 use Rattle.csv.specs.declared.parser.Terminator.TheVariants as term
 use Rattle.basket_read.specs.Fimi.{MOST_BYTES}
 use Rattle.basket_csv.specs.Csv.{after_header}
-use Rattle.basket_csv.specs.Records.{MOST_RECORDS, config_of, records_of}
+use Rattle.basket_csv.specs.Record.{config_of}
+use Rattle.basket_csv.specs.Records.{MOST_RECORDS, records_of}
 use Rattle.basket_csv.proofs.MarkLemmas.{stripped}
 
 -- a step that ends a record leaves a state at which the end of the text ends none

@@ -1,7 +1,6 @@
 pub mod Field
 pub mod Record
 pub mod Records
-pub mod Plain
 pub mod Csv
 pub mod Parts
 pub mod Row

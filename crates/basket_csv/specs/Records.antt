@@ -1,34 +1,27 @@
 -- The records of a CSV text.
-use Rattle.std.specs.Prelude.{◌≡◌, ◌≤◌, ℕ, ◌+◌, Bool, true, false, List, [], length, fold, Option, Some, unwrap_or, if◌then◌else◌}
+use Rattle.std.specs.Prelude.{◌≡◌, ℕ, ◌+◌, Bool, true, false, List, [], length, fold, map, Option, Some, unwrap_or, ⊤}
 use Rattle.std.specs.Borrow.{Bor}
 use Rattle.csv.specs.Machine.{ends_at_end}
-use Rattle.csv.specs.Reading.{Ready, source_of, default_config, records, records_from, strip_bom, is_flexible, reader_config, reader_state, reader_trim}
-use Rattle.csv.specs.declared.parser.Config.{Config}
+use Rattle.csv.specs.Reading.{Ready, source_of, records, records_from, strip_bom, is_flexible, reader_config, reader_state, reader_trim}
+use Rattle.csv.specs.Records.{fields_of as copied_fields}
 use Rattle.csv.specs.declared.reader.Reader.{Reader}
 use Rattle.csv.specs.declared.reader.Trim.TheVariants as trim
-use Rattle.basket_read.specs.Fimi.{is_line_feed}
-use Rattle.basket_csv.specs.Record.{fields_of}
+use Rattle.basket_csv.specs.Record.{config_of, may_go_on}
 use Rattle.basket_csv.specs.declared.records.Records.{Records}
-
--- the last of a list, and of an empty one what stands before it
-abbrev pub last_after : {X : Type 0} → X → List X → X
-last_after before xs = fold (λ _ x. x) before xs
-
--- whether a record may go on after a text that ends with a line feed: its last field does too
-abbrev pub may_go_on : List (List ℕ) → Bool
-may_go_on row = is_line_feed (last_after 0 (last_after [] row))
-
--- whether the last of some records may, and if there is none what was so before
-abbrev pub last_may_go_on : Bool → List (List (List ℕ)) → Bool
-last_may_go_on before rows = fold (λ _ row. may_go_on row) before rows
-
--- how `csv` reads with a separator
-abbrev pub config_of : ℕ → Config
-config_of separator = record default_config { delimiter = separator }
+use Rattle.basket_csv.specs.declared.records.Source.{Source}
+use Rattle.basket_csv.specs.declared.records.Source.TheVariants as by
 
 -- the records that `csv` gives for the bytes, each a list of fields: it takes one byte order mark away at their start
 abbrev pub records_of : ℕ → List ℕ → List (List (List ℕ))
 records_of separator bytes = records (config_of separator) (strip_bom bytes)
+
+-- no text has more records: each takes two bytes, except that the last may take one
+abbrev pub MOST_RECORDS : ℕ
+MOST_RECORDS = 2147483648
+
+-- whether the last of some records may go on after the text, and if there is none what was so before
+abbrev pub last_may_go_on : Bool → List (List (List ℕ)) → Bool
+last_may_go_on before rows = fold (λ _ row. may_go_on row) before rows
 
 -- the bytes that a reader has not read yet, if they are known
 abbrev pub known_by : Reader (Bor (List ℕ)) → Option (List ℕ)
@@ -49,29 +42,34 @@ pub record IsReadingBy (reader : Reader (Bor (List ℕ))) : Type 0 where
   pub begins : ends_at_end (reader_state reader) ≡ false
   pub known : known_by reader ≡ Some (bytes_by reader)
 
--- whether all records so far were taken as they are
-abbrev pub is_plain : Records → Bool
-is_plain r = r.is_plain
+-- whether records can be read
+abbrev pub IsReadingFrom : Source → Type 0
+IsReadingFrom (by.Text plain) = ⊤
+IsReadingFrom (by.Reader quoted) = IsReadingBy quoted.reader
 
--- the records that are not read yet, how many are, and the last of these
+abbrev pub IsReading : Records → Type 0
+IsReading r = IsReadingFrom r.source
+
+-- the records that are not read yet
+abbrev pub left_in : ℕ → Source → List (List (List ℕ))
+left_in separator (by.Text plain) = records_of separator plain.left.now
+left_in separator (by.Reader quoted) = rows_by quoted.reader
+
 abbrev pub records_left : Records → List (List (List ℕ))
-records_left r = if r.is_plain then records_of r.separator r.left.now else rows_by r.reader
+records_left r = left_in r.separator r.source
 
-abbrev pub records_taken : Records → ℕ
-records_taken r = r.taken
-
--- whether the record that was read last may go on after the bytes
-abbrev pub goes_on : Records → Bool
-goes_on r = r.goes_on
+-- the record that was read last
+abbrev pub read_from : Source → List (List ℕ)
+read_from (by.Text plain) = map (λ field. field.now) plain.fields.items
+read_from (by.Reader quoted) = copied_fields quoted.row
 
 abbrev pub record_read : Records → List (List ℕ)
-record_read r = fields_of r.row
+record_read r = read_from r.source
 
--- no text has more records: each takes two bytes, except that the last may take one
-abbrev pub MOST_RECORDS : ℕ
-MOST_RECORDS = 2147483648
+-- whether it may go on after the bytes, as one that was taken from the text never does
+abbrev pub goes_on_in : Source → Bool
+goes_on_in (by.Text plain) = false
+goes_on_in (by.Reader quoted) = quoted.goes_on
 
--- records are read on, of a text that is not too long
-pub record IsReading (r : Records) : Type 0 where
-  pub reader : r.is_plain ≡ false → IsReadingBy r.reader
-  pub few : r.taken + length (records_left r) ≤ MOST_RECORDS
+abbrev pub goes_on : Records → Bool
+goes_on r = goes_on_in r.source

@@ -7,7 +7,7 @@ ghost use Rattle.basket_read.specs.Fault.{ReturnsBy, ReturnsFault};
 ghost use Rattle.basket_read.specs.Fimi.{MOST_BYTES};
 ghost use Rattle.basket_csv.specs.RecordCollector.{Start};
 ghost use Rattle.basket_csv.specs.Csv.{fault_from, after_header, bytes_say, first_number};
-ghost use Rattle.basket_csv.specs.Records.{MOST_RECORDS, records_of, records_left, records_taken, last_may_go_on, goes_on, IsReading};
+ghost use Rattle.basket_csv.specs.Records.{MOST_RECORDS, records_of, records_left, last_may_go_on, goes_on, IsReading};
 ghost use Rattle.basket_csv.specs.Parts.{IsWhole};
 
 use crate::dialect::Dialect;
@@ -116,7 +116,7 @@ pub fn add_all<C: RecordCollector>(
     ensures whole { IfOk result (λ added. added.whole ≡ true → IsWhole dialect.separator dialect.header bytes.now) }
     ensures not_read { IfErr result (λ fault. fault ≢ Read) }
 {
-    let mut records = Records::new(alloc, bytes, dialect.separator, before);
+    let mut records = Records::new(alloc, bytes, dialect.separator);
     if !records.pass_header(dialect.header)? {
         // More bytes would begin with the header.
         return Ok(Added {
@@ -124,32 +124,37 @@ pub fn add_all<C: RecordCollector>(
             whole: false,
         });
     }
-    let passed = records.taken();
-    add_left(collector, &mut records)?;
+    let first = before + 1 + u32::from(dialect.header);
+    let added = add_left(collector, &mut records, first)?;
     Ok(Added {
-        records: records.taken() - passed,
+        records: added,
         whole: dialect.separator != b'\n' && !records.may_go_on(),
     })
 }
 
-/// Adds the records that are left, up to the first with a fault.
+/// Adds the records that are left, of which the first has this number, up to the first with a fault,
+/// and returns how many they are.
 fn add_left<C: RecordCollector>(
     collector: &mut C,
     records: &mut Records<'_>,
-) -> Result<(), ReadFault>
+    first: u32,
+) -> Result<u32, ReadFault>
     requires reading { IsReading records.old }
-    requires read { (start : Start) × (rows : List (List (List ℕ))) × (start.first + length rows ≡ records_taken records.old + 1) × C.has_read collector.old start rows }
-    ensures fault { (start : Start) (rows : List (List (List ℕ))) → start.first + length rows ≡ records_taken records.old + 1 → C.has_read collector.old start rows →
-        let found = fault_from (C.fault_of start.weighted) (records_taken records.old + 1) (records_left records.old) in
+    requires few { first + length (records_left records.old) ≤ MOST_RECORDS + 1 }
+    requires read { (start : Start) × (rows : List (List (List ℕ))) × (start.first + length rows ≡ first) × C.has_read collector.old start rows }
+    ensures fault { (start : Start) (rows : List (List (List ℕ))) → start.first + length rows ≡ first → C.has_read collector.old start rows →
+        let found = fault_from (C.fault_of start.weighted) first (records_left records.old) in
         MatchResult result (λ _. found ≡ None) (λ fault. ReturnsFault fault found) }
-    ensures read { (start : Start) (rows : List (List (List ℕ))) → start.first + length rows ≡ records_taken records.old + 1 → C.has_read collector.old start rows →
+    ensures read { (start : Start) (rows : List (List (List ℕ))) → start.first + length rows ≡ first → C.has_read collector.old start rows →
         OnOk result (C.has_read collector.new start (rows ++ records_left records.old)) }
-    ensures taken { OnOk result (records_taken records.new ≡ records_taken records.old + length (records_left records.old)) }
+    ensures count { IfOk result (λ count. count ≡ length (records_left records.old)) }
     ensures goes_on { OnOk result (goes_on records.new ≡ last_may_go_on (goes_on records.old) (records_left records.old)) }
     ensures not_read { IfErr result (λ fault. fault ≢ Read) }
 {
+    let mut nth = first;
     'rows: while records.advance()? {
-        collector.add(records.taken(), records.row())?;
+        collector.add(nth, &records.row())?;
+        nth += 1;
     }
-    Ok(())
+    Ok(nth - first)
 }

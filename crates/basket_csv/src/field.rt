@@ -2,8 +2,7 @@
 ghost use Rattle.std.specs.Prelude.{◌≡◌, ◌≤◌, ◌<◌, ◌-◌, ℕ, length, slice_index, MatchOption, true, false};
 ghost use Rattle.std.specs.Str.{is_utf8};
 ghost use Rattle.std.specs.List.{prefix_len, suffix_len};
-ghost use Rattle.basket_csv.specs.Field.{is_space, trimmed};
-ghost use Rattle.basket_csv.specs.Plain.{ends_field, BeginsUnquoted};
+ghost use Rattle.basket_csv.specs.Field.{ends_field, is_line_end, is_quoted, is_space, trimmed};
 
 use crate::lanes::{LANES, bytes_of_field};
 use std::str;
@@ -72,10 +71,17 @@ pub fn text_of(field: &[u8]) -> Option<&str>
 }
 
 #[inline(always)]
+pub fn is_line_end(byte: u8) -> bool
+    ensures { result ≡ is_line_end byte }
+{
+    byte == b'\r' || byte == b'\n'
+}
+
+#[inline(always)]
 fn ends_field(byte: u8, separator: u8) -> bool
     ensures { result ≡ ends_field separator byte }
 {
-    byte == separator || byte == b'\r' || byte == b'\n'
+    byte == separator || is_line_end(byte)
 }
 
 /// Where the field at the front of a text ends, if it has no quotes.
@@ -96,7 +102,7 @@ pub fn field_end(text: &[u8], separator: u8) -> usize
     last_end(text, end, separator)
 }
 
-/// The same, if the field does not end before an index.
+/// Where a field that does not end before an index ends.
 fn last_end(text: &[u8], from: usize, separator: u8) -> usize
     requires from { from ≤ length text.now }
     requires inside { (at : ℕ) → at < from → ends_field separator (slice_index text.now at) ≡ false }
@@ -115,10 +121,7 @@ fn last_end(text: &[u8], from: usize, separator: u8) -> usize
 /// Whether the field at the front of a text has quotes.
 #[inline(always)]
 pub fn is_quoted(text: &[u8]) -> bool
-    ensures { result ≡ false → BeginsUnquoted text.now }
+    ensures { result ≡ is_quoted text.now }
 {
-    match text.first() {
-        Some(byte) => *byte == b'"',
-        None => false,
-    }
+    matches!(text.first(), Some(b'"'))
 }

@@ -1,6 +1,6 @@
 //! Bytes of a text that are looked at together.
 ghost use Rattle.std.specs.Prelude.{◌≡◌, ◌≤◌, ◌<◌, ◌+◌, ◌==◌, ℕ, length, slice_index, true, false};
-ghost use Rattle.basket_csv.specs.Plain.{ends_field};
+ghost use Rattle.basket_csv.specs.Field.{ends_field};
 
 use std::simd::prelude::*;
 

@@ -7,6 +7,7 @@ mod collector;
 mod counts;
 mod dialect;
 mod field;
+mod input;
 mod lanes;
 pub mod laws;
 mod pairs;
@@ -18,8 +19,6 @@ mod records;
 mod renumbered;
 mod row;
 mod shared;
-mod text;
-mod texts;
 pub mod worked;
 
 pub use dialect::Dialect;

@@ -1,23 +1,20 @@
 -- Rising lists with an item between others.
-use Rattle.std.proofs.Common.{◌≡◌, ℕ, ◌+◌, ◌<◌, List, [], ◌∷◌, ◌++◌, length, get_or, take, drop, false, cond, eqb, ltb, refl, sym, ap, ◌∙◌, subst, inl, inr, arith}
-use Rattle.std.proofs.lemmas.Bool.{eqb-true, ltb-true, lt-ltb, false_from_ne_true}
+use Rattle.std.proofs.Common.{◌≡◌, ℕ, ◌+◌, ◌<◌, List, [], ◌∷◌, ◌++◌, length, get_or, take, drop, refl, sym, ap, ◌∙◌, subst, inl, inr, arith}
 use Rattle.std.proofs.lemmas.List.{append-nil, map-append, take-append-drop, take_more}
 use Rattle.basket_lists.specs.Packed.{items_at}
 use Rattle.basket_sets.specs.Itemset.{IsRising, with_item}
 use Rattle.basket_sets.proofs.theory.Members.{Member, Member-append_left, Member-append_right, Member-from_map}
-use Rattle.basket_sets.proofs.theory.Rising.{cons_rises, first_below, nil_rises, rest_rises}
+use Rattle.basket_sets.proofs.theory.Rising.{cons_rises, first_below, nil_rises, rest_rises, with_item_by}
 use Rattle.basket_sets.proofs.theory.Tests.{rising_at}
 
 pub with_first : (first : ℕ) (items : List ℕ) → ((item : ℕ) → Member item items → first < item) → with_item first items ≡ first ∷ items
 with_first first [] below = refl
-with_first first (item ∷ items) below = ap (λ b. cond b (first ∷ item ∷ items) (cond (eqb first item) (item ∷ items) (item ∷ with_item first items))) (lt-ltb first item (below item (inl refl)))
+with_first first (item ∷ items) below = let less = below item (inl refl) in
+    with_item_by (λ l. l ≡ first ∷ item ∷ items) first item items (λ h. refl) (λ same. absurd (omega arith)) (λ more. absurd (omega arith))
 
 pub with_later : (item first : ℕ) (items : List ℕ) → first < item → with_item item (first ∷ items) ≡ first ∷ with_item item items
 with_later item first items more =
-    let not_less : ltb item first ≡ false = false_from_ne_true _ (λ h. let less = ltb-true item first h in omega arith) in
-    let not_equal : eqb item first ≡ false = false_from_ne_true _ (λ h. let same = eqb-true item first h in omega arith) in
-    ap (λ b. cond b (item ∷ first ∷ items) (cond (eqb item first) (first ∷ items) (first ∷ with_item item items))) not_less
-    ∙ ap (λ b. cond b (first ∷ items) (first ∷ with_item item items)) not_equal
+    with_item_by (λ l. l ≡ first ∷ with_item item items) item first items (λ less. absurd (omega arith)) (λ same. absurd (omega arith)) (λ after. refl)
 
 -- an item between those below it and those above
 pub with_between : (item : ℕ) (before after : List ℕ) → ((other : ℕ) → Member other before → other < item) → ((other : ℕ) → Member other after → item < other)
@@ -52,37 +49,37 @@ with_next items i up less =
     ap (with_item (get_or items i 0)) (sym (append-nil (take i items)))
     ∙ with_between (get_or items i 0) (take i items) [] (before_below (take i items) (get_or items i 0) [] all) (λ other m. absurd m) ∙ sym more
 
--- ---- the items at places of a rising list
+-- ---- the items at indexes of a rising list
 
--- they rise as the places do
-item_less : (items : List ℕ) (place other : ℕ) → IsRising items → place < other → other < length items → get_or items place 0 < get_or items other 0
-item_less items place other up less below = rising_at items place other up less below
+-- they rise as the indexes do
+item_less : (items : List ℕ) (index other : ℕ) → IsRising items → index < other → other < length items → get_or items index 0 < get_or items other 0
+item_less items index other up less below = rising_at items index other up less below
 
-pub items_below : (items places : List ℕ) (place : ℕ) → IsRising items → place < length items → ((other : ℕ) → Member other places → other < place)
-    → (item : ℕ) → Member item (items_at items places) → item < get_or items place 0
-items_below items places place up below less item m =
-    let at = Member-from_map (λ p. get_or items p 0) item places m in
-    subst (λ x. x < get_or items place 0) at.2 (item_less items at.0 place up (less at.0 at.1) below)
+pub items_below : (items indexes : List ℕ) (index : ℕ) → IsRising items → index < length items → ((other : ℕ) → Member other indexes → other < index)
+    → (item : ℕ) → Member item (items_at items indexes) → item < get_or items index 0
+items_below items indexes index up below less item m =
+    let at = Member-from_map (λ p. get_or items p 0) item indexes m in
+    subst (λ x. x < get_or items index 0) at.2 (item_less items at.0 index up (less at.0 at.1) below)
 
-pub items_above : (items places : List ℕ) (place : ℕ) → IsRising items → ((other : ℕ) → Member other places → other < length items) → ((other : ℕ) → Member other places → place < other)
-    → (item : ℕ) → Member item (items_at items places) → get_or items place 0 < item
-items_above items places place up below more item m =
-    let at = Member-from_map (λ p. get_or items p 0) item places m in
-    subst (λ x. get_or items place 0 < x) at.2 (item_less items place at.0 up (more at.0 at.1) (below at.0 at.1))
+pub items_above : (items indexes : List ℕ) (index : ℕ) → IsRising items → ((other : ℕ) → Member other indexes → other < length items) → ((other : ℕ) → Member other indexes → index < other)
+    → (item : ℕ) → Member item (items_at items indexes) → get_or items index 0 < item
+items_above items indexes index up below more item m =
+    let at = Member-from_map (λ p. get_or items p 0) item indexes m in
+    subst (λ x. get_or items index 0 < x) at.2 (item_less items index at.0 up (more at.0 at.1) (below at.0 at.1))
 
--- with an item at a place between others
-pub items_between : (items before after : List ℕ) (place : ℕ) → IsRising items → place < length items → ((other : ℕ) → Member other after → other < length items)
-    → ((other : ℕ) → Member other before → other < place) → ((other : ℕ) → Member other after → place < other)
-    → items_at items (before ++ place ∷ after) ≡ with_item (get_or items place 0) (items_at items (before ++ after))
-items_between items before after place up below within less more =
-    map-append (λ p. get_or items p 0) before (place ∷ after)
-    ∙ sym (with_between (get_or items place 0) (items_at items before) (items_at items after) (items_below items before place up below less) (items_above items after place up within more))
-    ∙ ap (with_item (get_or items place 0)) (sym (map-append (λ p. get_or items p 0) before after))
+-- with an item at an index between others
+pub items_between : (items before after : List ℕ) (index : ℕ) → IsRising items → index < length items → ((other : ℕ) → Member other after → other < length items)
+    → ((other : ℕ) → Member other before → other < index) → ((other : ℕ) → Member other after → index < other)
+    → items_at items (before ++ index ∷ after) ≡ with_item (get_or items index 0) (items_at items (before ++ after))
+items_between items before after index up below within less more =
+    map-append (λ p. get_or items p 0) before (index ∷ after)
+    ∙ sym (with_between (get_or items index 0) (items_at items before) (items_at items after) (items_below items before index up below less) (items_above items after index up within more))
+    ∙ ap (with_item (get_or items index 0)) (sym (map-append (λ p. get_or items p 0) before after))
 
--- items at rising places rise
-pub items_rise : (items places : List ℕ) → IsRising items → IsRising places → ((other : ℕ) → Member other places → other < length items) → IsRising (items_at items places)
+-- items at rising indexes rise
+pub items_rise : (items indexes : List ℕ) → IsRising items → IsRising indexes → ((other : ℕ) → Member other indexes → other < length items) → IsRising (items_at items indexes)
 items_rise items [] up rising within = nil_rises
-items_rise items (place ∷ places) up rising within =
-    cons_rises (get_or items place 0) (items_at items places)
-    (items_above items places place up (λ other m. within other (inr m)) (first_below place places rising))
-    (items_rise items places up (rest_rises place places rising) (λ other m. within other (inr m)))
+items_rise items (index ∷ indexes) up rising within =
+    cons_rises (get_or items index 0) (items_at items indexes)
+    (items_above items indexes index up (λ other m. within other (inr m)) (first_below index indexes rising))
+    (items_rise items indexes up (rest_rises index indexes rising) (λ other m. within other (inr m)))

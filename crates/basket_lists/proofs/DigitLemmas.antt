@@ -35,7 +35,7 @@ digits_split bits first (suc last) (suc size) number is =
     ∙ append_assoc (digits bits first (rest / 2 ^ (last * bits))) (digits bits last rest) (number % 2 ^ bits ∷ [])
     ∙ ap (λ n. digits bits first n ++ digits bits (suc last) number) shift
 
--- the digit at a place
+-- the digit at an index
 pub digit_at : (bits first last size number : ℕ) → size ≡ suc first + last → get_or (digits bits size number) first 0 ≡ number / 2 ^ (last * bits) % 2 ^ bits
 digit_at bits first last size number is =
     let rest = number / 2 ^ (last * bits) in

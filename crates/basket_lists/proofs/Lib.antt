@@ -3,7 +3,7 @@ mod NumberOrder
 mod DigitLemmas
 mod BetweenLemmas
 mod WordLemmas
-mod PlaceLemmas
+mod LongerLemmas
 mod ListLemmas
 mod OrderLemmas
 mod PlainLemmas

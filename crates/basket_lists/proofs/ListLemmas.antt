@@ -1,9 +1,8 @@
 -- Lists of words, some of which stand for sets that are kept elsewhere.
-use Rattle.std.proofs.Common.{◌≡◌, ℕ, ◌+◌, ◌-◌, ◌^◌, ◌<◌, false, List, [], ◌∷◌, ◌++◌, length, map, get_or, take, drop, cond, ltb, refl, sym, ap, ◌∙◌, subst, inl, inr, arith}
+use Rattle.std.proofs.Common.{◌≡◌, ℕ, ◌+◌, ◌-◌, ◌^◌, ◌<◌, false, List, [], ◌∷◌, ◌++◌, length, map, get_or, take, drop, cond, ltb, sym, ap, ◌∙◌, subst, inl, inr, arith}
 use Rattle.std.specs.Prelude.{All}
 use Rattle.std.proofs.lemmas.Bool.{cases_lt, false_from_ne_true, lt-ltb, ltb-true}
 use Rattle.std.proofs.lemmas.List.{get_or-map, get_or_append_left, length-append, map-append, take-append-le, take_all}
-use Rattle.std.specs.List.{AllByRecursion}
 use Rattle.std.proofs.lemmas.List.Elements.{recursion_from_All}
 use Rattle.std.specs.List.Sorted.{IsPermutation}
 use Rattle.std.proofs.lemmas.List.Sorted.{All-permutation, IsPermutation-map, length_permutation}
@@ -13,6 +12,7 @@ use Rattle.basket_lists.specs.Packed.{Coding, IsCoding, IsKept, IsPacked, kept, 
 use Rattle.basket_lists.proofs.BetweenLemmas.{items_rise}
 use Rattle.basket_sets.specs.declared.counted.Counted.{Counted}
 use Rattle.basket_sets.specs.Itemset.{IsRising}
+use Rattle.basket_sets.proofs.theory.Members.{at_Member, map_members}
 use Rattle.basket_sets.proofs.theory.Rising.{has-from_Member}
 
 -- ---- the set of a word
@@ -20,15 +20,15 @@ use Rattle.basket_sets.proofs.theory.Rising.{has-from_Member}
 pub kept_here : (coding : Coding) (plain : List Counted) (packed : Packed) → packed.word < 2 ^ 127 → kept coding plain packed ≡ unpacked coding packed
 kept_here coding plain packed less = ap (λ b. cond b (unpacked coding packed) (get_or plain (packed.word - 2 ^ 127) (record { set = []; count = 0 }))) (lt-ltb packed.word (2 ^ 127) less)
 
-pub kept_elsewhere : (coding : Coding) (plain : List Counted) (packed : Packed) (place : ℕ) → packed.word ≡ 2 ^ 127 + place → kept coding plain packed ≡ get_or plain place (record { set = []; count = 0 })
-kept_elsewhere coding plain packed place is =
+pub kept_elsewhere : (coding : Coding) (plain : List Counted) (packed : Packed) (index : ℕ) → packed.word ≡ 2 ^ 127 + index → kept coding plain packed ≡ get_or plain index (record { set = []; count = 0 })
+kept_elsewhere coding plain packed index is =
     let more : ltb packed.word (2 ^ 127) ≡ false = false_from_ne_true _ (λ h. let less = ltb-true packed.word (2 ^ 127) h in omega (arith, is, less)) in
     ap (λ b. cond b (unpacked coding packed) (get_or plain (packed.word - 2 ^ 127) (record { set = []; count = 0 }))) more
-    ∙ ap (λ n. get_or plain n (record { set = []; count = 0 })) (let e : packed.word - 2 ^ 127 ≡ place = omega (arith, is) in e)
+    ∙ ap (λ n. get_or plain n (record { set = []; count = 0 })) (let e : packed.word - 2 ^ 127 ≡ index = omega (arith, is) in e)
 
 -- a set of a word rises
 pub packed_rises : (coding : Coding) (packed : Packed) → IsCoding coding → IsPacked coding packed → IsRising (unpacked coding packed).set
-packed_rises coding packed is set = items_rise coding.items _ is.rises set.code.rises (λ place m. set.code.below place (has-from_Member _ place m))
+packed_rises coding packed is set = items_rise coding.items _ is.rises set.code.rises (λ index m. set.code.below index (has-from_Member _ index m))
 
 module _ (coding : Coding) (plain : List Counted) (packed : Packed) (is : IsPacked coding packed) where
   pub packed_is_kept : IsKept coding plain packed
@@ -47,21 +47,18 @@ module _ (coding : Coding) (plain more : List Counted) where
   kept_more packed is = elim (cases_lt packed.word (2 ^ 127)) [
     | inl less ↦ kept_here coding (plain ++ more) packed less ∙ sym (kept_here coding plain packed less)
     | inr above ↦
-        (let place = packed.word - 2 ^ 127 in
-        let same : packed.word ≡ 2 ^ 127 + place = omega (arith, above) in
-        kept_elsewhere coding (plain ++ more) packed place same ∙ get_or_append_left plain more (record { set = []; count = 0 }) place (is.elsewhere above)
-        ∙ sym (kept_elsewhere coding plain packed place same))
+        (let index = packed.word - 2 ^ 127 in
+        let same : packed.word ≡ 2 ^ 127 + index = omega (arith, above) in
+        kept_elsewhere coding (plain ++ more) packed index same ∙ get_or_append_left plain more (record { set = []; count = 0 }) index (is.elsewhere above)
+        ∙ sym (kept_elsewhere coding plain packed index same))
   ]
 
   pub words_kept : (words : List Packed) → All (IsKept coding plain) words → All (IsKept coding (plain ++ more)) words
   words_kept words all k d inside = IsKept-more (get_or words k d) (all k d inside)
 
   pub sets_kept : (words : List Packed) → All (IsKept coding plain) words → map (kept coding (plain ++ more)) words ≡ map (kept coding plain) words
-  sets_kept words all = same_words words (recursion_from_All (IsKept coding plain) words all)
-    where
-      same_words : (words : List Packed) → AllByRecursion (IsKept coding plain) words → map (kept coding (plain ++ more)) words ≡ map (kept coding plain) words
-      same_words [] all = refl
-      same_words (word ∷ words) all = ap (λ c. c ∷ map (kept coding (plain ++ more)) words) (kept_more word all.0) ∙ ap (λ l. kept coding plain word ∷ l) (same_words words all.1)
+  sets_kept words all = map_members (kept coding (plain ++ more)) (kept coding plain) words
+      (λ word m. kept_more word (at_Member (IsKept coding plain) word words (recursion_from_All (IsKept coding plain) words all) m))
 
 -- a set that is added elsewhere
 module _ (coding : Coding) (plain : List Counted) (words : List Packed) (one : Counted) (word : Packed) (all : All (IsKept coding plain) words)
@@ -79,14 +76,14 @@ module _ (coding : Coding) (plain : List Counted) (words : List Packed) (one : C
       ∙ ap (λ l. l ++ kept coding (plain ++ one ∷ []) word ∷ []) (sets_kept coding plain (one ∷ []) words all)
       ∙ ap (λ c. map (kept coding plain) words ++ c ∷ []) (kept_elsewhere coding (plain ++ one ∷ []) word (length plain) at ∙ get_or-append_seam plain one [] (record { set = []; count = 0 }))
 
--- ---- the set at a place
+-- ---- the set at an index
 
-module _ (coding : Coding) (plain : List Counted) (words : List Packed) (place : ℕ) (word : Packed) (inside : place < length words) (is : word ≡ get_or words place word) where
-  pub set_here : word.word < 2 ^ 127 → get_or (map (kept coding plain) words) place (record { set = []; count = 0 }) ≡ unpacked coding word
-  set_here less = get_or-map (kept coding plain) words place word (record { set = []; count = 0 }) inside ∙ ap (kept coding plain) (sym is) ∙ kept_here coding plain word less
+module _ (coding : Coding) (plain : List Counted) (words : List Packed) (index : ℕ) (word : Packed) (inside : index < length words) (is : word ≡ get_or words index word) where
+  pub set_here : word.word < 2 ^ 127 → get_or (map (kept coding plain) words) index (record { set = []; count = 0 }) ≡ unpacked coding word
+  set_here less = get_or-map (kept coding plain) words index word (record { set = []; count = 0 }) inside ∙ ap (kept coding plain) (sym is) ∙ kept_here coding plain word less
 
   pub word_kept : All (IsKept coding plain) words → IsKept coding plain word
-  word_kept all = subst (IsKept coding plain) (sym is) (all place word inside)
+  word_kept all = subst (IsKept coding plain) (sym is) (all index word inside)
 
 -- ---- words that are written back after a sort
 

@@ -5,7 +5,7 @@ use Rattle.std.proofs.lemmas.List.Elements.{filter-append}
 use Rattle.basket_lists.specs.CountedSets.{PassesUnmarked}
 use Rattle.basket_sets.specs.declared.counted.Counted.{Counted}
 
--- the set for a place outside a list
+-- the set for an index outside a list
 abbrev pub none : Counted
 none = record { set = []; count = 0 }
 

@@ -5,38 +5,38 @@ use Rattle.std.proofs.lemmas.List.{get_or-map, length-map}
 use Rattle.basket_lists.specs.declared.packed.Packed.{Packed}
 use Rattle.basket_lists.specs.Known.{IsWordOf, shorter_number}
 use Rattle.basket_lists.specs.Packed.{Coding, HasCode, IsCoding, IsPacked, code_of, kept, number_of, set_of, size_of}
-use Rattle.basket_lists.specs.Without.{ArePlacesWithout, IsLongerBy, IsPlaceWithout}
+use Rattle.basket_lists.specs.Without.{AreIndexesWithout, IsLongerBy, IsIndexWithout}
 use Rattle.basket_lists.proofs.BetweenLemmas.{with_first, with_later}
 use Rattle.basket_lists.proofs.ListLemmas.{kept_here}
-use Rattle.basket_lists.proofs.PlaceLemmas.{shorter_is}
+use Rattle.basket_lists.proofs.LongerLemmas.{shorter_is}
 use Rattle.basket_lists.proofs.WordLemmas.{size_is}
-use Rattle.basket_order.specs.declared.place_table.TheConstants.{NOWHERE}
+use Rattle.basket_order.specs.declared.index_table.TheConstants.{NOWHERE}
 use Rattle.basket_sets.specs.declared.counted.Counted.{Counted}
 use Rattle.basket_sets.specs.Itemset.{IsRising, with_item}
 use Rattle.basket_sets.proofs.theory.Rising.{Member-from_has, first_below, has_place, rest_rises}
 
--- ---- places beside items
+-- ---- indexes beside items
 
-pub places_more : (sets : List Counted) (items places : List ℕ) (count place : ℕ) → ArePlacesWithout sets items count places → count < length places
-    → IsPlaceWithout sets items (get_or items count 0) place → ArePlacesWithout sets items (count + 1) (set places count place)
-places_more sets items places count place all within one k less inside = elim (cases_eq k count) [
-  | inl same ↦ subst (λ n. IsPlaceWithout sets items (get_or items n 0) (get_or (set places count place) n NOWHERE)) (sym same)
-      (subst (IsPlaceWithout sets items (get_or items count 0)) (sym (get_or-set_same places count place NOWHERE within)) one)
-  | inr other ↦ subst (IsPlaceWithout sets items (get_or items k 0)) (sym (get_or-set_other places count k place NOWHERE other)) (all k (omega (arith, less, other)) inside)
+pub indexes_more : (sets : List Counted) (items indexes : List ℕ) (count index : ℕ) → AreIndexesWithout sets items count indexes → count < length indexes
+    → IsIndexWithout sets items (get_or items count 0) index → AreIndexesWithout sets items (count + 1) (set indexes count index)
+indexes_more sets items indexes count index all within one k less inside = elim (cases_eq k count) [
+  | inl same ↦ subst (λ n. IsIndexWithout sets items (get_or items n 0) (get_or (set indexes count index) n NOWHERE)) (sym same)
+      (subst (IsIndexWithout sets items (get_or items count 0)) (sym (get_or-set_same indexes count index NOWHERE within)) one)
+  | inr other ↦ subst (IsIndexWithout sets items (get_or items k 0)) (sym (get_or-set_other indexes count k index NOWHERE other)) (all k (omega (arith, less, other)) inside)
 ]
 
 -- ---- one item less
 
 -- a rising list is what is left of it without an item, with that item
-pub put_back : (items : List ℕ) (place : ℕ) → IsRising items → place < length items → with_item (get_or items place 0) (take place items ++ drop (suc place) items) ≡ items
-put_back [] place up below = absurd (omega (arith, below))
+pub put_back : (items : List ℕ) (index : ℕ) → IsRising items → index < length items → with_item (get_or items index 0) (take index items ++ drop (suc index) items) ≡ items
+put_back [] index up below = absurd (omega (arith, below))
 put_back (x ∷ items) zero up below = with_first x items (λ item m. first_below x items up item m)
-put_back (x ∷ items) (suc place) up below =
-    let inside : place < length items = omega (arith, below) in
-    let above = first_below x items up (get_or items place 0) (Member-from_has items (get_or items place 0) (has_place items place inside)) in
-    with_later (get_or items place 0) x (take place items ++ drop (suc place) items) above ∙ ap (λ l. x ∷ l) (put_back items place (rest_rises x items up) inside)
+put_back (x ∷ items) (suc index) up below =
+    let inside : index < length items = omega (arith, below) in
+    let above = first_below x items up (get_or items index 0) (Member-from_has items (get_or items index 0) (has_place items index inside)) in
+    with_later (get_or items index 0) x (take index items ++ drop (suc index) items) above ∙ ap (λ l. x ∷ l) (put_back items index (rest_rises x items up) inside)
 
--- ---- a word with one place less
+-- ---- a word with one index less
 
 module _ (coding : Coding) (is : IsCoding coding) (packed : Packed) (set : IsPacked coding packed) (above : ℕ) (less : above < size_of coding (code_of coding packed)) (shorter : Packed)
     (word : IsWordOf coding (size_of coding (code_of coding packed) - 1) (shorter_number coding.item_bits (number_of coding (code_of coding packed)) (above * coding.item_bits)) 0 shorter) where
@@ -53,14 +53,14 @@ module _ (coding : Coding) (is : IsCoding coding) (packed : Packed) (set : IsPac
     pub found_set : (kept coding plain found).set ≡ set_of coding (code_of coding shorter)
     found_set = ap (λ (c : Counted). c.set) (kept_here coding plain found found_here) ∙ ap (set_of coding) same
 
-  pub found_without : (plain : List Counted) (words : List Packed) (place : ℕ) → (place ≢ NOWHERE → HasCode coding.count_bits words place (code_of coding shorter))
-      → IsPlaceWithout (map (kept coding plain) words) (set_of coding code) (get_or (set_of coding code) (size_of coding code - 1 - above) 0) place
-  found_without plain words place has said =
+  pub found_without : (plain : List Counted) (words : List Packed) (index : ℕ) → (index ≢ NOWHERE → HasCode coding.count_bits words index (code_of coding shorter))
+      → IsIndexWithout (map (kept coding plain) words) (set_of coding code) (get_or (set_of coding code) (size_of coding code - 1 - above) 0) index
+  found_without plain words index has said =
       let none : Packed = record { word = 0 } in
       let at = has said none in
-      let there = get_or-map (kept coding plain) words place none (record { set = []; count = 0 }) at.0 in (
+      let there = get_or-map (kept coding plain) words index none (record { set = []; count = 0 }) at.0 in (
         omega (arith, at.0, length-map words (kept coding plain)),
         subst (λ s. IsLongerBy (get_or (set_of coding code) (size_of coding code - 1 - above) 0) s (set_of coding code))
-            (sym (ap (λ (c : Counted). c.set) there ∙ found_set plain (get_or words place none) at.1))
+            (sym (ap (λ (c : Counted). c.set) there ∙ found_set plain (get_or words index none) at.1))
             (shorter_is coding is packed set above less (code_of coding shorter) word.sized word.numbered),
       )

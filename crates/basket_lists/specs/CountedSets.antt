@@ -2,13 +2,13 @@
 use Rattle.std.specs.Prelude.{◌≡◌, ◌<◌, ℕ, Bool, false, not, List, [], length, filter, slice_index_or}
 use Rattle.basket_sets.specs.declared.counted.Counted.{Counted}
 
--- the set at a place of a list
+-- the set at an index of a list
 abbrev pub set_at : List Counted → ℕ → List ℕ
-set_at sets place = (slice_index_or sets place (record { set = []; count = 0 })).set
+set_at sets index = (slice_index_or sets index (record { set = []; count = 0 })).set
 
--- the count at a place of a list
+-- the count at an index of a list
 abbrev pub count_at : List Counted → ℕ → ℕ
-count_at sets place = (slice_index_or sets place (record { set = []; count = 0 })).count
+count_at sets index = (slice_index_or sets index (record { set = []; count = 0 })).count
 
 -- a test passes those sets of a list that aren't marked
 abbrev pub PassesUnmarked : List Counted → List Bool → (Counted → Bool) → Type 0

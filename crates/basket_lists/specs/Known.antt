@@ -5,20 +5,20 @@ use Rattle.basket_lists.specs.Packed.{Coding, code_of, count_of, digits, number_
 use Rattle.basket_sets.proofs.theory.Members.{Member}
 
 -- so many of the last digits are greater than another, and those before them less
-pub record IsBetween (bits size number place above : ℕ) : Type 0 where
+pub record IsBetween (bits size number index above : ℕ) : Type 0 where
   pub few : above ≤ size
-  pub less : (other : ℕ) → Member other (digits bits (size - above) (number / 2 ^ (above * bits))) → other < place
-  pub greater : (other : ℕ) → Member other (digits bits above number) → place < other
+  pub less : (other : ℕ) → Member other (digits bits (size - above) (number / 2 ^ (above * bits))) → other < index
+  pub greater : (other : ℕ) → Member other (digits bits above number) → index < other
 
 -- the number with one more digit, before so many last bits
 abbrev pub longer_number : ℕ → ℕ → ℕ → ℕ → ℕ
-longer_number bits number place last = (number / 2 ^ last * 2 ^ bits + place) * 2 ^ last + number % 2 ^ last
+longer_number bits number index last = (number / 2 ^ last * 2 ^ bits + index) * 2 ^ last + number % 2 ^ last
 
 -- the number without the digit before so many last bits
 abbrev pub shorter_number : ℕ → ℕ → ℕ → ℕ
 shorter_number bits number last = number / 2 ^ last / 2 ^ bits * 2 ^ last + number % 2 ^ last
 
--- a word has room for a set of this size, the number of its places, and a count
+-- a word has room for a set of this size, the number of its indexes, and a count
 pub record FitsWord (coding : Coding) (size number count : ℕ) : Type 0 where
   pub sized : size ≤ coding.most
   pub numbered : number < 2 ^ (size * coding.item_bits)

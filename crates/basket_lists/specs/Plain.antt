@@ -5,19 +5,19 @@ use Rattle.basket_lists.specs.declared.set_span.SetSpan.{SetSpan}
 use Rattle.basket_sets.specs.declared.counted.Counted.{Counted}
 use Rattle.basket_sets.specs.Itemset.{IsRising}
 
--- the place lies among so many items
-pub record IsWithin (count : ℕ) (place : SetSpan) : Type 0 where
-  pub ordered : place.start ≤ place.end
-  pub within : place.end ≤ count
+-- the span lies among so many items
+pub record IsWithin (count : ℕ) (span : SetSpan) : Type 0 where
+  pub ordered : span.start ≤ span.end
+  pub within : span.end ≤ count
 
 -- a set stands there
-pub record IsPlaceOfSet (items : List ℕ) (place : SetSpan) : Type 0 where
-  pub within : IsWithin (length items) place
-  pub rises : IsRising (slice_range items place.start place.end)
+pub record IsSpanOfSet (items : List ℕ) (span : SetSpan) : Type 0 where
+  pub within : IsWithin (length items) span
+  pub rises : IsRising (slice_range items span.start span.end)
 
 -- the set with its count
-abbrev pub placed : List ℕ → SetSpan → Counted
-placed items place = record { set = slice_range items place.start place.end; count = place.count }
+abbrev pub spanned : List ℕ → SetSpan → Counted
+spanned items span = record { set = slice_range items span.start span.end; count = span.count }
 
-abbrev pub placed_sets : List ℕ → List SetSpan → List Counted
-placed_sets items places = map (placed items) places
+abbrev pub spanned_sets : List ℕ → List SetSpan → List Counted
+spanned_sets items spans = map (spanned items) spans

@@ -1,7 +1,7 @@
 -- Sets without one of their items, and where these stand in a list.
 use Rattle.std.specs.Prelude.{◌≡◌, ◌≢◌, ◌<◌, ℕ, suc, List, length, slice_index_or}
 use Rattle.basket_lists.specs.CountedSets.{set_at}
-use Rattle.basket_order.specs.declared.place_table.TheConstants.{NOWHERE}
+use Rattle.basket_order.specs.declared.index_table.TheConstants.{NOWHERE}
 use Rattle.basket_sets.specs.declared.counted.Counted.{Counted}
 use Rattle.basket_sets.specs.Itemset.{IsRising, with_item}
 
@@ -11,10 +11,10 @@ pub record IsLongerBy (item : ℕ) (set longer : List ℕ) : Type 0 where
   pub is : longer ≡ with_item item set
   pub size : length longer ≡ suc (length set)
 
--- a number is the place of the set without the item, or says nothing
-abbrev pub IsPlaceWithout : List Counted → List ℕ → ℕ → ℕ → Type 0
-IsPlaceWithout sets set item place = place ≢ NOWHERE → (place < length sets) × IsLongerBy item (set_at sets place) set
+-- a number is the index of the set without the item, or says nothing
+abbrev pub IsIndexWithout : List Counted → List ℕ → ℕ → ℕ → Type 0
+IsIndexWithout sets set item index = index ≢ NOWHERE → (index < length sets) × IsLongerBy item (set_at sets index) set
 
 -- beside each of the first items of a set stands such a number
-abbrev pub ArePlacesWithout : List Counted → List ℕ → ℕ → List ℕ → Type 0
-ArePlacesWithout sets set count places = (k : ℕ) → k < count → k < length set → IsPlaceWithout sets set (slice_index_or set k 0) (slice_index_or places k NOWHERE)
+abbrev pub AreIndexesWithout : List Counted → List ℕ → ℕ → List ℕ → Type 0
+AreIndexesWithout sets set count indexes = (k : ℕ) → k < count → k < length set → IsIndexWithout sets set (slice_index_or set k 0) (slice_index_or indexes k NOWHERE)

@@ -1,5 +1,5 @@
 //! The items that sets are known to have.
-ghost use Rattle.std.specs.Prelude.{◌≡◌, ◌<◌, ◌≤◌, ◌-◌, ◌^◌, ◌%◌, [], IfOk, IfSome, IsTrue, length, map, slice_index_or, take};
+ghost use Rattle.std.specs.Prelude.{◌≡◌, ◌<◌, ◌≤◌, ◌-◌, ◌^◌, ◌%◌, [], IfOk, IfSome, IsTrue, length, slice_index_or, take};
 ghost use Rattle.std.specs.Arc.{arc_slice_items};
 ghost use Rattle.basket_lists.specs.Packed.{IsCoding, IsPacked, code_of, number_of, size_of, unpacked};
 ghost use Rattle.basket_sets.specs.Itemset.{IsRising};
@@ -20,9 +20,9 @@ pub const MOST_ITEMS: usize = 63;
 #[derive(Debug, Drop)]
 pub struct KnownItems {
     items: ArcSlice<u32>,
-    /// The places of items in that list, each by its lowest bits. Another item may have the same.
+    /// The indexes of items in that list, each by its lowest bits. Another item may have the same.
     slots: ArcSlice<usize>,
-    /// How many bits of a word a place has.
+    /// How many bits of a word an index has.
     item_bits: u32,
     /// How many items a word takes.
     most: u32,
@@ -53,21 +53,21 @@ fn rising_items(alloc: Global, items: &[u32]) -> Result<ArcSlice<u32>, AllocErro
     ArcSlice::from_vec(items)
 }
 
-/// The places of items, each in the slot of its lowest bits. There are at least twice as many slots as
+/// The indexes of items, each in the slot of its lowest bits. There are at least twice as many slots as
 /// items.
 fn slots_of(alloc: Global, items: &[u32]) -> Result<ArcSlice<usize>, AllocError> {
     let count = items.len().saturating_mul(2).checked_next_power_of_two();
     let mut slots = vec![in alloc; 0usize; count.unwrap_or(1)]?;
-    put_places(&mut slots, items);
+    put_indexes(&mut slots, items);
     ArcSlice::from_vec(slots)
 }
 
-/// Puts the place of each item into the slot of its lowest bits.
-fn put_places(slots: &mut [usize], items: &[u32]) {
-    for place in 0..items.len() {
-        let slot = items[place] as usize & slots.len().saturating_sub(1);
+/// Puts the index of each item into the slot of its lowest bits.
+fn put_indexes(slots: &mut [usize], items: &[u32]) {
+    for index in 0..items.len() {
+        let slot = items[index] as usize & slots.len().saturating_sub(1);
         if slot < slots.len() {
-            slots[slot] = place;
+            slots[slot] = index;
         }
     }
 }
@@ -148,7 +148,7 @@ impl KnownItems {
         packed.code(self.count_bits)
     }
 
-    /// The number whose digits are the places of the items of a packed set.
+    /// The number whose digits are the indexes of the items of a packed set.
     fn number(&self, packed: &Packed) -> u128
         ensures { result ≡ number_of self.now (code_of self.now packed.now) }
     {
@@ -182,16 +182,16 @@ impl KnownItems {
         low_bits(packed.word, self.count_bits) as u64
     }
 
-    /// The place of an item, if it is known.
-    fn place_of(&self, item: u32) -> Option<usize>
-        ensures within { IfSome result (λ place. place < length self.now.items) }
-        ensures is { IfSome result (λ place. slice_index_or self.now.items place 0 ≡ item) }
+    /// The index of an item, if it is known.
+    fn index_of(&self, item: u32) -> Option<usize>
+        ensures within { IfSome result (λ index. index < length self.now.items) }
+        ensures is { IfSome result (λ index. slice_index_or self.now.items index 0 ≡ item) }
     {
         let slot = item as usize & self.slots.len().saturating_sub(1);
-        if let Some(place) = self.slots.get(slot) {
-            let place = *place;
-            if place < self.items.len() && self.items[place] == item {
-                return Some(place);
+        if let Some(index) = self.slots.get(slot) {
+            let index = *index;
+            if index < self.items.len() && self.items[index] == item {
+                return Some(index);
             }
         }
         self.items.binary_search(&item).ok()

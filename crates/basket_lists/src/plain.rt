@@ -11,19 +11,19 @@ use std::marker::Model;
 #[derive(Debug, Drop)]
 pub struct PlainSets {
     items: Vec<u32>,
-    places: Vec<SetSpan>,
+    spans: Vec<SetSpan>,
 }
 
 impl Model for PlainSets {
     ghost use Rattle.std.specs.Prelude.{All, List};
-    ghost use Rattle.basket_lists.specs.Plain.{IsPlaceOfSet, placed_sets};
+    ghost use Rattle.basket_lists.specs.Plain.{IsSpanOfSet, spanned_sets};
     ghost use Rattle.basket_sets.specs.declared.counted.Counted.{Counted as Set};
 
     ghost Value = { List Set };
 
-    ghost view = { λ sets. placed_sets sets.items.items sets.places.items };
+    ghost view = { λ sets. spanned_sets sets.items.items sets.spans.items };
 
-    ghost invariant = { λ sets. All (IsPlaceOfSet sets.items.items) sets.places.items };
+    ghost invariant = { λ sets. All (IsSpanOfSet sets.items.items) sets.spans.items };
 }
 
 impl PlainSets {
@@ -33,7 +33,7 @@ impl PlainSets {
     {
         PlainSets {
             items: Vec::new(alloc),
-            places: Vec::new(alloc),
+            spans: Vec::new(alloc),
         }
     }
 
@@ -41,13 +41,13 @@ impl PlainSets {
         ensures value { result ≡ length self.now }
         ensures few { result < 2 ^ 63 }
     {
-        self.places.len()
+        self.spans.len()
     }
 
     pub fn is_empty(&self) -> bool
         ensures { IsTrue result ↔ (self.now ≡ []) }
     {
-        self.places.is_empty()
+        self.spans.is_empty()
     }
 
     /// Adds a set with its count.
@@ -59,33 +59,33 @@ impl PlainSets {
         let start = end_of(&self.items)?;
         self.items.extend_from_slice(set)?;
         let end = end_of(&self.items)?;
-        self.places.push(SetSpan { start, end, count })?;
+        self.spans.push(SetSpan { start, end, count })?;
         Ok(())
     }
 
-    /// The items of the set at a place.
-    pub fn items(&self, place: usize) -> &[u32]
-        requires { place < length self.now }
-        ensures items { result.now ≡ set_at self.now place }
-        ensures rising { IsRising (set_at self.now place) }
+    /// The items of the set at an index.
+    pub fn items(&self, index: usize) -> &[u32]
+        requires { index < length self.now }
+        ensures items { result.now ≡ set_at self.now index }
+        ensures rising { IsRising (set_at self.now index) }
     {
-        self.places[place].of(&self.items)
+        self.spans[index].of(&self.items)
     }
 
-    /// The items of the set at a place, or none if there is no such place.
-    pub fn items_if_any(&self, place: usize) -> &[u32] {
-        match self.places.get(place) {
-            Some(place) => place.of(&self.items),
+    /// The items of the set at an index, or none if there is no such index.
+    pub fn items_if_any(&self, index: usize) -> &[u32] {
+        match self.spans.get(index) {
+            Some(span) => span.of(&self.items),
             None => &[],
         }
     }
 
-    /// The count of the set at a place.
-    pub fn count(&self, place: usize) -> u64
-        requires { place < length self.now }
-        ensures { result ≡ count_at self.now place }
+    /// The count of the set at an index.
+    pub fn count(&self, index: usize) -> u64
+        requires { index < length self.now }
+        ensures { result ≡ count_at self.now index }
     {
-        self.places[place].count
+        self.spans[index].count
     }
 
     /// How many items the sets have together.

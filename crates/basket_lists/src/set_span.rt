@@ -1,4 +1,4 @@
-//! The places of sets in a list of items.
+//! Where sets stand in a list of items.
 ghost use Rattle.std.specs.Prelude.{◌≡◌, IfOk, length};
 ghost use Rattle.std.specs.List.{slice_range};
 ghost use Rattle.basket_lists.specs.Plain.{IsWithin};

@@ -11,7 +11,7 @@ use std::marker::Model;
 pub struct Sets<'a> {
     alloc: Global,
     list: &'a CountedSets,
-    place: usize,
+    index: usize,
 }
 
 impl<'a> Model for Sets<'a> {
@@ -20,9 +20,9 @@ impl<'a> Model for Sets<'a> {
 
     ghost Value = { List Set };
 
-    ghost view = { λ sets. drop sets.place sets.list.now };
+    ghost view = { λ sets. drop sets.index sets.list.now };
 
-    ghost invariant = { λ sets. sets.place ≤ length sets.list.now };
+    ghost invariant = { λ sets. sets.index ≤ length sets.list.now };
 }
 
 impl CountedSets {
@@ -34,7 +34,7 @@ impl CountedSets {
         Sets {
             alloc,
             list: self,
-            place: 0,
+            index: 0,
         }
     }
 }
@@ -50,21 +50,21 @@ impl<'a> Iterator for Sets<'a> {
     ghost remaining = { item_count (λ left. left) };
 
     fn next(&mut self) -> Option<Result<Counted, AllocError>> {
-        if self.place == self.list.len() {
+        if self.index == self.list.len() {
             return None;
         }
-        let place = self.place;
-        self.place = place + 1;
-        Some(counted(self.alloc, self.list, place))
+        let index = self.index;
+        self.index = index + 1;
+        Some(counted(self.alloc, self.list, index))
     }
 }
 
-/// The set at a place with its count.
-fn counted(alloc: Global, list: &CountedSets, place: usize) -> Result<Counted, AllocError>
-    requires { place < length list.now }
-    ensures { IfOk result (λ counted. counted ≡ record { set = set_at list.now place; count = count_at list.now place }) }
+/// The set at an index with its count.
+fn counted(alloc: Global, list: &CountedSets, index: usize) -> Result<Counted, AllocError>
+    requires { index < length list.now }
+    ensures { IfOk result (λ counted. counted ≡ record { set = set_at list.now index; count = count_at list.now index }) }
 {
-    let set = list.set(alloc, place)?;
-    let count = list.count(place);
+    let set = list.set(alloc, index)?;
+    let count = list.count(index);
     Ok(Counted { set, count })
 }

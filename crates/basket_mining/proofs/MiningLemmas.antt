@@ -1,20 +1,15 @@
 -- From the frequent sets of coded baskets to those of a database.
-use Rattle.std.proofs.Common.{◌≡◌, ◌+◌, ◌^◌, ◌<◌, ℕ, List, [], ◌∷◌, get_or, length, refl, sym, ap, ◌∙◌, subst, arith, suc}
-use Rattle.std.specs.List.{range_with_len, sum, sum_by}
-use Rattle.std.proofs.lemmas.List.Sums.{sum_by-cons}
+use Rattle.std.proofs.Common.{◌≡◌, ◌+◌, ◌^◌, ◌<◌, ℕ, List, length, sym, ap, ◌∙◌, subst, arith}
 use Rattle.basket_sets.specs.declared.minimum.Minimum.{Minimum}
 use Rattle.basket_sets.specs.declared.weighted.Weighted.{Weighted}
-use Rattle.basket_ranks.specs.Codes.{Coding, IsCoding, coding_of, merged_coding, baskets_of, frequent_of_coding, ranks_of}
+use Rattle.basket_ranks.specs.Codes.{Coding, coding_of, merged_coding, baskets_of, frequent_of_coding, ranks_of}
 use Rattle.basket_ranks.specs.Depth.{HasSetOfSize}
 use Rattle.basket_sets.specs.Frequent.{frequent_of}
 use Rattle.basket_sets.specs.Support.{total_of}
 use Rattle.basket_ranks.proofs.theory.Coding.{coding_keeps_frequent, coded_total, merging_keeps_coded}
 use Rattle.basket_ranks.proofs.theory.Depth.{deep_sets_are_many}
-use Rattle.mine_classes.specs.Mined.{CodedRanksAreFrequent, RanksAreFrequent}
-use Rattle.mine_fp.specs.Trees.{ClassTreesAddUp, class_trees, trees_of}
-use Rattle.mine_phases.specs.Classes.{IsWorkOfAll}
-use Rattle.mine_vertical.specs.Joins.{ClassJoinsAddUp, class_joins, joins_of}
-use Rattle.basket_mining.specs.Classes.{IsJoins, IsTrees}
+use Rattle.mine_classes.specs.Mined.{RanksAreFrequent}
+use Rattle.mine_classes.proofs.theory.Listed.{coded_ranks_are_frequent}
 use Rattle.basket_mining.specs.Mining.{IsWorkOver}
 use Rattle.basket_mining.specs.declared.mining.Work.{Work}
 use Rattle.basket_core.specs.Listing.{Listing, listing_of}
@@ -58,29 +53,9 @@ module _ (coding merged : Coding) (list : frequent_of_coding merged ≡ frequent
       ap (candidate_count (baskets_of merged)) one
       ∙ ap length (law (baskets_of merged) database minimum (subst (λ m. frequent_of (baskets_of merged) m ≡ frequent_of database minimum) one same))
 
--- ---- the work of classes
-
-sum_is : (f : ℕ → ℕ) (first : ℕ) (each : List ℕ) → ((k : ℕ) → k < length each → get_or each k 0 ≡ f (first + k)) → sum each ≡ sum_by f (range_with_len first (length each))
-sum_is f first [] are = refl
-sum_is f first (x ∷ each) are =
-    let head : x ≡ f first = are 0 (omega arith) ∙ ap f (omega arith) in
-    let rest = sum_is f (first + 1) each (λ k below. are (suc k) (omega arith) ∙ ap f (omega arith)) in
-    sum_by-cons (λ n. n) x each ∙ (λ i. head i + rest i) ∙ sym (sum_by-cons f first (range_with_len (first + 1) (length each)))
-
 module _ (database : List Weighted) (minimum : Minimum) (coding : Coding) (made : coding ≡ coding_of database minimum) where
-  pub joins_are : (total : ℕ) → CodedRanksAreFrequent → ClassJoinsAddUp → IsWorkOfAll (IsJoins coding) (length coding.items) total → total ≡ joins_of (coding_of database minimum)
-  joins_are total frequent adds so =
-      let ranks : RanksAreFrequent coding = subst RanksAreFrequent (sym made) (frequent database minimum).0 in
-      so.added
-      ∙ sum_is (class_joins coding) 0 so.each (λ k below. let e : k ≡ 0 + k = omega arith in so.works k (subst (λ n. k < n) so.long below) ranks ∙ ap (class_joins coding) e)
-      ∙ ap (λ n. sum_by (class_joins coding) (range_with_len 0 n)) so.long
-      ∙ adds coding ∙ ap joins_of made
-
-  pub trees_are : (total : ℕ) → IsCoding coding → ClassTreesAddUp → IsWorkOfAll (IsTrees coding) (length coding.items) total → total ≡ trees_of (coding_of database minimum)
-  trees_are total is adds so =
-      so.added
-      ∙ sum_is (class_trees coding) 0 so.each (λ k below. let e : k ≡ 0 + k = omega arith in so.works k (subst (λ n. k < n) so.long below) ∙ ap (class_trees coding) e)
-      ∙ ap (λ n. sum_by (class_trees coding) (range_with_len 0 n)) so.long ∙ adds coding is ∙ ap trees_of made
+  pub ranks_are_frequent : RanksAreFrequent coding
+  ranks_are_frequent = subst RanksAreFrequent (sym made) (coded_ranks_are_frequent database minimum).0
 
   -- what is answered for the coding is answered for the database
   pub sets_are : (result : Result (Listing × Work) MineFault) → IfOk result (λ mined. mined.0 ≡ listing_of coding) → IfOk result (λ mined. mined.0.sets ≡ frequent_of database minimum)

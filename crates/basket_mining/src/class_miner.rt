@@ -1,5 +1,7 @@
 //! The miners that mine class by class.
-ghost use Rattle.basket_mining.specs.Classes.{IsJoins, IsTrees};
+ghost use Rattle.mine_classes.specs.Mined.{RanksAreFrequent};
+ghost use Rattle.mine_fp.specs.Trees.{class_trees};
+ghost use Rattle.mine_vertical.specs.Joins.{class_joins};
 
 use basket_core::CountedSets;
 use mine_conditional::ClassScratch;
@@ -20,7 +22,9 @@ pub struct EclatMiner<'a, R> {
 impl<R: Row> ClassMiner for EclatMiner<'_, R> {
     ghost coding_of = { λ miner. miner.vertical };
 
-    ghost is_work = { λ miner. IsJoins miner.vertical };
+    ghost work_of = { λ miner. class_joins miner.vertical };
+
+    ghost exact = { λ miner. RanksAreFrequent miner.vertical };
 
     fn class<T: Tally>(
         &self,
@@ -40,7 +44,7 @@ pub struct FpGrowthMiner<'a>(pub Forest<'a>);
 impl ClassMiner for FpGrowthMiner<'_> {
     ghost coding_of = { λ miner. miner.0 };
 
-    ghost is_work = { λ miner. IsTrees miner.0 };
+    ghost work_of = { λ miner. class_trees miner.0 };
 
     fn class<T: Tally>(
         &self,

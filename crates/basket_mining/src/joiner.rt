@@ -124,7 +124,7 @@ impl PartWork<(Extensions, CountedSets)> for Counted<'_> {
     }
 }
 
-/// This many of the counts, from a place on.
+/// This many of the counts, from an index on.
 fn counts_from(counts: &[u64], first: usize, count: usize) -> &[u64]
     requires { first + count ≤ length counts.now }
     ensures { result.now ≡ slice_range counts.now first (first + count) }

@@ -13,9 +13,7 @@ use crate::merging::merged_if_it_pays;
 use basket_core::{Coded, Codes, Database, Frequent, Minimum, deep};
 use basket_plan::{Miner, Plan};
 use mine_apriori::laws::candidates_by_sets;
-use mine_classes::laws::coded_ranks_are_frequent;
 use mine_fp::Forest;
-use mine_fp::laws::class_trees_add_up;
 use mine_limit::MineFault;
 use mine_phases::{class_phase, mine_shared, runs_shared};
 use mine_pieces::{Cutting, Gate, count_shared};
@@ -198,7 +196,6 @@ fn by_eclat<R: Threads + Sync, G: Gate + Sync, T: Row + Sync>(
     ensures work { IfOk result (λ mined. IsWorkOver coded.now join_work mined.1) }
     ensures too_many { (most : ℕ) → result ≡ Err (TooMany most) → (most ≡ limit) × (limit < length (frequent_of_coding coded.now)) }
 {
-    coded_ranks_are_frequent();
     class_joins_add_up();
     let runs = runs_shared(rt, alloc, coded, cutting)?;
     let miner = EclatMiner::<T> {
@@ -224,7 +221,6 @@ fn by_fp_growth<R: Threads + Sync, G: Gate + Sync>(
     ensures work { IfOk result (λ mined. IsWorkOver coded.now tree_work mined.1) }
     ensures too_many { (most : ℕ) → result ≡ Err (TooMany most) → (most ≡ limit) × (limit < length (frequent_of_coding coded.now)) }
 {
-    class_trees_add_up();
     let _coding = coded.baskets();
     let runs = runs_shared(rt, alloc, coded, cutting)?;
     let forest = Forest::of_runs(alloc, coded, runs)?;

@@ -1,9 +1,9 @@
-//! A search in a sorted list that is fast close to a given place.
+//! A search in a sorted list that is fast close to a given index.
 ghost use Rattle.std.specs.Prelude.{◌≡◌, ◌≤◌, ◌<◌, ◌+◌, IfSome, IfNone};
 
-/// The places of a sorted list among which an element is searched for: an exponential search
-/// (Bentley and Yao 1976). The steps away from a given place double, towards greater elements or towards
-/// lesser ones; once a lesser and a greater element are known, the places between them are halved. The
+/// The indexes of a sorted list among which an element is searched for: an exponential search
+/// (Bentley and Yao 1976). The steps away from a given index double, towards greater elements or towards
+/// lesser ones; once a lesser and a greater element are known, the indexes between them are halved. The
 /// caller compares the elements.
 #[derive(Debug, Drop)]
 pub struct NearSearch {
@@ -15,7 +15,7 @@ pub struct NearSearch {
 }
 
 impl NearSearch {
-    /// Searches a whole list. Whatever `near` is, each place may still be looked at.
+    /// Searches a whole list. Whatever `near` is, each index may still be looked at.
     pub fn new(near: usize, length: usize) -> Self
         ensures start { result.start ≡ 0 }
         ensures end { result.end ≡ length }
@@ -29,7 +29,7 @@ impl NearSearch {
         }
     }
 
-    /// The place to look at next.
+    /// The index to look at next.
     #[inline(always)]
     pub fn next(&self) -> Option<usize>
         ensures from { IfSome result (λ at. self.now.start ≤ at) }
@@ -43,33 +43,33 @@ impl NearSearch {
         }
     }
 
-    /// The element at this place is less: only those after it are left.
+    /// The element at this index is less: only those after it are left.
     #[inline(always)]
-    pub fn go_after(&mut self, place: usize)
-        requires { place < self.old.end }
-        ensures start { self.new.start ≡ place + 1 }
+    pub fn go_after(&mut self, index: usize)
+        requires { index < self.old.end }
+        ensures start { self.new.start ≡ index + 1 }
         ensures end { self.new.end ≡ self.old.end }
     {
-        self.start = place + 1;
+        self.start = index + 1;
         self.guess = if self.bounded {
             self.middle()
         } else {
-            place.saturating_add(self.start.saturating_sub(self.near))
+            index.saturating_add(self.start.saturating_sub(self.near))
         };
     }
 
-    /// The element at this place is greater: only those before it are left.
+    /// The element at this index is greater: only those before it are left.
     #[inline(always)]
-    pub fn go_before(&mut self, place: usize)
+    pub fn go_before(&mut self, index: usize)
         ensures start { self.new.start ≡ self.old.start }
-        ensures end { self.new.end ≡ place }
+        ensures end { self.new.end ≡ index }
     {
-        self.end = place;
+        self.end = index;
         self.bounded = true;
         self.guess = if self.start > 0 {
             self.middle()
         } else {
-            place.saturating_sub(self.near.saturating_sub(place).saturating_add(1))
+            index.saturating_sub(self.near.saturating_sub(index).saturating_add(1))
         };
     }
 
@@ -78,7 +78,7 @@ impl NearSearch {
         self.start + self.end.saturating_sub(self.start) / 2
     }
 
-    /// The first place that is left.
+    /// The first index that is left.
     pub fn start(&self) -> usize
         ensures { result ≡ self.now.start }
     {

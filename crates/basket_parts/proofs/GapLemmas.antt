@@ -1,19 +1,19 @@
 -- The subsets of a set with one item less, and the first set that has a gap.
-use Rattle.std.proofs.Common.{◌≡◌, ℕ, ◌+◌, ◌-◌, ◌<◌, Bool, true, false, ◌||◌, ◌&&◌, List, [], ◌∷◌, ◌++◌, map, filter, cond, length, take, drop, get_or, ◌≤◌, Option, Some, None, refl, sym, ap, ◌∙◌, arith, suc, zero}
+use Rattle.std.proofs.lemmas.Grind.{common_steps}
+use Rattle.std.proofs.Common.{◌≡◌, ℕ, ◌+◌, ◌-◌, ◌<◌, Bool, true, false, ◌||◌, ◌&&◌, List, [], ◌∷◌, ◌++◌, map, filter, length, take, drop, get_or, ◌≤◌, Option, Some, None, refl, sym, ap, ◌∙◌, arith, suc, zero}
 use Rattle.std.specs.Option.{option_map}
 use Rattle.std.specs.List.{list_any, find}
 use Rattle.std.proofs.Math.Bool.{or_comm, or-false}
 use Rattle.std.proofs.lemmas.List.Folds.{list_any-append}
 use Rattle.std.proofs.lemmas.Bool.{or_from, or_left, or_right}
-use Rattle.std.proofs.lemmas.List.{drop_more, at_drop_all}
+use Rattle.std.proofs.lemmas.List.{at_drop_all}
 use Rattle.basket_read.specs.declared.counted_line.CountedLine.{CountedLine}
 use Rattle.basket_read.specs.declared.fault.ReadFault.TheVariants.{Subset}
-use Rattle.basket_sets.specs.declared.counted.Counted.{Counted}
 use Rattle.basket_sets.specs.declared.minimum.Minimum.{Minimum}
 use Rattle.basket_sets.specs.Order.{IsInReportOrder}
 use Rattle.basket_sets.specs.Subsets.{subsets_of_size}
-use Rattle.basket_parts.specs.CombinedCounts.{sets_of, count_if, counted_in, line_for, line_in, is_frequent_in}
-use Rattle.basket_parts.specs.Gap.{is_gap, has_gap_below, has_gap, first_gap, is_gap_line}
+use Rattle.basket_parts.specs.CombinedCounts.{count_if}
+use Rattle.basket_parts.specs.Gap.{is_gap, has_gap_below, first_gap, is_gap_line}
 use Rattle.basket_parts.proofs.SameLemmas.{together_already}
 
 -- ---- whether one of some subsets passes a test
@@ -32,7 +32,7 @@ whole : (set : List ℕ) → subsets_of_size (length set) set ≡ set ∷ []
 whole [] = refl
 whole (item ∷ set) = λ k. map (λ s. item ∷ s) (whole set k) ++ too_large (suc (length set)) set (omega arith) k
 
--- the sets without the item at each place
+-- the sets without the item at each index
 abbrev without_each : List ℕ → List (List ℕ)
 without_each [] = []
 without_each (item ∷ set) = set ∷ map (λ s. item ∷ s) (without_each set)
@@ -50,9 +50,7 @@ any_below p item (next ∷ set) =
 
 any_of_subsets : (p : List ℕ → Bool) (set : List ℕ) → 0 < length set → list_any p (subsets_of_size (length set - 1) set) ≡ list_any p (without_each set)
 any_of_subsets p [] some = absurd (omega arith)
-any_of_subsets p (item ∷ set) some =
-    let one : length (item ∷ set) - 1 ≡ length set = omega arith in
-    ap (λ n. list_any p (subsets_of_size n (item ∷ set))) one ∙ any_below p item set
+any_of_subsets p (item ∷ set) some = grind (arith, any_below p item set)
 
 none_left : (p : List ℕ → Bool) (set : List ℕ) → ((k : ℕ) → k < length set → p (take k set ++ drop (suc k) set) ≡ false) → list_any p (without_each set) ≡ false
 none_left p [] h = refl
@@ -66,9 +64,9 @@ some_left p (item ∷ set) zero below h = or_left (p set) (list_any p (map (λ s
 some_left p (item ∷ set) (suc k) below h =
     or_right (p set) (list_any p (map (λ s. item ∷ s) (without_each set))) (any-map p item (without_each set) ∙ some_left (λ s. p (item ∷ s)) set k (omega arith) h)
 
--- whether the set without the item at a place shows a gap
+-- whether the set without the item at an index shows a gap
 abbrev pub gap_at : List CountedLine → ℕ → List ℕ → ℕ → Bool
-gap_at lines count set place = is_gap count (take place set ++ drop (place + 1) set) (count_if lines (take place set ++ drop (place + 1) set))
+gap_at lines count set index = is_gap count (take index set ++ drop (index + 1) set) (count_if lines (take index set ++ drop (index + 1) set))
 
 pub no_gap : (lines : List CountedLine) (count : ℕ) (set : List ℕ) → 0 < length set → ((k : ℕ) → k < length set → gap_at lines count set k ≡ false) → has_gap_below lines count set ≡ false
 no_gap lines count set some none =
@@ -77,12 +75,8 @@ no_gap lines count set some none =
     (λ k below. let next : suc k ≡ k + 1 = omega arith in
     ap (λ n. is_gap count (take k set ++ drop n set) (count_if lines (take k set ++ drop n set))) next ∙ none k below)
 
-pub gap_found : (lines : List CountedLine) (count : ℕ) (set : List ℕ) (place : ℕ) → place < length set → gap_at lines count set place ≡ true → has_gap_below lines count set ≡ true
-gap_found lines count set place below h =
-    let next : suc place ≡ place + 1 = omega arith in
-    any_of_subsets (λ subset. is_gap count subset (count_if lines subset)) set (omega arith)
-    ∙ some_left (λ subset. is_gap count subset (count_if lines subset)) set place below
-    (ap (λ n. is_gap count (take place set ++ drop n set) (count_if lines (take place set ++ drop n set))) next ∙ h)
+pub gap_found : (lines : List CountedLine) (count : ℕ) (set : List ℕ) (index : ℕ) → index < length set → gap_at lines count set index ≡ true → has_gap_below lines count set ≡ true
+gap_found lines count set index below h = grind (arith, any_of_subsets, some_left)
 
 -- ---- the first line that passes a test
 
@@ -95,29 +89,16 @@ find-filter p q [] = refl
 find-filter p q (x ∷ xs) = let rest = find-filter p q xs in grind arith
 
 map_found : {X Y Z : Type 0} (f : X → Y) (g : Y → Z) (found : Option X) → option_map g (option_map f found) ≡ option_map (λ x. g (f x)) found
-map_found f g None = refl
-map_found f g (Some x) = refl
+map_found f g found = grind (arith, common_steps)
 
--- the first that passes stands at the place up to which none does
-pub found_at : {X : Type 0} (p : X → Bool) (xs : List X) (place : ℕ) (x : X) → place < length xs → x ≡ get_or xs place x → p x ≡ true → find p (drop place xs) ≡ find p xs → find p xs ≡ Some x
-found_at p xs place x below is passes before =
-    sym before ∙ ap (find p) (drop_more xs place x below) ∙ ap (λ y. cond (p y) (Some y) (find p (drop (place + 1) xs))) (sym is)
-    ∙ ap (λ b. cond b (Some x) (find p (drop (place + 1) xs))) passes
+-- the first that passes stands at the index up to which none does
+pub found_at : {X : Type 0} (p : X → Bool) (xs : List X) (index : ℕ) (x : X) → index < length xs → x ≡ get_or xs index x → p x ≡ true → find p (drop index xs) ≡ find p xs → find p xs ≡ Some x
+found_at p xs index x below is passes before = grind (arith, common_steps)
 
-pub found_none : {X : Type 0} (p : X → Bool) (xs : List X) (place : ℕ) → length xs ≤ place → find p (drop place xs) ≡ find p xs → find p xs ≡ None
-found_none p xs place all before = sym before ∙ at_drop_all (find p) xs place all
+pub found_none : {X : Type 0} (p : X → Bool) (xs : List X) (index : ℕ) → length xs ≤ index → find p (drop index xs) ≡ find p xs → find p xs ≡ None
+found_none p xs index all before = sym before ∙ at_drop_all (find p) xs index all
 
 -- the first frequent set that has a gap is that of the first line that says so
 pub first_gap_line : (lines : List CountedLine) (minimum : Minimum) → IsInReportOrder (map (λ (line : CountedLine). line.set) lines)
     → option_map (λ (line : CountedLine). Subset line.line) (find (is_gap_line lines minimum) lines) ≡ first_gap lines minimum
-first_gap_line lines minimum up =
-    let sets = sets_of lines in
-    let frequent = is_frequent_in lines minimum in
-    let number = λ (counted : Counted). Subset (line_in lines counted.set) in
-    let line = λ (l : CountedLine). Subset l.line in
-    ap (λ l. option_map line (find (is_gap_line lines minimum) l)) (sym (together_already lines up))
-    ∙ ap (option_map line) (find-map (line_for lines) (is_gap_line lines minimum) sets)
-    ∙ map_found (line_for lines) line (find (λ set. frequent set && has_gap lines set) sets)
-    ∙ sym (map_found (counted_in lines) number (find (λ set. frequent set && has_gap lines set) sets))
-    ∙ ap (λ found. option_map number (option_map (counted_in lines) found)) (sym (find-filter frequent (has_gap lines) sets))
-    ∙ ap (option_map number) (sym (find-map (counted_in lines) (λ (counted : Counted). has_gap lines counted.set) (filter frequent sets)))
+first_gap_line lines minimum up = grind (arith, together_already lines up, find-map, map_found, find-filter)

@@ -1,5 +1,5 @@
 -- What putting together keeps.
-use Rattle.std.proofs.Common.{◌≡◌, ℕ, ◌+◌, ◌||◌, ◌&&◌, not, List, [], ◌∷◌, ◌++◌, map, filter, length, eqb, cond, refl, sym, ap, ◌∙◌, subst, inl, inr, arith}
+use Rattle.std.proofs.Common.{◌≡◌, ℕ, ◌&&◌, not, List, [], ◌∷◌, ◌++◌, map, filter, length, eqb, cond, refl, sym, ap, ◌∙◌, subst, inl, inr, arith}
 use Rattle.std.proofs.lemmas.List.{map-id}
 use Rattle.std.proofs.lemmas.List.Folds.{list_any-append}
 use Rattle.std.proofs.lemmas.Simd.{map-map}
@@ -10,7 +10,7 @@ use Rattle.basket_sets.specs.declared.counted.Counted.{Counted}
 use Rattle.basket_sets.specs.declared.minimum.Minimum.{Minimum}
 use Rattle.basket_sets.specs.Minimum.{meets}
 use Rattle.basket_sets.specs.Order.{IsInReportOrder}
-use Rattle.basket_sets.proofs.theory.Members.{Member, Member-map}
+use Rattle.basket_sets.proofs.theory.Members.{Member-map}
 use Rattle.basket_sets.proofs.theory.Rising.{same_test}
 use Rattle.basket_parts.specs.CombinedCounts.{is_of, has_set, count_in, line_in, sets_of, line_for, combined}
 use Rattle.basket_parts.specs.Laws.{CountsAddUp, CombiningByParts, CombiningKeepsCounts, CombiningKeepsFrequent, CombiningKeepsSets}
@@ -26,9 +26,7 @@ combined-in_order : (lines : List CountedLine) → IsInReportOrder (map set_of (
 combined-in_order lines = subst IsInReportOrder (sym (sets_of_together lines (sets_of lines))) (sets-in_order lines)
 
 has_together : (lines : List CountedLine) (set : List ℕ) → has_set (combined lines) set ≡ has_set lines set
-has_together lines set = same_test (has_set (combined lines) set) (has_set lines set)
-    (λ h. has_from_sets lines set (subst (Member set) (sets_of_together lines (sets_of lines)) (listed_from_has (combined lines) set h)))
-    (λ h. has_from_listed (combined lines) set (subst (Member set) (sym (sets_of_together lines (sets_of lines))) (sets_from_has lines set h)))
+has_together lines set = grind (arith, sets_of_together lines (sets_of lines), same_test, has_from_sets, listed_from_has, has_from_listed, sets_from_has)
 
 pub says_together : (lines : List CountedLine) (set : List ℕ) → SaysSame (combined lines) lines set
 says_together lines set = elim (cases_Bool (has_set lines set)) [
@@ -49,11 +47,7 @@ line-append [] b set = refl
 line-append (line ∷ a) b set = let rest = line-append a b set in grind arith
 
 says_append : (a b c d : List CountedLine) (set : List ℕ) → SaysSame a c set → SaysSame b d set → SaysSame (a ++ b) (c ++ d) set
-says_append a b c d set s t = record {
-  has = list_any-append (is_of set) a b ∙ (λ k. s.has k || t.has k) ∙ sym (list_any-append (is_of set) c d);
-  count = sum_by-append (adds set) a b ∙ (λ k. s.count k + t.count k) ∙ sym (sum_by-append (adds set) c d);
-  line = line-append a b set ∙ (λ k. cond (s.has k) (s.line k) (t.line k)) ∙ sym (line-append c d set);
-}
+says_append a b c d set s t = grind (arith, list_any-append (is_of set) a b, list_any-append (is_of set) c d, sum_by-append (adds set) a b, sum_by-append (adds set) c d, adds set, line-append a b set, line-append c d set)
 
 -- ---- the laws
 

@@ -1,5 +1,5 @@
 -- Lines in the order of their sets, made one for each set.
-use Rattle.std.proofs.Common.{◌≡◌, ℕ, Bool, true, false, List, [], ◌∷◌, map, cond, refl, sym, ap, ◌∙◌, subst, inl, inr, arith}
+use Rattle.std.proofs.Common.{◌≡◌, ℕ, Bool, true, false, List, [], ◌∷◌, map, cond, refl, sym, ◌∙◌, subst, inl, inr, arith}
 use Rattle.std.specs.declared.cmp.Ordering.TheVariants.{Less}
 use Rattle.std.specs.Ordering.{is_lt}
 use Rattle.std.specs.Prelude.{nat_eq}
@@ -17,14 +17,7 @@ use Rattle.basket_parts.proofs.SameLemmas.{SaysSame, says_itself, says_on, says_
 
 -- two lines that have one set, or one line for both
 pair_as_one : (kept line : CountedLine) (lines : List CountedLine) (set : List ℕ) → is_of kept.set line ≡ true → SaysSame (with_more kept line.count ∷ lines) (kept ∷ line ∷ lines) set
-pair_as_one kept line lines set one = record {
-  has = let same = twice in grind arith;
-  count = let same = twice in grind (arith, count_more);
-  line = let same = twice in grind arith;
-}
-  where
-    twice : is_of set line ≡ is_of set kept
-    twice = ap (λ s. pointwise nat_eq s set) (same_items line.set kept.set one)
+pair_as_one kept line lines set one = grind (arith, same_items line.set kept.set one, count_more)
 
 merged_says : (kept : CountedLine) (lines : List CountedLine) (set : List ℕ) → SaysSame (merged_from kept lines) (kept ∷ lines) set
 merged_says kept [] set = says_itself (kept ∷ []) set
@@ -76,5 +69,4 @@ merged-in_order kept (line ∷ lines) up =
         below set m = later set (listed_from_has (line ∷ lines) set (sym (merged_says line lines set).has ∙ has_from_listed (merged_from line lines) set m))
 
 pub merging_in_order : (lines : List CountedLine) → Ascends lines → IsInReportOrder (map set_of (merged lines))
-merging_in_order [] up = nothing_in_order
-merging_in_order (line ∷ lines) up = merged-in_order line lines up
+merging_in_order lines h1 = grind (arith, nothing_in_order, merged-in_order)

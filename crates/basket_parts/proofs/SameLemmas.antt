@@ -1,6 +1,7 @@
 -- Lists of lines that say the same of each set.
-use Rattle.std.proofs.Common.{◌≡◌, ℕ, ◌+◌, false, ◌||◌, List, [], ◌∷◌, map, cond, refl, sym, ap, ◌∙◌, subst, inl, inr, arith}
-use Rattle.std.specs.declared.cmp.Ordering.TheVariants.{Less, Equal}
+use Rattle.std.proofs.lemmas.Grind.{common_steps}
+use Rattle.std.proofs.Common.{◌≡◌, ℕ, ◌+◌, false, List, [], ◌∷◌, map, cond, refl, sym, ◌∙◌, inl, inr, arith}
+use Rattle.std.specs.declared.cmp.Ordering.TheVariants.{Less}
 use Rattle.std.specs.Prelude.{nat_eq}
 use Rattle.std.specs.Cmp.Lexicographic.{pointwise}
 use Rattle.std.specs.Option.{unwrap_or}
@@ -11,7 +12,7 @@ use Rattle.std.proofs.lemmas.Simd.{map-map}
 use Rattle.basket_read.specs.declared.counted_line.CountedLine.{CountedLine}
 use Rattle.basket_sets.specs.Order.{IsInReportOrder, report_order, report_order_total}
 use Rattle.basket_sets.proofs.theory.Members.{Member, Member-map, first_is_less, rest_is_sorted}
-use Rattle.basket_parts.specs.CombinedCounts.{is_of, has_set, count_in, line_in, sets_of, line_for, combined, count_if, total_in}
+use Rattle.basket_parts.specs.CombinedCounts.{is_of, has_set, count_in, line_in, line_for, combined, count_if, total_in}
 use Rattle.basket_parts.proofs.theory.Sets.{set_of, same_items, itself, listed_from_has, same_sets, sets_listed}
 
 -- both lists have a set or neither has, with one count, first in one line
@@ -35,17 +36,11 @@ count_more line lines set = sum_by-cons (adds set) line lines
 
 -- one line more in front of both
 pub says_more : (line : CountedLine) (a b : List CountedLine) (set : List ℕ) → SaysSame a b set → SaysSame (line ∷ a) (line ∷ b) set
-says_more line a b set s = record {
-  has = ap (λ h. is_of set line || h) s.has;
-  count = count_more line a set ∙ ap (λ n. adds set line + n) s.count ∙ sym (count_more line b set);
-  line = ap (λ n. cond (is_of set line) line.line n) s.line;
-}
+says_more line a b set s = grind (arith, common_steps)
 
 -- lists that say the same of each set are the same put together
 pub same_together : (a b : List CountedLine) → ((set : List ℕ) → SaysSame a b set) → combined a ≡ combined b
-same_together a b same =
-    ap (map (line_for a)) (same_sets a b (λ set. (same set).has))
-    ∙ ap (λ (f : List ℕ → CountedLine). map f (sets_of b)) (λ k set. record { set = set; count = (same set).count k; line = (same set).line k })
+same_together a b same = grind (arith, same_sets)
 
 -- ---- a set that no line has
 
@@ -64,8 +59,7 @@ total_or_none lines = grind (arith, no_count lines [])
 -- ---- lines whose sets are in report order
 
 differs : (a b : List ℕ) → report_order a b ≡ Less → pointwise nat_eq a b ≡ false
-differs a b less = false_from_ne_true (pointwise nat_eq a b)
-    (λ e. let no : Less ≡ Equal = sym less ∙ subst (λ s. report_order a s ≡ Equal) (same_items a b e) (tied_itself report_order_total a) in cc)
+differs a b less = grind (arith, tied_itself report_order_total a, false_from_ne_true, same_items)
 
 first_alone : (line : CountedLine) (lines : List CountedLine) → IsInReportOrder (map set_of (line ∷ lines)) → has_set lines line.set ≡ false
 first_alone line lines up = false_from_ne_true (has_set lines line.set) (λ e.
@@ -74,16 +68,7 @@ first_alone line lines up = false_from_ne_true (has_set lines line.set) (λ e.
 -- each line stands alone for its set
 pub stands_alone : (lines : List CountedLine) → IsInReportOrder (map set_of lines) → (line : CountedLine) → Member line lines → line_for lines line.set ≡ line
 stands_alone [] up line m = absurd m
-stands_alone (first ∷ lines) up line (inl e) = subst (λ (l : CountedLine). line_for (first ∷ lines) l.set ≡ l) e (λ k. record { set = first.set; count = count k; line = number k })
-  where
-    none : has_set lines first.set ≡ false
-    none = first_alone first lines up
-
-    count : count_in (first ∷ lines) first.set ≡ first.count
-    count = let one = itself first.set in let rest = no_count lines first.set none in grind (arith, count_more)
-
-    number : line_in (first ∷ lines) first.set ≡ first.line
-    number = let one = itself first.set in grind arith
+stands_alone (first ∷ lines) up line (inl e) = grind (arith, itself first.set, first_alone, no_count, count_more)
 stands_alone (first ∷ lines) up line (inr m) = (λ k. record { set = line.set; count = count k; line = number k }) ∙ stands_alone lines (rest_is_sorted report_order_total first.set (map set_of lines) up) line m
   where
     other : is_of line.set first ≡ false
@@ -101,6 +86,4 @@ same_map f (x ∷ xs) same = let head = same x (inl refl) in let rest = same_map
 
 -- they are what comes of putting them together
 pub together_already : (lines : List CountedLine) → IsInReportOrder (map set_of lines) → combined lines ≡ lines
-together_already lines up =
-    ap (map (line_for lines)) (sets_listed lines up) ∙ map-map (line_for lines) set_of lines
-    ∙ same_map (λ (line : CountedLine). line_for lines line.set) lines (stands_alone lines up)
+together_already lines up = grind (arith, sets_listed lines up, map-map (line_for lines) set_of lines, stands_alone lines up, same_map)

@@ -28,9 +28,9 @@ sorted_lines lines up k d low high =
     ap is_lt (report_order_total.antisymm next this ∙ ap ordering_reverse less)
 
 -- a line that is found has the count of the set
-pub found_count : (lines : List CountedLine) (set : List ℕ) (place : ℕ) (line : CountedLine) → IsInReportOrder (map set_of lines) → place < length lines → line ≡ get_or lines place line
-    → HoldsAt (λ (y : CountedLine). report_order y.set set ≡ Equal) lines place → Some line.count ≡ count_if lines set
-found_count lines set place line up below is at =
+pub found_count : (lines : List CountedLine) (set : List ℕ) (index : ℕ) (line : CountedLine) → IsInReportOrder (map set_of lines) → index < length lines → line ≡ get_or lines index line
+    → HoldsAt (λ (y : CountedLine). report_order y.set set ≡ Equal) lines index → Some line.count ≡ count_if lines set
+found_count lines set index line up below is at =
     ap Some (sym (ap (λ (l : CountedLine). l.count) (stands_alone lines up line member)) ∙ ap (count_in lines) same)
     ∙ sym (ap (λ b. cond b (Some (count_in lines set)) None) has)
   where
@@ -38,15 +38,15 @@ found_count lines set place line up below is at =
     same = same_items line.set set (report_order_ties line.set set ∙ ap is_eq (ap (λ (l : CountedLine). report_order l.set set) is ∙ at line))
 
     member : Member line lines
-    member = Member-from_Contains line lines (place, below, sym is)
+    member = Member-from_Contains line lines (index, below, sym is)
 
     has : has_set lines set ≡ true
     has = has_from_listed lines set (subst (λ s. Member s (map set_of lines)) same (Member-map set_of line lines member))
 
 -- a set that is not found is in no line
-pub missing_count : (lines : List CountedLine) (set : List ℕ) (place : ℕ) → IsInReportOrder (map set_of lines) → IsBinarySearchResult (λ (y : CountedLine). report_order y.set set) lines (Err place)
+pub missing_count : (lines : List CountedLine) (set : List ℕ) (index : ℕ) → IsInReportOrder (map set_of lines) → IsBinarySearchResult (λ (y : CountedLine). report_order y.set set) lines (Err index)
     → None ≡ count_if lines set
-missing_count lines set place up is = sym (ap (λ b. cond b (Some (count_in lines set)) None) (false_from_ne_true (has_set lines set) none))
+missing_count lines set index up is = sym (ap (λ b. cond b (Some (count_in lines set)) None) (false_from_ne_true (has_set lines set) none))
   where
     none : has_set lines set ≡ true → ⊥
     none h =
@@ -55,7 +55,7 @@ missing_count lines set place up is = sym (ap (λ b. cond b (Some (count_in line
         let point = is (searchable_from_sorted report_order_total set_of lines set (sorted_lines lines up)) in
         let equal : report_order (get_or lines at.0 p.0).set set ≡ Equal =
         ap (λ (l : CountedLine). report_order l.set set) at.2 ∙ ap (λ s. report_order s set) p.2 ∙ tied_itself report_order_total set in
-        elim (cases_lt at.0 place) [
+        elim (cases_lt at.0 index) [
           | inl low ↦ (let less = point.0 at.0 p.0 (omega arith) low in let no : Less ≡ Equal = sym less ∙ equal in cc)
           | inr high ↦ (let more = point.1 at.0 p.0 high at.1 in let no : Greater ≡ Equal = sym more ∙ equal in cc)
         ]

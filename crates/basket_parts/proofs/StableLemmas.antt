@@ -1,5 +1,6 @@
 -- Lines after a sort by their sets that keeps the order of those that have one set.
-use Rattle.std.proofs.Common.{◌≡◌, ℕ, ◌+◌, ◌<◌, Bool, true, false, ◌&&◌, not, List, [], ◌∷◌, ◌++◌, map, filter, cond, refl, sym, ap, ◌∙◌, subst, arith, get_or, suc, append_assoc, Ok, Err}
+use Rattle.std.proofs.lemmas.Grind.{common_steps}
+use Rattle.std.proofs.Common.{◌≡◌, ℕ, ◌+◌, ◌<◌, Bool, true, false, ◌&&◌, not, List, [], ◌∷◌, ◌++◌, map, filter, cond, refl, sym, ap, ◌∙◌, subst, arith, get_or, suc, Ok, Err}
 use Rattle.std.specs.declared.cmp.Ordering.{Ordering}
 use Rattle.std.specs.declared.cmp.Ordering.TheVariants.{Less, Equal, Greater}
 use Rattle.std.specs.Ordering.{is_lt, is_eq, ordering_reverse}
@@ -95,30 +96,23 @@ heavy_after front back h = list_any-append is_heavy front back ∙ or_right (lis
 
 -- a line that is added to the one that is kept makes it heavy
 pub heavy_sum : (kept line : CountedLine) (lines : List CountedLine) → is_of kept.set line ≡ true → MOST_WEIGHT < kept.count + line.count → list_any is_heavy (merged_from kept (line ∷ lines)) ≡ true
-heavy_sum kept line lines one heavy =
-    ap (λ b. list_any is_heavy (cond b (merged_from (with_more kept line.count) lines) (kept ∷ merged_from line lines))) one
-    ∙ heavy_first (with_more kept line.count) lines heavy
+heavy_sum kept line lines one heavy = grind (arith, heavy_first (with_more kept line.count) lines heavy)
 
 -- a line that is heavy itself
 pub heavy_line : (kept line : CountedLine) (lines : List CountedLine) → MOST_WEIGHT < line.count → list_any is_heavy (merged_from kept (line ∷ lines)) ≡ true
 heavy_line kept line lines heavy = let joined = heavy_first (with_more kept line.count) lines (omega arith) in let alone = heavy_first line lines heavy in grind arith
 
 pub none_heavy : (lines : List CountedLine) → All IsLight lines → list_any is_heavy lines ≡ false
-none_heavy lines light =
-    list_any_none is_heavy lines (λ k d below. false_from_ne_true (is_heavy (get_or lines k d)) (λ h. let b = ltb-true MOST_WEIGHT (get_or lines k d).count h in let l = light k d below in omega arith))
+none_heavy lines light = grind (arith, list_any_none, false_from_ne_true, ltb-true)
 
 -- the line that is kept goes to the list, and another is kept
 pub apart_more : (list now : List CountedLine) (kept next line : CountedLine) (lines rest whole : List CountedLine) → is_of kept.set line ≡ false → lines ≡ line ∷ rest
     → now ≡ list ++ kept ∷ [] → next ≡ line → list ++ merged_from kept lines ≡ whole → now ++ merged_from next rest ≡ whole
-apart_more list now kept next line lines rest whole apart is more same before =
-    (λ k. more k ++ merged_from (same k) rest) ∙ append_assoc list (kept ∷ []) (merged_from line rest)
-    ∙ ap (λ l. list ++ l) (sym (ap (λ b. cond b (merged_from (with_more kept line.count) rest) (kept ∷ merged_from line rest)) apart))
-    ∙ ap (λ l. list ++ merged_from kept l) (sym is) ∙ before
+apart_more list now kept next line lines rest whole apart is more same before = grind (arith, common_steps)
 
 -- the list of merged lines is the answer
 pub answers_lines : (lines list : List CountedLine) → list ≡ combined lines → All IsLight list → combined_of lines ≡ Ok list
-answers_lines lines list is light =
-    ap (λ b. cond b (Err Heavy) (Ok (combined lines))) (ap (list_any is_heavy) (sym is) ∙ none_heavy list light) ∙ ap Ok (sym is)
+answers_lines lines list is light = grind (arith, none_heavy list light)
 
 -- or that a count is too great
 pub answers_heavy : (lines list : List CountedLine) → list ≡ combined lines → list_any is_heavy list ≡ true → combined_of lines ≡ Err Heavy

@@ -29,7 +29,7 @@ abbrev pub line_in : List CountedLine → List ℕ → ℕ
 line_in [] set = 0
 line_in (line ∷ lines) set = if is_of set line then line.line else line_in lines set
 
--- a list of sets in report order with the set at its place, once
+-- a list of sets in report order with the set in its order, once
 abbrev pub with_set : List ℕ → List (List ℕ) → List (List ℕ)
 with_set set [] = set ∷ []
 with_set set (first ∷ sets) =

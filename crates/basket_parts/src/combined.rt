@@ -71,7 +71,7 @@ impl CombinedCounts {
         ensures { result ≡ count_if self.now set.now }
     {
         match self.lines.binary_search_by(|line| compare(&line.set, set)) {
-            Ok(place) => Some(self.lines[place].count),
+            Ok(index) => Some(self.lines[index].count),
             Err(_) => None,
         }
     }

@@ -37,8 +37,8 @@ impl CombinedCounts {
         ensures { IfOk result (λ gap. gap ≡ has_gap_below self.now line.now.count line.now.set) }
     {
         let items = line.set.items();
-        for place in 0..items.len() {
-            leave_out(items, place, subset)?;
+        for index in 0..items.len() {
+            leave_out(items, index, subset)?;
             if is_gap(line.count, subset, self.count_of(subset)) {
                 return Ok(true);
             }
@@ -47,14 +47,14 @@ impl CombinedCounts {
     }
 }
 
-/// Makes `rest` the items without the one at the place. Its room is used again.
-fn leave_out(items: &[u32], place: usize, rest: &mut Vec<u32>) -> Result<(), AllocError>
-    requires { place < length items.now }
-    ensures { OnOk result (rest.new.items ≡ take place items.now ++ drop (place + 1) items.now) }
+/// Makes `rest` the items without the one at the index. Its capacity is used again.
+fn leave_out(items: &[u32], index: usize, rest: &mut Vec<u32>) -> Result<(), AllocError>
+    requires { index < length items.now }
+    ensures { OnOk result (rest.new.items ≡ take index items.now ++ drop (index + 1) items.now) }
 {
     rest.clear();
-    rest.extend_from_slice(&items[..place])?;
-    rest.extend_from_slice(&items[place + 1..])?;
+    rest.extend_from_slice(&items[..index])?;
+    rest.extend_from_slice(&items[index + 1..])?;
     Ok(())
 }
 

@@ -1,26 +1,26 @@
 -- A frequent set of many items, found rank by rank.
-use Rattle.std.proofs.Common.{◌≡◌, ◌≢◌, ℕ, ◌+◌, ◌-◌, ◌<◌, ◌≤◌, Bool, true, false, ◌&&◌, List, [], ◌∷◌, ◌++◌, Ok, Err, length, take, drop, get_or, cond, eqb, filter, leb, ltb, refl, sym, ap, ◌∙◌, subst, inl, inr, arith, zero, suc, add-zero}
-use Rattle.std.specs.Prelude.{nat_eq}
+use Rattle.std.proofs.Common.{◌≡◌, ◌≢◌, ℕ, ◌+◌, ◌-◌, ◌<◌, ◌≤◌, Bool, true, not, ◌&&◌, List, [], ◌∷◌, ◌++◌, Ok, Err, length, take, drop, get_or, cond, filter, leb, ltb, refl, sym, ap, ◌∙◌, subst, inl, inr, arith, zero, suc, add-zero}
 use Rattle.std.specs.Ordering.{nat_cmp}
 use Rattle.std.specs.List.Sorted.{IsBinarySearchResult}
-use Rattle.std.specs.List.{Contains, IsDistinct}
-use Rattle.std.proofs.lemmas.Bool.{cases_Bool, le-ltb, cond-false, eqb-true, cond-true, le-leb, lt-leb, lt-ltb, ltb-true}
+use Rattle.std.specs.List.{Contains}
+use Rattle.std.proofs.lemmas.Bool.{cases_Bool, le-ltb, cond-false, cond_both, cond-true, le-leb, lt-leb, lt-ltb, ltb-true}
 use Rattle.std.proofs.lemmas.List.{append-nil, append_assoc, take_rest, take_more, get_or_default, length-append}
 use Rattle.std.proofs.lemmas.List.Concat.{flat_map-append}
 use Rattle.std.proofs.lemmas.List.Elements.{filter-append}
+use Rattle.std.proofs.lemmas.List.Filters.{length-filter_both, sum_by-filter_both}
 use Rattle.std.proofs.lemmas.List.Kept.{IsStrictlySortedBy-filter}
 use Rattle.basket_sets.specs.declared.weighted.Weighted.{Weighted}
 use Rattle.basket_ranks.specs.Codes.{Coding, IsCoding, frequent_of_coding, baskets_of, decoded}
 use Rattle.basket_sets.specs.Database.{weighted, MOST_WEIGHT}
 use Rattle.basket_ranks.specs.Depth.{HasSetOfSize, above, is_long, narrowed, narrowed_place}
 use Rattle.basket_sets.specs.Frequent.{is_frequent, counted}
-use Rattle.basket_sets.specs.Itemset.{IsRising, has, contains, with_item}
+use Rattle.basket_sets.specs.Itemset.{IsRising, has, contains}
 use Rattle.basket_sets.proofs.theory.Frequent.{lists_frequent}
-use Rattle.basket_sets.proofs.theory.Members.{Member, Member-from_map, Member-filter, Member-from_filter, Member-append, Member-append_left, Member-append_right, Member-from_Contains, Contains-from_Member, sorted_append}
+use Rattle.basket_sets.proofs.theory.Members.{Member, Member-flat_map, Member-from_map, Member-into_flat_map, Member-filter, Member-from_filter, Member-append, Member-append_left, Member-append_right, Member-from_Contains, Contains-from_Member, sorted_append}
 use Rattle.basket_sets.specs.Support.{weight_at, support_of, total_of, all_items, items_of}
-use Rattle.basket_sets.specs.Counts.{item_supports, AllBelow}
+use Rattle.basket_sets.specs.Counts.{item_supports}
 use Rattle.basket_sets.specs.Minimum.{meets}
-use Rattle.basket_ranks.proofs.theory.Decoding.{rank_from_decoded, ranks_below, decoded_sound}
+use Rattle.basket_ranks.proofs.theory.Decoding.{length-decoded, ranks_below, decoded_sound}
 use Rattle.basket_sets.proofs.theory.Rising.{same_test, contains_each, has_each, Less-from_lt, nil_rises, cons_rises, first_below, rest_rises, found_at, found_nowhere, has-from_Member, Member-from_has}
 use Rattle.basket_sets.proofs.theory.Tests.{Member-at}
 use Rattle.basket_sets.proofs.theory.Support.{support_falls, support-append, support-cons, in_items, at_least_one, meets_more}
@@ -51,22 +51,11 @@ above_is (x ∷ ranks) (suc k) rank up below is =
     next : (n : ℕ) → suc (n + 1) ≡ suc n + 1
     next n = omega arith
 
-few_above : (rank : ℕ) (ranks : List ℕ) → length (above rank ranks) ≤ length ranks
-few_above rank [] = omega arith
-few_above rank (x ∷ ranks) = at (ltb rank x) (few_above rank ranks)
-  where
-    at : (b : Bool) → length (above rank ranks) ≤ length ranks → length (cond b (x ∷ above rank ranks) (above rank ranks)) ≤ suc (length ranks)
-    at true few = omega arith
-    at false few = omega arith
-
 fewer_above : (rank : ℕ) (ranks : List ℕ) → Member rank ranks → length (above rank ranks) < length ranks
-fewer_above rank [] m = absurd m
-fewer_above rank (x ∷ ranks) m = at (ltb rank x) refl (fewer_above rank ranks) m
-  where
-    at : (b : Bool) → ltb rank x ≡ b → (Member rank ranks → length (above rank ranks) < length ranks) → Member rank (x ∷ ranks) → length (cond b (x ∷ above rank ranks) (above rank ranks)) < suc (length ranks)
-    at true e rest (inl same) = absurd (let less = ltb-true rank x e in omega arith)
-    at true e rest (inr later) = let fewer = rest later in omega arith
-    at false e rest n = let few = few_above rank ranks in omega arith
+fewer_above rank ranks m =
+    let gone = Member-from_filter (λ other. not (ltb rank other)) rank ranks m (ap not (le-ltb rank rank (omega arith))) in
+    let some = Contains-from_Member rank (filter (λ other. not (ltb rank other)) ranks) gone in
+    omega (arith, some.1, length-filter_both (λ other. ltb rank other) (λ other. not (ltb rank other)) (λ other. refl) ranks)
 
 -- a basket that has the rank and so many above it, or not so many
 one_long : (least : ℕ) (kept : List ℕ) (weight : ℕ) → least ≤ length kept → filter (is_long least) (weighted kept weight ∷ []) ≡ weighted kept weight ∷ []
@@ -76,11 +65,8 @@ one_short : (least : ℕ) (kept : List ℕ) (weight : ℕ) → length kept < lea
 one_short least kept weight few = cond-false (leb least (length kept)) (weighted kept weight ∷ []) [] (lt-leb least (length kept) few)
 
 pub too_short : (least rank : ℕ) (ranks : List ℕ) (weight : ℕ) → length ranks ≤ least → filter (is_long least) (narrowed_place rank (weighted ranks weight)) ≡ []
-too_short least rank ranks weight few = at (has ranks rank) refl
-  where
-    at : (b : Bool) → has ranks rank ≡ b → filter (is_long least) (cond b (weighted (above rank ranks) weight ∷ []) []) ≡ []
-    at true e = one_short least (above rank ranks) weight (let fewer = fewer_above rank ranks (Member-from_has ranks rank e) in omega arith)
-    at false e = refl
+too_short least rank ranks weight few = cond_both (has ranks rank) (weighted (above rank ranks) weight ∷ []) [] (λ l. filter (is_long least) l ≡ [])
+    (λ e. one_short least (above rank ranks) weight (let fewer = fewer_above rank ranks (Member-from_has ranks rank e) in omega arith)) (λ e. refl)
 
 module _ (rank at : ℕ) (ranks kept : List ℕ) (up : IsRising ranks) (found : IsBinarySearchResult (λ y. nat_cmp y rank) ranks (Ok at)) (made : kept ≡ take (length ranks - (at + 1)) (drop (at + 1) ranks)) where
   kept_above : kept ≡ above rank ranks
@@ -108,19 +94,16 @@ count_is baskets rank count h =
     ap (λ x. support_of baskets (x ∷ [])) (sym (ap (λ (p : ℕ × ℕ). p.0) m.2)) ∙ ap (λ (p : ℕ × ℕ). p.1) m.2
 
 narrowed_items : (rank : ℕ) (baskets : List Weighted) (x : ℕ) → Member x (all_items (narrowed rank baskets)) → (rank < x) × Member x (all_items baskets)
-narrowed_items rank [] x m = absurd m
-narrowed_items rank (place ∷ baskets) x m = at (has place.basket rank) (narrowed_items rank baskets x) m
-  where
-    later : (rank < x) × Member x (all_items baskets) → (rank < x) × Member x (all_items (place ∷ baskets))
-    later r = (r.0, Member-append_right x place.basket (all_items baskets) r.1)
-
-    at : (b : Bool) → (Member x (all_items (narrowed rank baskets)) → (rank < x) × Member x (all_items baskets))
-        → Member x (all_items (cond b (weighted (above rank place.basket) place.weight ∷ []) [] ++ narrowed rank baskets)) → (rank < x) × Member x (all_items (place ∷ baskets))
-    at true rest n = elim (Member-append x (above rank place.basket) (all_items (narrowed rank baskets)) n) [
-      | inl here ↦ (let k = Member-filter (λ other. ltb rank other) x place.basket here in (ltb-true rank x k.1, Member-append_left x place.basket (all_items baskets) k.0))
-      | inr there ↦ later (rest there)
-    ]
-    at false rest n = later (rest n)
+narrowed_items rank baskets x m =
+    let kept = Member-flat_map (λ (place : Weighted). place.basket) x (narrowed rank baskets) m in
+    let from = Member-flat_map (narrowed_place rank) kept.0 baskets kept.1 in
+    cond_both (has from.0.basket rank) (weighted (above rank from.0.basket) from.0.weight ∷ []) [] (λ l. Member kept.0 l → (rank < x) × Member x (all_items baskets))
+    (λ has n. elim n [
+      | inl is ↦ (let k = Member-filter (λ other. ltb rank other) x from.0.basket (subst (λ (place : Weighted). Member x place.basket) (sym is) kept.2) in
+          (ltb-true rank x k.1, Member-into_flat_map (λ (place : Weighted). place.basket) x from.0 baskets from.1 k.0))
+      | inr no' ↦ absurd no'
+    ])
+    (λ lacks n. absurd n) from.2
 
 above_contains : (rank : ℕ) (basket more : List ℕ) → ((x : ℕ) → Member x more → rank < x) → contains (above rank basket) more ≡ contains basket more
 above_contains rank basket more beyond = same_test _ _
@@ -131,13 +114,13 @@ narrowed_supports : (rank : ℕ) (baskets : List Weighted) (more : List ℕ) →
 narrowed_supports rank [] more beyond = refl
 narrowed_supports rank (place ∷ baskets) more beyond =
     support-append (narrowed_place rank place) (narrowed rank baskets) more
-    ∙ omega (arith, here (has place.basket rank) refl, narrowed_supports rank baskets more beyond, support-cons place baskets (rank ∷ more))
+    ∙ omega (arith, here, narrowed_supports rank baskets more beyond, support-cons place baskets (rank ∷ more))
   where
-    here : (b : Bool) → has place.basket rank ≡ b → support_of (cond b (weighted (above rank place.basket) place.weight ∷ []) []) more ≡ weight_at (rank ∷ more) place
-    here true e =
-        support-cons (weighted (above rank place.basket) place.weight) [] more ∙ add-zero _
-        ∙ ap (λ b. cond b place.weight 0) (above_contains rank place.basket more beyond ∙ sym (ap (λ b. b && contains place.basket more) e))
-    here false e = ap (λ b. cond (b && contains place.basket more) place.weight 0) (sym e)
+    here : support_of (narrowed_place rank place) more ≡ weight_at (rank ∷ more) place
+    here = cond_both (has place.basket rank) (weighted (above rank place.basket) place.weight ∷ []) [] (λ l. support_of l more ≡ weight_at (rank ∷ more) place)
+        (λ e. support-cons (weighted (above rank place.basket) place.weight) [] more ∙ add-zero _
+        ∙ ap (λ b. cond b place.weight 0) (above_contains rank place.basket more beyond ∙ sym (ap (λ b. b && contains place.basket more) e)))
+        (λ e. ap (λ b. cond (b && contains place.basket more) place.weight 0) (sym e))
 
 missed : (rank place : ℕ) (ranks : List ℕ) (weight : ℕ) → IsRising ranks → IsBinarySearchResult (λ y. nat_cmp y rank) ranks (Err place) → narrowed_place rank (weighted ranks weight) ≡ []
 missed rank place ranks weight up search = elim (cases_Bool (has ranks rank)) [
@@ -158,23 +141,12 @@ left_more least rank baskets i place below is =
 -- ---- some of the baskets
 
 fewer_supports : (p : Weighted → Bool) (baskets : List Weighted) (set : List ℕ) → support_of (filter p baskets) set ≤ support_of baskets set
-fewer_supports p [] set = omega arith
-fewer_supports p (place ∷ baskets) set = at (p place) (fewer_supports p baskets set)
-  where
-    at : (b : Bool) → support_of (filter p baskets) set ≤ support_of baskets set → support_of (cond b (place ∷ filter p baskets) (filter p baskets)) set ≤ support_of (place ∷ baskets) set
-    at true rest = omega (arith, support-cons place (filter p baskets) set, support-cons place baskets set, rest)
-    at false rest = omega (arith, support-cons place baskets set, rest)
+fewer_supports p baskets set = omega (arith, sum_by-filter_both p (λ place. not (p place)) (λ place. refl) (weight_at set) baskets)
 
 fewer_items : (p : Weighted → Bool) (baskets : List Weighted) (x : ℕ) → Member x (all_items (filter p baskets)) → Member x (all_items baskets)
-fewer_items p [] x m = m
-fewer_items p (place ∷ baskets) x m = at (p place) (fewer_items p baskets x) m
-  where
-    at : (b : Bool) → (Member x (all_items (filter p baskets)) → Member x (all_items baskets)) → Member x (all_items (cond b (place ∷ filter p baskets) (filter p baskets))) → Member x (all_items (place ∷ baskets))
-    at true rest n = elim (Member-append x place.basket (all_items (filter p baskets)) n) [
-      | inl here ↦ Member-append_left x place.basket (all_items baskets) here
-      | inr there ↦ Member-append_right x place.basket (all_items baskets) (rest there)
-    ]
-    at false rest n = Member-append_right x place.basket (all_items baskets) (rest n)
+fewer_items p baskets x m =
+    let from = Member-flat_map (λ (place : Weighted). place.basket) x (filter p baskets) m in
+    Member-into_flat_map (λ (place : Weighted). place.basket) x from.0 baskets (Member-filter p from.0 baskets from.1).0 from.2
 
 -- ---- a set that is found rank by rank
 
@@ -255,29 +227,7 @@ left_light rank least baskets left made =
     let fewer = fewer_supports (is_long least) (narrowed rank baskets) [] in
     omega (arith, ap total_of made, same, fewer)
 
--- ---- decoding keeps the size of a set
-
-length-with_item : (a : ℕ) (xs : List ℕ) → (Member a xs → ⊥) → length (with_item a xs) ≡ suc (length xs)
-length-with_item a [] none = refl
-length-with_item a (x ∷ xs) none = at (ltb a x) (eqb a x) refl (length-with_item a xs (λ m. none (inr m)))
-  where
-    at : (p q : Bool) → eqb a x ≡ q → length (with_item a xs) ≡ suc (length xs) → length (cond p (a ∷ x ∷ xs) (cond q (x ∷ xs) (x ∷ with_item a xs))) ≡ suc (suc (length xs))
-    at true q same e = refl
-    at false true same e = absurd (none (inl (sym (eqb-true a x same))))
-    at false false same e = ap suc e
-
-length-decoded : (items set : List ℕ) → IsDistinct nat_eq items → IsRising set → AllBelow (length items) set → length (decoded items set) ≡ length set
-length-decoded items [] apart up below = refl
-length-decoded items (rank ∷ set) apart up below =
-    length-with_item (get_or items rank 0) (decoded items set) other ∙ ap suc (length-decoded items set apart (rest_rises rank set up) (λ x h. below x (has_later x h)))
-  where
-    has_later : (x : ℕ) → has set x ≡ true → has (rank ∷ set) x ≡ true
-    has_later x h = has-from_Member (rank ∷ set) x (inr (Member-from_has set x h))
-
-    other : Member (get_or items rank 0) (decoded items set) → ⊥
-    other m =
-        let n = rank_from_decoded items set rank apart (λ x h. below x (has_later x h)) (below rank (has-from_Member (rank ∷ set) rank (inl refl))) m in
-        let b = first_below rank set up rank n in omega arith
+-- ---- as a set of items
 
 pub reached : (coding : Coding) (size : ℕ) (rest : List Weighted) → IsCoding coding → 1 ≤ size → Reaches coding size rest → HasSetOfSize (frequent_of_coding coding) size
 reached coding size rest is some r =

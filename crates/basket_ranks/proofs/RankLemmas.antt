@@ -8,19 +8,20 @@ use Rattle.std.specs.Prelude.{nat_eq}
 use Rattle.std.specs.List.{IsDistinct, filter}
 use Rattle.std.specs.List.Sorted.{IsStrictlySortedBy, IsPermutation, IsSorted}
 use Rattle.std.proofs.lemmas.Cmp.{then_total, on_total, back_total}
-use Rattle.std.proofs.lemmas.Bool.{cond-true, cond-false, cases_eq, eqb-true, eq-eqb, ne_eqb, true≢false}
+use Rattle.std.proofs.lemmas.Bool.{cond-true, cond-false, cond_both, cases_eq, eqb-true, eq-eqb, ne_eqb, true≢false}
 use Rattle.std.proofs.lemmas.Bool.Decides.{nat_tests}
 use Rattle.std.proofs.lemmas.List.{take_more, get_or-take, get_or_default, length-take}
 use Rattle.std.proofs.lemmas.List.Sorted.{IsPermutation-map}
+use Rattle.std.proofs.lemmas.Simd.{map-map}
 use Rattle.std.proofs.lemmas.Map.Keys.{IsDistinct-IsPermutation, apart_from_distinct}
 use Rattle.basket_ranks.specs.Codes.{rank_order, with_entry, ranked, rank_from, rank_of}
 use Rattle.basket_sets.specs.Itemset.{IsRising}
 use Rattle.basket_ranks.specs.declared.ranks.RankedItem.{RankedItem}
-use Rattle.basket_ranks.specs.Ranks.{entries_of}
+use Rattle.basket_ranks.specs.Ranks.{entries_of, entry_of}
 use Rattle.basket_sets.proofs.theory.Counts.{is_at_eqb}
 use Rattle.basket_sets.proofs.theory.Members.{Member, All-from_Member, at_Member, Member-map, Member-from_map, Member-filter, Contains-from_Member}
 use Rattle.basket_sets.proofs.theory.Rising.{cons_rises, first_below, nil_rises, rest_rises, rising_distinct}
-use Rattle.basket_sets.proofs.theory.Sorting.{sorted_is}
+use Rattle.basket_sets.proofs.theory.Sorting.{less_from_test, sorted_is}
 
 -- ---- the order of ranks
 
@@ -49,41 +50,30 @@ distinct_entries (e ∷ entries) up = (
 -- the entries that pass a test rise as all do
 pub filter_rises : (p : ℕ × ℕ → Bool) (entries : List (ℕ × ℕ)) → IsRising (map (λ e. e.0) entries) → IsRising (map (λ e. e.0) (filter p entries))
 filter_rises p [] up = nil_rises
-filter_rises p (e ∷ entries) up = at (p e) (filter_rises p entries (rest_rises e.0 (map (λ x. x.0) entries) up))
+filter_rises p (e ∷ entries) up =
+    let rest = filter_rises p entries (rest_rises e.0 (map (λ x. x.0) entries) up) in
+    cond_both (p e) (e ∷ filter p entries) (filter p entries) (λ l. IsRising (map (λ x. x.0) l)) (λ kept. cons_rises e.0 (map (λ x. x.0) (filter p entries)) below rest) (λ left. rest)
   where
     below : (y : ℕ) → Member y (map (λ (x : ℕ × ℕ). x.0) (filter p entries)) → e.0 < y
     below y m =
         let f = Member-from_map (λ (x : ℕ × ℕ). x.0) y (filter p entries) m in
         subst (λ z. e.0 < z) f.2 (first_below e.0 (map (λ x. x.0) entries) up f.0.0 (Member-map (λ (x : ℕ × ℕ). x.0) f.0 entries (Member-filter p f.0 entries f.1).0))
 
-    at : (b : Bool) → IsRising (map (λ x. x.0) (filter p entries)) → IsRising (map (λ x. x.0) (cond b (e ∷ filter p entries) (filter p entries)))
-    at true rest = cons_rises e.0 (map (λ x. x.0) (filter p entries)) below rest
-    at false rest = rest
-
 -- ---- entries in the order of ranks
-
-with_at : (e f x : ℕ × ℕ) (xs rest : List (ℕ × ℕ)) (b : Bool) → (Member x rest → (e ≡ x) ⊎ Member x xs) → Member x (cond b (e ∷ f ∷ xs) (f ∷ rest)) → (e ≡ x) ⊎ Member x (f ∷ xs)
-with_at e f x xs rest true later (inl s) = inl s
-with_at e f x xs rest true later (inr m) = inr m
-with_at e f x xs rest false later (inl s) = inr (inl s)
-with_at e f x xs rest false later (inr m) = elim (later m) [ inl s ↦ inl s | inr n ↦ inr (inr n) ]
 
 pub Member-with_entry : (e : ℕ × ℕ) (xs : List (ℕ × ℕ)) (x : ℕ × ℕ) → Member x (with_entry e xs) → (e ≡ x) ⊎ Member x xs
 Member-with_entry e [] x (inl s) = inl s
 Member-with_entry e [] x (inr m) = absurd m
-Member-with_entry e (f ∷ xs) x m = with_at e f x xs (with_entry e xs) (is_lt (rank_order e f)) (Member-with_entry e xs x) m
-
-into_at : (e f x : ℕ × ℕ) (xs rest : List (ℕ × ℕ)) (b : Bool) → ((e ≡ x) ⊎ Member x xs → Member x rest) → (e ≡ x) ⊎ Member x (f ∷ xs) → Member x (cond b (e ∷ f ∷ xs) (f ∷ rest))
-into_at e f x xs rest true later (inl s) = inl s
-into_at e f x xs rest true later (inr m) = inr m
-into_at e f x xs rest false later (inl s) = inr (later (inl s))
-into_at e f x xs rest false later (inr (inl s)) = inl s
-into_at e f x xs rest false later (inr (inr m)) = inr (later (inr m))
+Member-with_entry e (f ∷ xs) x m = cond_both (is_lt (rank_order e f)) (e ∷ f ∷ xs) (f ∷ with_entry e xs) (λ l. Member x l → (e ≡ x) ⊎ Member x (f ∷ xs)) (λ less n. n)
+    (λ more n. elim n [ inl s ↦ inr (inl s) | inr k ↦ elim (Member-with_entry e xs x k) [ inl s ↦ inl s | inr own ↦ inr (inr own) ] ]) m
 
 pub Member-into_with_entry : (e : ℕ × ℕ) (xs : List (ℕ × ℕ)) (x : ℕ × ℕ) → (e ≡ x) ⊎ Member x xs → Member x (with_entry e xs)
 Member-into_with_entry e [] x (inl s) = inl s
 Member-into_with_entry e [] x (inr m) = absurd m
-Member-into_with_entry e (f ∷ xs) x m = into_at e f x xs (with_entry e xs) (is_lt (rank_order e f)) (Member-into_with_entry e xs x) m
+Member-into_with_entry e (f ∷ xs) x m = cond_both (is_lt (rank_order e f)) (e ∷ f ∷ xs) (f ∷ with_entry e xs) (Member x) (λ less. m) (λ more. elim m [
+  | inl s ↦ inr (Member-into_with_entry e xs x (inl s))
+  | inr k ↦ elim k [ inl s ↦ inl s | inr n ↦ inr (Member-into_with_entry e xs x (inr n)) ]
+])
 
 pub Member-ranked : (entries : List (ℕ × ℕ)) (x : ℕ × ℕ) → Member x (ranked entries) → Member x entries
 Member-ranked [] x m = m
@@ -99,33 +89,26 @@ not_less Less s e up apart = absurd (true≢false up)
 not_less Equal s e up apart = absurd (true≢false apart)
 not_less Greater s e up apart = e
 
-less_from : (r : Ordering) → is_lt r ≡ true → r ≡ Less
-less_from Less e = refl
-less_from Equal e = absurd (true≢false (sym e))
-less_from Greater e = absurd (true≢false (sym e))
-
 with_entry_sorted : (e : ℕ × ℕ) (xs : List (ℕ × ℕ)) → IsStrictlySortedBy rank_order xs → ((x : ℕ × ℕ) → Member x xs → eq_by_cmp rank_order e x ≡ false)
     → IsStrictlySortedBy rank_order (with_entry e xs)
 unfolding IsStrictlySortedBy
 with_entry_sorted e [] up apart = (tt, tt)
-with_entry_sorted e (f ∷ xs) up apart = at (is_lt (rank_order e f)) refl (with_entry_sorted e xs up.1 (λ x m. apart x (inr m)))
+with_entry_sorted e (f ∷ xs) up apart = cond_both (is_lt (rank_order e f)) (e ∷ f ∷ xs) (f ∷ with_entry e xs) (IsStrictlySortedBy rank_order)
+    (λ less. (All-from_Member (λ z. rank_order e z ≡ Less) (f ∷ xs) (before less), up))
+    (λ more. (All-from_Member (λ z. rank_order f z ≡ Less) (with_entry e xs) (after more), with_entry_sorted e xs up.1 (λ x m. apart x (inr m))))
   where
     o : IsTotalOrder rank_order
     o = rank_order_total
 
     before : is_lt (rank_order e f) ≡ true → (z : ℕ × ℕ) → Member z (f ∷ xs) → rank_order e z ≡ Less
-    before less z (inl s) = subst (λ w. rank_order e w ≡ Less) s (less_from (rank_order e f) less)
-    before less z (inr m) = o.trans e f z (less_from (rank_order e f) less) (at_Member (λ w. rank_order f w ≡ Less) z xs up.0 m)
+    before less z (inl s) = subst (λ w. rank_order e w ≡ Less) s (less_from_test (rank_order e f) less)
+    before less z (inr m) = o.trans e f z (less_from_test (rank_order e f) less) (at_Member (λ w. rank_order f w ≡ Less) z xs up.0 m)
 
     after : is_lt (rank_order e f) ≡ false → (z : ℕ × ℕ) → Member z (with_entry e xs) → rank_order f z ≡ Less
     after more z m = elim (Member-with_entry e xs z m) [
       | inl s ↦ subst (λ w. rank_order f w ≡ Less) s (not_less (rank_order e f) (rank_order f e) (o.antisymm f e) more (apart f (inl refl)))
       | inr n ↦ at_Member (λ w. rank_order f w ≡ Less) z xs up.0 n
     ]
-
-    at : (b : Bool) → is_lt (rank_order e f) ≡ b → IsStrictlySortedBy rank_order (with_entry e xs) → IsStrictlySortedBy rank_order (cond b (e ∷ f ∷ xs) (f ∷ with_entry e xs))
-    at true less rest = (All-from_Member (λ z. rank_order e z ≡ Less) (f ∷ xs) (before less), up)
-    at false more rest = (All-from_Member (λ z. rank_order f z ≡ Less) (with_entry e xs) (after more), rest)
 
 pub ranked_sorted : (entries : List (ℕ × ℕ)) → IsDistinct (eq_by_cmp rank_order) entries → IsStrictlySortedBy rank_order (ranked entries)
 unfolding IsDistinct IsStrictlySortedBy
@@ -163,8 +146,7 @@ rank_from-push number (x ∷ items) last item = at (eqb x item) (rank_from-push 
 
     at : (b : Bool) → rank_from (number + 1) (items ++ last ∷ []) item ≡ after (number + 1 + length items) last item (rank_from (number + 1) items item)
         → cond b (Some number) (rank_from (number + 1) (items ++ last ∷ []) item) ≡ after (number + suc (length items)) last item (cond b (Some number) (rank_from (number + 1) items item))
-    at true e = refl
-    at false e = e ∙ ap (λ n. after n last item (rank_from (number + 1) items item)) long
+    at b e = grind (arith, long)
 
 -- an item that is not there has no rank
 pub no_rank : (number : ℕ) (items : List ℕ) (item : ℕ) → (Member item items → ⊥) → rank_from number items item ≡ None
@@ -172,7 +154,7 @@ no_rank number [] item none = refl
 no_rank number (x ∷ items) item none =
     ap (λ b. cond b (Some number) (rank_from (number + 1) items item)) (ne_eqb x item (λ e. none (inl e))) ∙ no_rank (number + 1) items item (λ m. none (inr m))
 
--- each of distinct items has its place as its rank
+-- each of distinct items has its index as its rank
 pub rank_at : (number : ℕ) (items : List ℕ) (i d : ℕ) → IsDistinct nat_eq items → i < length items → rank_from number items (get_or items i d) ≡ Some (number + i)
 unfolding IsDistinct
 rank_at number [] i d apart below = absurd (omega arith)
@@ -181,24 +163,13 @@ rank_at number (x ∷ items) (suc i) d apart below =
     ap (λ b. cond b (Some number) (rank_from (number + 1) items (get_or items i d))) (apart_from_distinct nat_eq (x ∷ items) 0 (suc i) d (apart.0, apart.1) (omega arith) below)
     ∙ rank_at (number + 1) items i d apart.1 (omega arith) ∙ ap Some (omega arith)
 
--- an item that has a rank stands at that place
+-- an item that has a rank stands at that index
 pub rank_from_is : (number : ℕ) (items : List ℕ) (item rank : ℕ) → rank_from number items item ≡ Some rank → (k : ℕ) × (k < length items) × (rank ≡ number + k) × (get_or items k 0 ≡ item)
-rank_from_is number [] item rank e = absurd (none_some e)
-  where
-    none_some : None ≡ Some rank → ⊥
-    none_some p = cc
-rank_from_is number (x ∷ items) item rank e = at (eqb x item) refl (rank_from_is (number + 1) items item rank) e
-  where
-    later : (k : ℕ) × (k < length items) × (rank ≡ number + 1 + k) × (get_or items k 0 ≡ item) → (k : ℕ) × (k < suc (length items)) × (rank ≡ number + k) × (get_or (x ∷ items) k 0 ≡ item)
-    later r = (suc r.0, omega (arith, r.1), omega (arith, r.2), r.3)
-
-    number_is : (a b : ℕ) → Some a ≡ Some b → a ≡ b
-    number_is a b p = cc
-
-    at : (b : Bool) → eqb x item ≡ b → (rank_from (number + 1) items item ≡ Some rank → (k : ℕ) × (k < length items) × (rank ≡ number + 1 + k) × (get_or items k 0 ≡ item))
-        → cond b (Some number) (rank_from (number + 1) items item) ≡ Some rank → (k : ℕ) × (k < suc (length items)) × (rank ≡ number + k) × (get_or (x ∷ items) k 0 ≡ item)
-    at true same rest p = (0, omega arith, let q = number_is number rank p in omega arith, eqb-true x item same)
-    at false other rest p = later (rest p)
+rank_from_is number [] item rank e = absurd cc
+rank_from_is number (x ∷ items) item rank e = cond_both (eqb x item) (Some number) (rank_from (number + 1) items item)
+    (λ found. found ≡ Some rank → (k : ℕ) × (k < suc (length items)) × (rank ≡ number + k) × (get_or (x ∷ items) k 0 ≡ item))
+    (λ same p. (0, omega arith, (let q : number ≡ rank = cc in omega arith), eqb-true x item same))
+    (λ other p. let r = rank_from_is (number + 1) items item rank p in (suc r.0, omega (arith, r.1), omega (arith, r.2), r.3)) e
 
 -- ---- a table from items to ranks
 
@@ -230,5 +201,4 @@ rank_next ranked i item apart below = rank_more ranked i item below ∙ elim (ca
 ]
 
 pub items_of_entries : (entries : List RankedItem) → map (λ e. e.item) entries ≡ map (λ e. e.0) (entries_of entries)
-items_of_entries [] = refl
-items_of_entries (e ∷ entries) = ap (λ l. e.item ∷ l) (items_of_entries entries)
+items_of_entries entries = sym (map-map (λ (e : ℕ × ℕ). e.0) entry_of entries)

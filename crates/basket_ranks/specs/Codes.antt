@@ -69,7 +69,7 @@ coded items basket = ranks_from 0 items basket
 abbrev pub decoded : List ℕ → List ℕ → List ℕ
 decoded items ranks = rising (map (λ rank. slice_index_or items rank 0) ranks)
 
--- baskets as ranks, each at its place with its weight, and the item of each rank
+-- baskets as ranks, each with its weight, in the order of the database, and the item of each rank
 pub record Coding : Type 0 where
   pub items : List ℕ
   pub minimum : Minimum

@@ -17,7 +17,7 @@ entries_of entries = map entry_of entries
 abbrev pub AreSlots : List ℕ → List (Option ℕ) → Type 0
 AreSlots ranked slots = (item : ℕ) → item < length slots → slice_index_or slots item None ≡ rank_of ranked item
 
--- the table answers the place of each item in the list, which is its rank: at its slot, or else in the map
+-- the table answers the index of each item in the list, which is its rank: at its slot, or else in the map
 pub record IsRankTable (ranked : List ℕ) (table : RankTable) : Type 0 where
   pub slots : AreSlots ranked table.slots.items
   pub others : (item : ℕ) → length table.slots.items ≤ item → get nat_cmp table.others item ≡ rank_of ranked item

@@ -1,5 +1,5 @@
 //! The frequent items by rank, and baskets as lists of ranks.
-ghost use Rattle.std.specs.Prelude.{◌≡◌, ◌<◌, ◌≤◌, List, ℕ, IfOk, OnOk, length, map, nat_eq, slice_index_or};
+ghost use Rattle.std.specs.Prelude.{◌≡◌, ◌<◌, ◌≤◌, List, IfOk, length, map, nat_eq, slice_index_or};
 ghost use Rattle.std.specs.List.{IsDistinct};
 ghost use Rattle.basket_sets.specs.Counts.{AllBelow};
 ghost use Rattle.basket_ranks.specs.Codes.{IsCoding, coded_place, coding_of, decoded, merged_coding, rank_of, ranking_of, ranks_of_counts};
@@ -63,7 +63,7 @@ impl Codes {
         ensures { IfOk result (λ coded. coded ≡ coding_of database.now self.minimum) }
     {
         // Nothing is read here: the call brings its contract, which says what a database is.
-        let _places = database.baskets();
+        let _baskets = database.baskets();
         let mut baskets = database.copied(alloc)?.into_baskets();
         put_codes(&self, &mut baskets);
         Ok(self.with_baskets(baskets))
@@ -76,7 +76,7 @@ impl Codes {
         ensures { result ≡ coding_of database self.minimum }
     {
         // Nothing is read here: the call brings its contract, which says what a database is.
-        let _places = database.baskets();
+        let _baskets = database.baskets();
         let mut baskets = database.into_baskets();
         share_codes(rt, &self, &mut baskets, threads);
         self.with_baskets(baskets)
@@ -84,12 +84,12 @@ impl Codes {
 
     /// Replaces a basket's items by their ranks.
     #[tactic(auto, using(crate::proofs::CodeLemmas::coded_is))]
-    fn put_ranks(&self, place: &mut Weighted)
-        ensures { place.new ≡ coded_place self.now.items place.old }
+    fn put_ranks(&self, weighted: &mut Weighted)
+        ensures { weighted.new ≡ coded_place self.now.items weighted.old }
     {
         // Nothing is read here: the call brings its contract, which says that no item has two ranks.
         let _items = self.items();
-        place.basket.renumber(self);
+        weighted.basket.renumber(self);
     }
 
     /// The item of each rank.
@@ -122,8 +122,8 @@ impl Renumbering for Codes {
     }
 }
 
-/// The baskets of a database as ranks of their frequent items, one for each place. A basket
-/// without a frequent item is empty.
+/// The baskets of a database as ranks of their frequent items, one for each basket, which is
+/// empty if it has no frequent item.
 #[derive(Debug, Drop)]
 pub struct Coded {
     items: Vec<u32>,
@@ -153,7 +153,7 @@ impl Coded {
         Codes::of(alloc, &counts, database.total(), minimum)?.code(alloc, database)
     }
 
-    /// The coding with each distinct basket of ranks once, at its first place, with the sum of its
+    /// The coding with each distinct basket of ranks once, where it first comes, with the sum of its
     /// weights. Baskets that differ only in infrequent items become one.
     pub fn merged(self, alloc: Global) -> Result<Self, AllocError>
         ensures { IfOk result (λ coded. coded ≡ merged_coding self) }
@@ -228,8 +228,8 @@ impl Coded {
 fn put_codes(codes: &Codes, baskets: &mut [Weighted])
     ensures { baskets.new ≡ map (coded_place codes.now.items) baskets.old }
 {
-    for place in 0..baskets.len() {
-        codes.put_ranks(&mut baskets[place]);
+    for index in 0..baskets.len() {
+        codes.put_ranks(&mut baskets[index]);
     }
 }
 
@@ -242,8 +242,8 @@ fn share_codes<R: Threads + Sync>(rt: &R, codes: &Codes, baskets: &mut [Weighted
         rt,
         baskets,
         threads as usize,
-        &|_, place: &mut Weighted|
-            ensures { place.exit.now ≡ coded_place codes.entry.now.items place.entry.now }
-        { codes.put_ranks(place) },
+        &|_, weighted: &mut Weighted|
+            ensures { weighted.exit.now ≡ coded_place codes.entry.now.items weighted.entry.now }
+        { codes.put_ranks(weighted) },
     );
 }

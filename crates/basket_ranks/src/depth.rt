@@ -75,11 +75,11 @@ fn narrowed_to(
     ensures { IfOk result (λ rest. rest.items ≡ filter (is_long least) (narrowed rank baskets.now)) }
 {
     let mut rest = Vec::new(alloc);
-    for place in baskets {
-        if let Some(above) = ranks_above(place.basket.items(), rank, least) {
+    for weighted in baskets {
+        if let Some(above) = ranks_above(weighted.basket.items(), rank, least) {
             rest.push(Weighted {
                 basket: Itemset::from_items(alloc, above)?,
-                weight: place.weight,
+                weight: weighted.weight,
             })?;
         }
     }

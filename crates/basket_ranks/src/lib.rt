@@ -1,4 +1,9 @@
 //! The frequent items by rank, baskets as lists of ranks, and the shards of a list of baskets.
+//!
+//! ```
+//! let counts = count_items(alloc, database.baskets())?;
+//! Codes::of(alloc, &counts, database.total(), minimum)?.code(alloc, database)
+//! ```
 #![tactic(auto)]
 
 mod added;

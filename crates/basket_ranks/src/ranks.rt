@@ -1,8 +1,8 @@
 //! From items to ranks.
-ghost use Rattle.std.specs.Prelude.{◌≡◌, ◌<◌, ◌≤◌, List, ℕ, IfOk, length, map, filter, nat_eq, take};
-ghost use Rattle.std.specs.List.{IsDistinct, filter_map};
+ghost use Rattle.std.specs.Prelude.{◌≡◌, ◌<◌, List, ℕ, IfOk, length, map, filter, nat_eq};
+ghost use Rattle.std.specs.List.{IsDistinct};
 ghost use Rattle.basket_ranks.specs.Codes.{MOST_RANKS, rank_of, ranks_of_counts};
-ghost use Rattle.basket_sets.specs.Itemset.{IsRising, rising};
+ghost use Rattle.basket_sets.specs.Itemset.{IsRising};
 ghost use Rattle.basket_sets.specs.Minimum.{meets};
 ghost use Rattle.basket_ranks.specs.Ranks.{IsRankTable, entries_of};
 
@@ -83,7 +83,7 @@ pub struct RankTable {
 }
 
 impl RankTable {
-    /// The table of distinct items, each of which has its place as its rank.
+    /// The table of distinct items, each of which has its index as its rank.
     pub fn of(alloc: Global, ranked: &[u32]) -> Result<Self, AllocError>
         requires distinct { IsDistinct nat_eq ranked.now }
         requires few { length ranked.now < MOST_RANKS }

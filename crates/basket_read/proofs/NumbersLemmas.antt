@@ -1,27 +1,20 @@
 -- How numbers that are being read go on.
-use Rattle.std.proofs.Common.{◌≡◌, ◌≢◌, ℕ, ◌+◌, ◌*◌, ◌-◌, ◌≤◌, Bool, true, false, ltb, List, [], ◌∷◌, ◌++◌, length, cond, Option, Some, None, refl, sym, ap, ◌∙◌, subst, arith}
-use Rattle.std.specs.Prelude.{unwrap_or}
+use Rattle.std.proofs.lemmas.Grind.{common_steps}
+use Rattle.std.proofs.Common.{◌≡◌, ◌≢◌, ℕ, ◌≤◌, Bool, true, ltb, List, [], ◌∷◌, ◌++◌, length, cond, Option, Some, None, refl, sym, ap, ◌∙◌, subst, arith}
 use Rattle.std.specs.List.{list_all}
-use Rattle.std.proofs.lemmas.Bool.{lt-ltb}
 use Rattle.basket_sets.specs.Number.{is_digit, value_of}
 use Rattle.basket_read.specs.declared.numbers.Numbers.{Numbers}
 use Rattle.basket_read.specs.Cut.{cut_at}
 use Rattle.basket_read.specs.Fimi.{is_blank, MOST_NUMBER}
 use Rattle.basket_read.specs.Numbers.{NumbersState, numbers_state, begun_of, values_of, number_ended, IsNumbersSoFar}
 use Rattle.basket_read.proofs.theory.Numbers.{ended_at, takes_digits, takes_blanks}
-use Rattle.basket_read.proofs.theory.Grammar as grammar
 
 abbrev held : Option ℕ → List ℕ → NumbersState
 held begun ended = record { begun = begun; ended = ended }
 
 -- whether a number is added changes none that has begun
 pub begun_kept : (added : Bool) (begun : Option ℕ) (more ended : List ℕ) → (cond added (held begun more) (held begun ended)).begun ≡ begun
-begun_kept true begun more ended = refl
-begun_kept false begun more ended = refl
-
-begun_value : (word : List ℕ) → unwrap_or (begun_of word) 0 ≡ value_of word
-begun_value [] = refl
-begun_value (d ∷ word) = refl
+begun_kept added begun more ended = grind (arith, common_steps)
 
 module _ (old : Numbers) (text : List ℕ) (so_far : IsNumbersSoFar old text) where
   abbrev last : List ℕ
@@ -32,16 +25,6 @@ module _ (old : Numbers) (text : List ℕ) (so_far : IsNumbersSoFar old text) wh
 
   ended : old.ended.items ≡ values_of (cut_at is_blank text).ended
   ended = ap (λ (s : NumbersState). s.ended) so_far.state
-
-  -- ---- one digit
-
-  -- the digit of a byte, and the number so far
-  with_one : (byte digit : ℕ) → is_digit byte ≡ true → byte ≡ 48 + digit → unwrap_or old.begun 0 * 10 + digit ≡ value_of last * 10 + (byte - 48)
-  with_one byte digit d e =
-      let same : digit ≡ byte - 48 = omega arith in
-      λ i. (ap (λ b. unwrap_or b 0) begun ∙ begun_value last) i * 10 + same i
-
-  -- ---- a blank
 
   -- ---- more digits of a number
 
@@ -55,19 +38,14 @@ module _ (old : Numbers) (text : List ℕ) (so_far : IsNumbersSoFar old text) wh
       (new_is ∙ (λ i. record { begun = (ap Some (sym longer_is) ∙ sym k.1) i; ended = ended i }))
     where
       at : (before more : List ℕ) → begun_of before ≡ Some value → (value_of before ≡ value) × (begun_of (before ++ more) ≡ Some (value_of (before ++ more)))
-      at [] more e = absurd cc
-      at (d ∷ before) more e = (cc, refl)
+      at before more e = grind (arith, common_steps)
 
   -- ---- a number where none has begun
 
   module _ (none : old.begun ≡ None) (word : List ℕ) (count value : ℕ) (long : length word ≡ count) (digits : list_all is_digit word ≡ true) (is : value_of word ≡ value)
       (below : value ≤ MOST_NUMBER) where
     nothing : last ≡ []
-    nothing = at last (sym begun ∙ none)
-      where
-        at : (word : List ℕ) → begun_of word ≡ None → word ≡ []
-        at [] e = refl
-        at (d ∷ word) e = absurd cc
+    nothing = grind (arith, common_steps)
 
     takes_number : (new : Numbers) → numbers_state new ≡ record { begun = begun_of word; ended = old.ended.items } → IsNumbersSoFar new (text ++ word)
     takes_number new new_is =
@@ -75,22 +53,12 @@ module _ (old : Numbers) (text : List ℕ) (so_far : IsNumbersSoFar old text) wh
         (new_is ∙ (λ i. record { begun = begun_of (sym nothing i ++ word); ended = ended i }))
 
     pub begins : (new : Numbers) → numbers_state new ≡ cond (ltb 0 count) (held (Some value) old.ended.items) (numbers_state old) → IsNumbersSoFar new (text ++ word)
-    begins new new_is =
-        takes_number new (new_is ∙ (λ i. cond (ltb 0 (sym long i)) (held (Some (sym is i)) old.ended.items) (held (none i) old.ended.items)) ∙ at word)
-      where
-        at : (word : List ℕ) → cond (ltb 0 (length word)) (held (Some (value_of word)) old.ended.items) (held None old.ended.items) ≡ held (begun_of word) old.ended.items
-        at [] = refl
-        at (d ∷ word) = ap (λ b. cond b (held (Some (value_of (d ∷ word))) old.ended.items) (held None old.ended.items)) (lt-ltb 0 (length (d ∷ word)) (omega arith))
+    begins new new_is = takes_number new (grind (arith, common_steps))
 
     pub adds : (new : Numbers) (blanks : List ℕ) → list_all is_blank blanks ≡ true → blanks ≢ []
         → numbers_state new ≡ cond (ltb 0 count) (held old.begun (old.ended.items ++ value ∷ [])) (numbers_state old)
         → IsNumbersSoFar new ((text ++ word) ++ blanks)
     adds new blanks b some new_is =
-        let between : Numbers = record old { begun = begun_of word } in
-        let with_word = takes_number between refl in
-        let all = new_is ∙ (λ i. cond (ltb 0 (sym long i)) (held (none i) (old.ended.items ++ sym is i ∷ [])) (held (none i) old.ended.items)) ∙ at word in
+        let with_word = takes_number (record old { begun = begun_of word }) refl in
+        let all : numbers_state new ≡ number_ended (held (begun_of word) old.ended.items) = grind (arith, common_steps) in
         takes_blanks new (text ++ word) blanks with_word.good b some (all ∙ ap number_ended with_word.state ∙ ended_at (text ++ word))
-      where
-        at : (word : List ℕ) → cond (ltb 0 (length word)) (held None (old.ended.items ++ value_of word ∷ [])) (held None old.ended.items) ≡ number_ended (held (begun_of word) old.ended.items)
-        at [] = refl
-        at (d ∷ word) = ap (λ b. cond b (held None (old.ended.items ++ value_of (d ∷ word) ∷ [])) (held None old.ended.items)) (lt-ltb 0 (length (d ∷ word)) (omega arith))

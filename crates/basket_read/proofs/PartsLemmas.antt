@@ -1,5 +1,6 @@
 -- What is read if a fault is settled, and if all baskets are kept.
-use Rattle.std.proofs.Common.{◌≡◌, ◌∙◌, ℕ, List, false, Some, Result, Ok, Err, ap, refl, sym, subst}
+use Rattle.std.proofs.lemmas.Grind.{common_steps}
+use Rattle.std.proofs.Common.{◌≡◌, ℕ, List, false, Some, Result, Err, ap, arith}
 use Rattle.std.specs.Prelude.{IsOkAnd, MatchResult}
 use Rattle.basket_sets.specs.declared.weighted.Weighted.{Weighted}
 use Rattle.basket_read.specs.declared.fault.ReadFault.{ReadFault}
@@ -18,6 +19,4 @@ abbrev pub AreKept : Result ItemCounts ReadFault → Result (List Weighted) Read
 AreKept read result = MatchResult read (λ counts. IsOkAnd result (λ baskets. baskets ≡ counts.rest)) (λ fault. result ≡ Err fault)
 
 pub kept_answers : (read : Result ItemCounts ReadFault) (result answer : Result (List Weighted) ReadFault) → AreKept read result → ReturnsBy (Gathers false) read answer → Returns result answer
-kept_answers (Ok counts) (Ok baskets) answer kept (all, is, gathered) = is ∙ ap Ok (sym (kept ∙ gathered.2 refl))
-kept_answers (Ok counts) (Err fault) answer kept h = absurd kept
-kept_answers (Err fault) result answer kept h = subst (λ r. Returns r answer) (sym kept) h
+kept_answers read result answer h1 h2 = grind (arith, common_steps)

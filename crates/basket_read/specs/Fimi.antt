@@ -130,9 +130,9 @@ answer_of None baskets = if_light baskets
 abbrev pub fimi_of : List ℕ → Result (List Weighted) ReadFault
 fimi_of bytes = answer_of (fault_in bytes) (baskets_of (text_of bytes))
 
--- some bytes that are not yet the whole mark
+-- bytes that are not yet the whole mark
 abbrev pub may_be_mark : List ℕ → Bool
-may_be_mark bytes = pointwise nat_eq bytes (239 ∷ []) || pointwise nat_eq bytes (239 ∷ 187 ∷ [])
+may_be_mark bytes = is_nil bytes || pointwise nat_eq bytes (239 ∷ []) || pointwise nat_eq bytes (239 ∷ 187 ∷ [])
 
 -- the fault that the bytes have whatever follows
 abbrev pub settled_fault : List ℕ → Option ReadFault

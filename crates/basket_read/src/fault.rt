@@ -15,7 +15,7 @@ pub enum ReadFault {
     Read,
     #[error("input is longer than 4294967295 bytes")]
     TooLong,
-    /// A byte that is no digit, blank or line feed, and no mark of a weight in its place.
+    /// A byte that is no digit, blank or line feed, and no `x` right after a weight.
     #[error("line {line}: byte {byte:#04X} is no digit or blank")]
     Byte { line: u32, byte: u8 },
     /// The digit that takes a number above the bound.

@@ -1,5 +1,5 @@
 //! An input of which not all has been read.
-ghost use Rattle.std.specs.Prelude.{◌≡◌, ◌≢◌, ◌+◌, ◌≤◌, ℕ, Bool, List, [], ◌∷◌, ◌++◌, length};
+ghost use Rattle.std.specs.Prelude.{◌≡◌, ℕ, Bool, true, false, List, [], ◌∷◌};
 ghost use Rattle.basket_read.specs.Fimi.{fault_in, fimi_of};
 ghost use Rattle.basket_read.specs.Fault.{ReturnsBy};
 ghost use Rattle.basket_read.specs.GatheredBaskets.{Gathers};
@@ -8,7 +8,7 @@ ghost use Rattle.basket_read.specs.Input.{IsInputSoFar, TakesOn};
 use crate::bytes::{MARK, MAX_BYTES};
 use crate::fault::ReadFault;
 use crate::item_counts::ItemCounts;
-use crate::line_reader::{Alone, LineReader};
+use crate::line_reader::LineReader;
 use crate::text::Text;
 use std::alloc::Global;
 
@@ -18,24 +18,11 @@ const HALF_A_MARK: ReadFault = ReadFault::Byte {
     byte: MARK[0],
 };
 
-/// What the input begins with.
-#[derive(Clone, Copy, Debug)]
-pub enum Beginning {
-    /// Nothing yet.
-    Empty,
-    /// One byte that may begin the mark.
-    OneByte,
-    /// Two bytes that may begin the mark.
-    TwoBytes,
-    /// The mark, or something else.
-    Decided,
-}
-
-/// What has been read of an input: what it begins with, how many bytes, and the text after its
-/// beginning.
+/// What has been read of an input: how many bytes, and the text after its beginning.
 #[derive(Debug, Drop)]
 pub struct Input {
-    beginning: Beginning,
+    /// Whether the bytes so far have the mark, or can't become it.
+    decided: bool,
     taken: u32,
     text: Text,
 }
@@ -46,7 +33,7 @@ impl Input {
         ensures { IsInputSoFar result counting [] }
     {
         Input {
-            beginning: Beginning::Empty,
+            decided: false,
             taken: 0,
             text: Text::new(alloc, counting, 0),
         }
@@ -58,7 +45,7 @@ impl Input {
         ensures { TakesOn self.old piece.now result self.new }
     {
         for (index, byte) in piece.iter().enumerate() {
-            if let Beginning::Decided = self.beginning {
+            if self.decided {
                 return self.take_text(line_reader, &piece[index..]);
             }
             self.take_byte(*byte)?;
@@ -66,43 +53,29 @@ impl Input {
         Ok(())
     }
 
-    /// Takes a byte, after the mark or where it may be.
+    /// Takes the next byte of the mark, or the first byte of an input without it.
     fn take_byte(&mut self, byte: u8) -> Result<(), ReadFault>
+        requires { self.old.decided ≡ false }
         ensures { TakesOn self.old (byte ∷ []) result self.new }
     {
-        match self.beginning {
-            Beginning::Empty => {
-                if byte == MARK[0] {
-                    self.beginning = Beginning::OneByte;
-                } else {
-                    self.text.feed(&[byte])?;
-                    self.beginning = Beginning::Decided;
-                }
-                self.taken = 1;
-            }
-            Beginning::OneByte => {
-                if byte != MARK[1] {
-                    return Err(HALF_A_MARK);
-                }
-                self.beginning = Beginning::TwoBytes;
-                self.taken = 2;
-            }
-            Beginning::TwoBytes => {
-                if byte != MARK[2] {
-                    return Err(HALF_A_MARK);
-                }
-                self.beginning = Beginning::Decided;
-                self.taken = 3;
-            }
-            Beginning::Decided => return self.take_text(&Alone, &[byte]),
+        if self.taken < 3 && byte == MARK[self.taken as usize] {
+            self.taken += 1;
+            self.decided = self.taken == 3;
+            return Ok(());
         }
+        if self.taken > 0 {
+            return Err(HALF_A_MARK);
+        }
+        self.text.feed(&[byte])?;
+        self.decided = true;
+        self.taken = 1;
         Ok(())
     }
 
     /// Takes bytes after the beginning, as many as an input may have.
     fn take_text<F: LineReader>(&mut self, line_reader: &F, piece: &[u8]) -> Result<(), ReadFault>
         requires ready { F.is_ready line_reader.now }
-        requires decided { self.old.beginning ≡ Beginning.Decided }
+        requires decided { self.old.decided ≡ true }
         ensures { TakesOn self.old piece.now result self.new }
     {
         let room = MAX_BYTES - self.taken as usize;
@@ -119,10 +92,10 @@ impl Input {
     pub fn fault_so_far(&self) -> Option<ReadFault>
         ensures { (counting : Bool) (bytes : List ℕ) → IsInputSoFar self.now counting bytes → result ≡ fault_in bytes }
     {
-        match self.beginning {
-            Beginning::OneByte | Beginning::TwoBytes => Some(HALF_A_MARK),
-            Beginning::Empty | Beginning::Decided => None,
+        if self.decided || self.taken == 0 {
+            return None;
         }
+        Some(HALF_A_MARK)
     }
 
     /// The counts of the whole input.

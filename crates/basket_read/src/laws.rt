@@ -4,11 +4,13 @@ ghost use Rattle.basket_read.specs.Grammar.{FirstFaultIsExact, PrefixesAreGood, 
 ghost use Rattle.basket_read.specs.Laws.{LinesSayTheirs, SettledFaultsStay, UnsettledMayBeGood};
 
 /// Each prefix of a good text is good.
+#[tactic(auto, using(crate::proofs::GrammarLemmas::prefixes_are_good))]
 pub fn prefixes_are_good()
     ensures { PrefixesAreGood is_good }
 {}
 
 /// A text is good, or it has a first fault, and not both.
+#[tactic(auto, using(crate::proofs::GrammarLemmas::good_is_faultless))]
 pub fn good_is_faultless()
     ensures { GoodIsFaultless is_good fault_at }
 {}

@@ -1,4 +1,12 @@
 //! Readers of baskets that return exactly the baskets of an input, or its first fault.
+//!
+//! ```
+//! let mut parts = FimiParts::new(alloc);
+//! for piece in pieces {
+//!     parts.feed(piece)?;
+//! }
+//! let database = parts.finish()?;
+//! ```
 #![tactic(auto)]
 
 mod batches;

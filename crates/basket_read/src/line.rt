@@ -58,6 +58,7 @@ impl Line {
 
     /// Takes digits and blanks from the beginning of the bytes, as `Numbers::take_run` does.
     #[inline(always)]
+    #[tactic(auto, using(std::proofs::lemmas::Grind::common_steps, crate::proofs::LineLemmas::numbers_on))]
     pub fn take_run(&mut self, bytes: &[u8]) -> Result<usize, AllocError>
         ensures within { IfOk result (λ taken. taken ≤ length bytes.now) }
         ensures line { (line : List ℕ) → IsLineSoFar self.old line →

@@ -18,15 +18,14 @@ const LEAST: usize = 65_536;
 #[cycle(halves)]
 pub fn feed_shared<R: Threads + Sync>(
     rt: &R,
-    mut text: Text,
+    text: Text,
     piece: &[u8],
     workers: u32,
 ) -> Result<Text, ReadFault>
     ensures { ReadsOn text piece.now result (λ read. read) }
 {
     let Some(end) = middle_of(piece, workers) else {
-        text.feed(piece)?;
-        return Ok(text);
+        return text.fed(piece);
     };
     let (prefix, rest) = piece.split_at(end);
     let (text, read) = feed_halves(rt, text, prefix, rest, workers);
@@ -35,8 +34,7 @@ pub fn feed_shared<R: Threads + Sync>(
         return Ok(text);
     }
     // The rest follows in order: its baskets are kept too, or its fault has the number of its line.
-    text.feed(rest)?;
-    Ok(text)
+    text.fed(rest)
 }
 
 /// What the text is with the prefix, and what the rest is as a text of its own.

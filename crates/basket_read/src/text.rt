@@ -55,6 +55,16 @@ impl Text {
         }
     }
 
+    /// The text with the piece, up to its first fault.
+    pub fn fed(mut self, piece: &[u8]) -> Result<Text, ReadFault>
+        ensures { ReadsOn self piece.now result (λ read. read) }
+    {
+        match self.feed(piece) {
+            Ok(()) => Ok(self),
+            Err(fault) => Err(fault),
+        }
+    }
+
     /// Takes leading digits and blanks of the piece, as many as the line takes.
     #[inline(always)]
     fn take_run(&mut self, piece: &[u8]) -> Result<usize, ReadFault>

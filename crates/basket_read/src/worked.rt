@@ -27,7 +27,7 @@ pub fn numbers_have_a_bound()
     ensures before_the_times { fimi_of (codes "99999999999x") ≡ Err (Number 1) }
 {}
 
-/// The first byte that can't stand at its place is the fault.
+/// The first byte that can't follow those before it is the fault.
 pub fn a_sign_is_a_fault()
     ensures { fimi_of (lines (codes "1 2|3 -4")) ≡ Err (Byte 2 45) }
 {}

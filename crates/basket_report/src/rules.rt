@@ -13,8 +13,8 @@ use crate::report_size::ReportSize;
 use crate::style::Style;
 use crate::texts::Texts;
 use basket_core::{Frequent, Share, shard};
-use basket_order::PlaceTable;
-use basket_rules::{SetIndex, met_rules, places_of};
+use basket_order::IndexTable;
+use basket_rules::{SetIndex, index_table_of, met_rules};
 use mine_pieces::{Cutting, Open, PartWork, Phase, by_pieces};
 use std::alloc::{AllocError, Global};
 use std::thread::Threads;
@@ -34,7 +34,7 @@ struct Unions<'a> {
     frequent: &'a Frequent,
     confidence: Share,
     style: Style<'a>,
-    places: &'a PlaceTable,
+    places: &'a IndexTable,
     texts: &'a Texts,
     parts: u32,
 }
@@ -87,7 +87,7 @@ pub fn rules_report<R: Threads + Sync>(
     ensures lists { IfOk result (λ texts. IsConsistent frequent.now.sets → joined texts.items ≡ rules_report_of (wording_of style.entry) (rules_among frequent.now confidence)) }
 {
     let sets = frequent.sets();
-    let places = places_of(alloc, sets)?;
+    let places = index_table_of(alloc, sets)?;
     let texts = ReportSize::of(sets).texts(alloc)?;
     let workers = workers.clamp(1, 64);
     let parts = part_count(sets.len(), workers);

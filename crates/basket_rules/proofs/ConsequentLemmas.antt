@@ -3,14 +3,16 @@ use Rattle.std.proofs.Common.{◌≡◌, ◌≢◌, ℕ, ◌+◌, ◌^◌, ◌<�
 use Rattle.std.specs.Prelude.{bit_or, max}
 use Rattle.std.specs.Int.{bit_at}
 use Rattle.std.specs.List.{flat_map, range_with_len}
-use Rattle.std.proofs.lemmas.Bool.{cases_Bool, cases_eq, eqb-true, le-ltb, lt-ltb, true≢false, false_from_ne_true}
+use Rattle.std.proofs.lemmas.Bool.{cases_Bool, cases_eq, cond_both, eqb-true, le-ltb, lt-ltb, true≢false, false_from_ne_true}
 use Rattle.std.proofs.lemmas.List.{append-nil, length-take, map-append, take_more}
 use Rattle.std.proofs.lemmas.List.Concat.{flat_map-append}
 use Rattle.std.proofs.lemmas.List.Elements.{filter-append}
 use Rattle.std.proofs.lemmas.Nat.Bits.{bit_at-lt, bit_at-pow_other, bit_at-pow_same, bit_at-zero, bit_at_or}
 use Rattle.basket_sets.specs.Itemset.{IsRising, has}
 use Rattle.basket_sets.specs.Subsets.{subsets_of_size}
-use Rattle.basket_sets.proofs.theory.Members.{Member, Member-append, Member-append_left, Member-append_right, Member-filter, Member-from_filter, Member-map, Member-from_map}
+use Rattle.basket_sets.proofs.theory.Items.{filter_all, filter_none}
+use Rattle.basket_sets.proofs.theory.Members.{Member, Member-append, Member-filter, Member-flat_map, Member-from_filter, Member-into_flat_map, Member-map, Member-from_map}
+use Rattle.basket_sets.proofs.theory.Ranges.{filter_members, range_next}
 use Rattle.basket_sets.proofs.theory.Rising.{has-from_Member, Member-from_has, cons_rises, first_below, rest_rises}
 use Rattle.basket_rules.specs.declared.consequents.Consequent.{Consequent}
 use Rattle.basket_rules.specs.declared.consequents.TheConstants.{MOST_BITS}
@@ -20,8 +22,7 @@ use Rattle.basket_rules.specs.Rules.{difference}
 -- ---- the items at indexes that pass a test
 
 moved_in : (b : Bool) (item : ℕ) (items more : List ℕ) → cond b (item ∷ (items ++ more)) (items ++ more) ≡ cond b (item ∷ items) items ++ more
-moved_in true item items more = refl
-moved_in false item items more = refl
+moved_in b item items more = grind arith
 
 chosen-append : (test : ℕ → Bool) (index : ℕ) (items : List ℕ) (item : ℕ)
     → chosen_from test index (items ++ item ∷ []) ≡ chosen_from test index items ++ cond (test (index + length items)) (item ∷ []) []
@@ -46,22 +47,24 @@ pub item_left : (test : ℕ → Bool) (items : List ℕ) (index : ℕ) → index
 item_left test items index below h =
     chosen_more test items index 0 below ∙ ap (λ b. chosen test (take index items) ++ cond b (get_or items index 0 ∷ []) []) h ∙ append-nil (chosen test (take index items))
 
--- tests that agree from an index on
-chosen_same : (one other : ℕ → Bool) (index : ℕ) (items : List ℕ) → ((i : ℕ) → index ≤ i → one i ≡ other i) → chosen_from one index items ≡ chosen_from other index items
-chosen_same one other index [] same = refl
-chosen_same one other index (x ∷ items) same =
-    λ i. cond (same index (omega arith) i) (x ∷ chosen_same one other (suc index) items (λ k h. same k (omega (arith, h))) i) (chosen_same one other (suc index) items (λ k h. same k (omega (arith, h))) i)
+-- tests that agree on the indexes of a list
+pub chosen_alike : (one other : ℕ → Bool) (start : ℕ) (items : List ℕ) → ((i : ℕ) → start ≤ i → i < start + length items → one i ≡ other i) → chosen_from one start items ≡ chosen_from other start items
+chosen_alike one other start [] same = refl
+chosen_alike one other start (x ∷ items) same =
+    let rest = chosen_alike one other (suc start) items (λ k low h. same k (omega (arith, low)) (omega (arith, h))) in
+    λ i. cond (same start (omega arith) (omega arith) i) (x ∷ rest i) (rest i)
+
+-- no index passes
+pub none_chosen : (test : ℕ → Bool) (start : ℕ) (items : List ℕ) → ((i : ℕ) → i < start + length items → test i ≡ false) → chosen_from test start items ≡ []
+none_chosen test start [] fails = refl
+none_chosen test start (x ∷ items) fails =
+    ap (λ b. cond b (x ∷ chosen_from test (suc start) items) (chosen_from test (suc start) items)) (fails start (omega arith)) ∙ none_chosen test (suc start) items (λ k h. fails k (omega (arith, h)))
 
 -- they are items of the list
 pub Member-chosen : (test : ℕ → Bool) (index : ℕ) (items : List ℕ) (item : ℕ) → Member item (chosen_from test index items) → Member item items
 Member-chosen test index [] item m = m
-Member-chosen test index (x ∷ items) item m = at (Member-chosen test (suc index) items item) (test index) m
-  where
-    at : (Member item (chosen_from test (suc index) items) → Member item items)
-        → (b : Bool) → Member item (cond b (x ∷ chosen_from test (suc index) items) (chosen_from test (suc index) items)) → Member item (x ∷ items)
-    at rest true (inl e) = inl e
-    at rest true (inr n) = inr (rest n)
-    at rest false n = inr (rest n)
+Member-chosen test index (x ∷ items) item m = cond_both (test index) (x ∷ chosen_from test (suc index) items) (chosen_from test (suc index) items) (λ l. Member item l → Member item (x ∷ items))
+    (λ taken n. elim n [ inl e ↦ inl e | inr k ↦ inr (Member-chosen test (suc index) items item k) ]) (λ left n. inr (Member-chosen test (suc index) items item n)) m
 
 -- they rise where the list does
 pub chosen_rises : (test : ℕ → Bool) (index : ℕ) (items : List ℕ) → IsRising items → IsRising (chosen_from test index items)
@@ -69,33 +72,21 @@ chosen_rises test index [] up = up
 chosen_rises test index (x ∷ items) up =
     let rest = chosen_from test (suc index) items in
     let rises = chosen_rises test (suc index) items (rest_rises x items up) in
-    elim (cases_Bool (test index)) [
-      | inl e ↦
-          subst (λ b. IsRising (cond b (x ∷ rest) rest)) (sym e)
-          (cons_rises x rest (λ item m. first_below x items up item (Member-chosen test (suc index) items item m)) rises)
-      | inr e ↦ subst (λ b. IsRising (cond b (x ∷ rest) rest)) (sym e) rises
-    ]
+    cond_both (test index) (x ∷ rest) rest IsRising (λ taken. cons_rises x rest (λ item m. first_below x items up item (Member-chosen test (suc index) items item m)) rises) (λ left. rises)
 
 -- the more indexes pass, the more items
 pub chosen_grows : (less more : ℕ → Bool) (index : ℕ) (items : List ℕ) (item : ℕ) → ((i : ℕ) → less i ≡ true → more i ≡ true)
     → Member item (chosen_from less index items) → Member item (chosen_from more index items)
 chosen_grows less more index [] item grow m = m
-chosen_grows less more index (x ∷ items) item grow m = at (chosen_grows less more (suc index) items item grow) (less index) (more index) (grow index) m
-  where
-    at : (Member item (chosen_from less (suc index) items) → Member item (chosen_from more (suc index) items)) → (b d : Bool) → (b ≡ true → d ≡ true) → Member item (cond b (x ∷ chosen_from less (suc index) items) (chosen_from less (suc index) items))
-        → Member item (cond d (x ∷ chosen_from more (suc index) items) (chosen_from more (suc index) items))
-    at rest true true h (inl e) = inl e
-    at rest true true h (inr n) = inr (rest n)
-    at rest true false h n = absurd (true≢false (sym (h refl)))
-    at rest false true h n = inr (rest n)
-    at rest false false h n = rest n
+chosen_grows less more index (x ∷ items) item grow m =
+    let few = chosen_from less (suc index) items in
+    let many = chosen_from more (suc index) items in
+    let wider : List ℕ = cond (more index) (x ∷ many) many in
+    cond_both (less index) (x ∷ few) few (λ l. Member item l → Member item wider)
+    (λ taken n. subst (λ b. Member item (cond b (x ∷ many) many)) (sym (grow index taken)) (elim n [ inl e ↦ inl e | inr k ↦ inr (chosen_grows less more (suc index) items item grow k) ]))
+    (λ left n. let there = chosen_grows less more (suc index) items item grow n in cond_both (more index) (x ∷ many) many (Member item) (λ h. inr there) (λ h. there)) m
 
 -- ---- the other items
-
-kept_alike : (p q : ℕ → Bool) (items : List ℕ) → ((item : ℕ) → Member item items → p item ≡ q item) → filter p items ≡ filter q items
-kept_alike p q [] same = refl
-kept_alike p q (x ∷ items) same =
-    λ i. cond (same x (inl refl) i) (x ∷ kept_alike p q items (λ y m. same y (inr m)) i) (kept_alike p q items (λ y m. same y (inr m)) i)
 
 pub others_are : (test : ℕ → Bool) (index : ℕ) (items : List ℕ) → IsRising items
     → chosen_from (λ i. not (test i)) index items ≡ difference items (chosen_from test index items)
@@ -104,7 +95,7 @@ others_are test index (x ∷ items) up = elim (cases_Bool (test index)) [
   | inl e ↦
       (let now : chosen_from test index (x ∷ items) ≡ x ∷ rest = ap (λ b. cond b (x ∷ rest) rest) e in
       ap (λ b. cond (not b) (x ∷ others) others) e ∙ others_are test (suc index) items (rest_rises x items up)
-      ∙ kept_alike (λ item. not (has rest item)) (λ item. not (has (x ∷ rest) item)) items
+      ∙ filter_members (λ item. not (has rest item)) (λ item. not (has (x ∷ rest) item)) items
       (λ y m. ap not (sym (apart y m)))
       ∙ sym (ap (λ b. cond (not b) (x ∷ difference items (x ∷ rest)) (difference items (x ∷ rest))) (has-from_Member (x ∷ rest) x (inl refl)))
       ∙ ap (difference (x ∷ items)) (sym now))
@@ -204,7 +195,7 @@ with_first index x items (consequent ∷ consequents) =
     let p = bit_or consequent.bits (2 ^ index) in
     let one : side_from index (x ∷ items) (with_bit index consequent) ≡ x ∷ side_from (suc index) items consequent =
     ap (λ b. cond b (x ∷ chosen_from (has_bit p) (suc index) items) (chosen_from (has_bit p) (suc index) items)) (has_new consequent.bits index)
-    ∙ ap (λ l. x ∷ l) (chosen_same (has_bit p) (has_bit consequent.bits) (suc index) items (λ i h. has_other consequent.bits index i (λ e. absurd (omega (arith, e, h))))) in
+    ∙ ap (λ l. x ∷ l) (chosen_alike (has_bit p) (has_bit consequent.bits) (suc index) items (λ i h _. has_other consequent.bits index i (λ e. absurd (omega (arith, e, h))))) in
     λ i. one i ∷ with_first index x items consequents i
 
 without_first : (index x : ℕ) (items : List ℕ) (consequents : List Consequent) → ((consequent : Consequent) → Member consequent consequents → has_bit consequent.bits index ≡ false)
@@ -214,13 +205,9 @@ without_first index x items [] lack = refl
 without_first index x items (consequent ∷ consequents) lack =
     λ i. cond (lack consequent (inl refl) i) (x ∷ side_from (suc index) items consequent) (side_from (suc index) items consequent) ∷ without_first index x items consequents (λ r m. lack r (inr m)) i
 
-nothing_from : (index : ℕ) (items : List ℕ) → chosen_from (has_bit 0) index items ≡ []
-nothing_from index [] = refl
-nothing_from index (x ∷ items) = ap (λ b. cond b (x ∷ chosen_from (has_bit 0) (suc index) items) (chosen_from (has_bit 0) (suc index) items)) (has_none index) ∙ nothing_from (suc index) items
-
 are_subsets : (size index : ℕ) (items : List ℕ) → index + length items ≤ MOST_BITS → map (side_from index items) (sides_of size index items) ≡ subsets_of_size size items
 unfolding sides_of side_from
-are_subsets zero index items bound = ap (λ l. l ∷ []) (nothing_from index items)
+are_subsets zero index items bound = ap (λ l. l ∷ []) (none_chosen (has_bit 0) index items (λ i h. has_none i))
 are_subsets (suc size) index [] bound = refl
 are_subsets (suc size) index (x ∷ items) bound =
     let first = sides_of size (suc index) items in
@@ -240,14 +227,8 @@ before index consequent = ltb index consequent.first
 
 none_before : (index other : ℕ) (consequents : List Consequent) → other ≤ index → filter (before index) (map (with_bit other) consequents) ≡ []
 unfolding before
-none_before index other [] h = refl
-none_before index other (consequent ∷ consequents) h =
-    ap (λ b. cond b (with_bit other consequent ∷ filter (before index) (map (with_bit other) consequents)) (filter (before index) (map (with_bit other) consequents))) (le-ltb index other h)
-    ∙ none_before index other consequents h
-
-all_kept : (p : Consequent → Bool) (consequents : List Consequent) → ((consequent : Consequent) → Member consequent consequents → p consequent ≡ true) → filter p consequents ≡ consequents
-all_kept p [] h = refl
-all_kept p (consequent ∷ consequents) h = ap (λ b. cond b (consequent ∷ filter p consequents) (filter p consequents)) (h consequent (inl refl)) ∙ ap (λ l. consequent ∷ l) (all_kept p consequents (λ r m. h r (inr m)))
+none_before index other consequents h = filter_none (λ (r : Consequent). ltb index r.first) (map (with_bit other) consequents)
+    (λ r m. subst (λ (s : Consequent). ltb index s.first ≡ false) (Member-from_map (with_bit other) r consequents m).2 (le-ltb index other h))
 
 -- those without the first index are those that have it before their first
 after : (size index x : ℕ) (items : List ℕ) → index + length (x ∷ items) ≤ MOST_BITS → filter (before index) (sides_of size index (x ∷ items)) ≡ sides_of size (suc index) items
@@ -256,7 +237,7 @@ after zero index x items bound = ap (λ b. cond b (no_bits ∷ []) []) (lt-ltb i
 after (suc size) index x items bound =
     filter-append (before index) (map (with_bit index) (sides_of size (suc index) items)) (sides_of (suc size) (suc index) items)
     ∙ (λ i. none_before index index (sides_of size (suc index) items) (omega arith) i
-    ++ all_kept (before index) (sides_of (suc size) (suc index) items)
+    ++ filter_all (before index) (sides_of (suc size) (suc index) items)
     (λ consequent m. let f = (are_from (suc size) (suc index) items (omega (arith, bound)) consequent m).first in lt-ltb index consequent.first (omega arith)) i)
 
 -- for a later index the first makes no difference
@@ -286,21 +267,8 @@ first_longer union bound = all_longer 0 union bound
 
 pub longer_more : (met : List Consequent) (index : ℕ) → longer (index + 1) met ≡ longer index met ++ longer_by met index
 longer_more met index =
-    ap (flat_map (longer_by met)) (ap (range_with_len 0) (add-one index) ∙ ends 0 index ∙ ap (λ n. range_with_len 0 index ++ n ∷ []) (from_zero index)) ∙ flat_map-append (longer_by met) (range_with_len 0 index) (index ∷ [])
+    ap (flat_map (longer_by met)) (range_next index) ∙ flat_map-append (longer_by met) (range_with_len 0 index) (index ∷ [])
     ∙ ap (λ l. flat_map (longer_by met) (range_with_len 0 index) ++ l) (append-nil (longer_by met index))
-  where
-    from_zero : (n : ℕ) → 0 + n ≡ n
-    from_zero n = omega arith
-
-    shift : (start n : ℕ) → start + 1 + n ≡ start + suc n
-    shift start n = omega arith
-
-    ends : (start n : ℕ) → range_with_len start (suc n) ≡ range_with_len start n ++ (start + n) ∷ []
-    ends start zero = ap (λ m. m ∷ []) (at start)
-      where
-        at : (n : ℕ) → n ≡ n + 0
-        at n = omega arith
-    ends start (suc n) = ap (λ l. start ∷ l) (ends (start + 1) n ∙ ap (λ m. range_with_len (start + 1) n ++ m ∷ []) (shift start n))
 
 -- ---- those that pass a test which holds of a set with an index more only where it holds of the set
 
@@ -341,17 +309,12 @@ module _ (test : Consequent → Bool) where
     pub kept_longer : (count : ℕ) (consequents : List Consequent) → filter test (longer count (filter test consequents)) ≡ filter test (longer count consequents)
     kept_longer count consequents = kept_of (range_with_len 0 count) consequents
 
-  fewer_of : (indexes : List ℕ) (consequents : List Consequent) (consequent : Consequent) → Member consequent (flat_map (longer_by (filter test consequents)) indexes) → Member consequent (flat_map (longer_by consequents) indexes)
-  fewer_of [] consequents consequent m = m
-  fewer_of (index ∷ indexes) consequents consequent m = elim (Member-append consequent (longer_by (filter test consequents) index) (flat_map (longer_by (filter test consequents)) indexes) m) [
-    | inl n ↦
-        (let r = Member-from_map (with_bit index) consequent (filter (λ r. ltb index r.first) (filter test consequents)) n in
-        let f = Member-filter (λ r. ltb index r.first) r.0 (filter test consequents) r.1 in
-        Member-append_left consequent (longer_by consequents index) (flat_map (longer_by consequents) indexes)
-        (subst (λ x. Member x (longer_by consequents index)) r.2
-        (Member-map (with_bit index) r.0 (filter (λ r. ltb index r.first) consequents) (Member-from_filter (λ r. ltb index r.first) r.0 consequents (Member-filter test r.0 consequents f.0).0 f.1))))
-    | inr n ↦ Member-append_right consequent (longer_by consequents index) (flat_map (longer_by consequents) indexes) (fewer_of indexes consequents consequent n)
-  ]
-
   pub fewer_longer : (count : ℕ) (consequents : List Consequent) (consequent : Consequent) → Member consequent (longer count (filter test consequents)) → Member consequent (longer count consequents)
-  fewer_longer count consequents = fewer_of (range_with_len 0 count) consequents
+  fewer_longer count consequents consequent m =
+      let from = Member-flat_map (longer_by (filter test consequents)) consequent (range_with_len 0 count) m in
+      let index = from.0 in
+      let r = Member-from_map (with_bit index) consequent (filter (λ r. ltb index r.first) (filter test consequents)) from.2 in
+      let f = Member-filter (λ r. ltb index r.first) r.0 (filter test consequents) r.1 in
+      Member-into_flat_map (longer_by consequents) consequent index (range_with_len 0 count) from.1
+      (subst (λ x. Member x (longer_by consequents index)) r.2
+      (Member-map (with_bit index) r.0 (filter (λ r. ltb index r.first) consequents) (Member-from_filter (λ r. ltb index r.first) r.0 consequents (Member-filter test r.0 consequents f.0).0 f.1)))

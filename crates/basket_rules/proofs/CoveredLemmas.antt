@@ -1,12 +1,13 @@
 -- Marking sets, one subset after another.
-use Rattle.std.proofs.Common.{IsTrue, ◌≡◌, ◌≢◌, ℕ, zero, suc, ◌+◌, ◌<◌, ◌≤◌, ◌⊎◌, Bool, true, false, cond, ◌||◌, eqb, eq-eqb, ltb, List, [], ◌∷◌, length, get_or, set, refl, sym, ap, ◌∙◌, subst, inl, inr, arith, get_or-set_other, get_or-set_same}
-use Rattle.std.proofs.lemmas.Bool.{cases_Bool, cases_lt, cases_eq, or_left, or_right, true≢false}
+use Rattle.std.proofs.Common.{IsTrue, ◌≡◌, ◌≢◌, ℕ, zero, suc, ◌+◌, ◌<◌, ◌≤◌, ◌⊎◌, Bool, false, List, [], ◌∷◌, length, get_or, set, refl, sym, ap, ◌∙◌, subst, inl, inr, arith, get_or-set_other, get_or-set_same}
+use Rattle.std.proofs.lemmas.Bool.{cases_lt, cases_eq}
 use Rattle.std.proofs.lemmas.List.{length-set}
-use Rattle.basket_lists.specs.Without.{ArePlacesWithout, IsLongerBy}
-use Rattle.basket_order.specs.declared.place_table.TheConstants.{NOWHERE}
+use Rattle.basket_lists.specs.Without.{AreIndexesWithout, IsLongerBy}
+use Rattle.basket_order.specs.declared.index_table.TheConstants.{NOWHERE}
 use Rattle.basket_sets.specs.declared.counted.Counted.{Counted}
 use Rattle.basket_sets.specs.Itemset.{IsRising, with_item, without}
-use Rattle.basket_sets.proofs.theory.Rising.{Member-from_has, first_below, has_place, rest_rises}
+use Rattle.basket_sets.proofs.theory.Rising.{rest_rises, with_item_by}
+use Rattle.basket_sets.proofs.theory.Tests.{rising_at}
 use Rattle.basket_rules.specs.declared.covered.Supersets.{Supersets}
 use Rattle.basket_rules.specs.Covered.{AreMarks, IsBetween, IsMark, Matters, WasSeen}
 use Rattle.basket_rules.specs.Listed.{set_at, count_at}
@@ -16,30 +17,21 @@ use Rattle.basket_rules.proofs.SearchLemmas.{none, set_is, stands_once}
 
 -- ---- a set without the item by which it is longer
 
-at_index : (item x : ℕ) (items rest : List ℕ) (index : ℕ) (p q : Bool) → ltb item x ≡ p → eqb item x ≡ q → IsRising (cond p (item ∷ x ∷ items) (cond q (x ∷ items) (x ∷ rest)))
-    → length (cond p (item ∷ x ∷ items) (cond q (x ∷ items) (x ∷ rest))) ≡ suc (suc (length items)) → index < length (cond p (item ∷ x ∷ items) (cond q (x ∷ items) (x ∷ rest)))
-    → get_or (cond p (item ∷ x ∷ items) (cond q (x ∷ items) (x ∷ rest))) index 0 ≡ item
-    → ((k : ℕ) → IsRising rest → length rest ≡ suc (length items) → k < length rest → get_or rest k 0 ≡ item → without k rest ≡ items)
-    → without index (cond p (item ∷ x ∷ items) (cond q (x ∷ items) (x ∷ rest))) ≡ x ∷ items
-at_index item x items rest zero true q less same up long within here again = refl
-at_index item x items rest (suc index) true q less same up long within here again =
-    let inside : index < length (x ∷ items) = omega (arith, within) in
-    let above = first_below item (x ∷ items) up (get_or (x ∷ items) index 0) (Member-from_has (x ∷ items) (get_or (x ∷ items) index 0) (has_place (x ∷ items) index inside)) in
-    absurd (omega (arith, above, here))
-at_index item x items rest index false true less same up long within here again = absurd (omega (arith, long))
-at_index item x items rest zero false false less same up long within here again = absurd (true≢false (sym (eq-eqb item x (sym here)) ∙ same))
-at_index item x items rest (suc index) false false less same up long within here again =
-    ap (λ l. x ∷ l) (again index (rest_rises x rest up) (omega (arith, long)) (omega (arith, within)) here)
-
 without_item : (item : ℕ) (items : List ℕ) (index : ℕ) → IsRising (with_item item items) → length (with_item item items) ≡ suc (length items) → index < length (with_item item items)
     → get_or (with_item item items) index 0 ≡ item → without index (with_item item items) ≡ items
 without_item item [] zero up long within here = refl
 without_item item [] (suc index) up long within here = absurd (omega (arith, within))
-without_item item (x ∷ items) index up long within here =
-    at_index item x items (with_item item items) index (ltb item x) (eqb item x) refl refl up long within here (λ k. without_item item items k)
+without_item item (x ∷ items) zero up long within here = with_item_by (λ l. length l ≡ suc (suc (length items)) → get_or l 0 0 ≡ item → without 0 l ≡ x ∷ items) item x items
+    (λ less size first. refl) (λ same size first. absurd (omega (arith, size))) (λ more size first. absurd (omega (arith, more, first))) long here
+without_item item (x ∷ items) (suc index) up long within here = with_item_by
+    (λ l. IsRising l → length l ≡ suc (suc (length items)) → suc index < length l → get_or l (suc index) 0 ≡ item → without (suc index) l ≡ x ∷ items) item x items
+    (λ less rises size inside last. absurd (let above = rising_at (item ∷ x ∷ items) 0 (suc index) rises (omega arith) inside in omega (arith, above, last)))
+    (λ same rises size inside last. absurd (omega (arith, size)))
+    (λ more rises size inside last. ap (λ l. x ∷ l) (without_item item items index (rest_rises x (with_item item items) rises) (omega (arith, size)) (omega (arith, inside)) last))
+    up long within here
 
 -- where a set stands without one of its items
-pub found_below : (list : List Counted) (number index : ℕ) (found : List ℕ) → ArePlacesWithout list (set_at list number) 63 found → index < 63 → index < length (set_at list number)
+pub found_below : (list : List Counted) (number index : ℕ) (found : List ℕ) → AreIndexesWithout list (set_at list number) 63 found → index < 63 → index < length (set_at list number)
     → get_or found index NOWHERE ≢ NOWHERE → (get_or found index NOWHERE < length list) × (set_at list (get_or found index NOWHERE) ≡ without index (set_at list number))
 found_below list number index found all few within said =
     let at = get_or found index NOWHERE in
@@ -79,13 +71,6 @@ module _ (list : List Counted) (supersets : Supersets) where
     };
   }
 
-  pub first_item : (from number : ℕ) (marks : List Bool) → AreMarks list supersets (IsBetween from number) marks → AreMarks list supersets (WasSeen from number 0) marks
-  first_item from number marks = seen_alike (IsBetween from number) (WasSeen from number 0) marks alike
-    where
-      alike : (above index : ℕ) → above < length list → index < length (set_at list above) → WasSeen from number 0 above index → IsBetween from number above index
-      alike above index listed within (after, inl before) = (after, before)
-      alike above index listed within (after, inr h) = absurd (let k = h.1 in omega arith)
-
   pub all_items : (from number items : ℕ) (marks : List Bool) → length (set_at list number) ≤ items → AreMarks list supersets (WasSeen from number items) marks → AreMarks list supersets (IsBetween from (number + 1)) marks
   all_items from number items marks whole = seen_alike (WasSeen from number items) (IsBetween from (number + 1)) marks (λ above index listed within (after, before).
       elim (cases_lt above number) [
@@ -93,28 +78,6 @@ module _ (list : List Counted) (supersets : Supersets) where
         | inr more ↦ (let here : above ≡ number = omega (arith, before, more) in
             let long = ap (λ n. length (set_at list n)) here in (after, inr (here, omega (arith, within, long, whole))))
       ])
-
-  -- marks of two ranges, put together
-  pub both_ranges : (from middle end : ℕ) (marks others all : List Bool) → length all ≡ length marks
-      → ((number : ℕ) → number < length marks → get_or all number false ≡ get_or others number false || get_or marks number false)
-      → AreMarks list supersets (IsBetween from middle) marks → AreMarks list supersets (IsBetween middle end) others → AreMarks list supersets (IsBetween from end) all
-  both_ranges from middle end marks others all long each first later = record {
-    long = long ∙ first.long;
-    each = λ number below.
-        let here = first.each number below in
-        let there = later.each number below in
-        let is = each number (omega (arith, below, first.long)) in
-        subst (IsMark list supersets (IsBetween from end) number) (sym is) (record {
-          some = λ told. elim (cases_Bool (get_or others number false)) [
-            | inl marked ↦ there.some marked
-            | inr unmarked ↦ here.some (sym (ap (λ b. b || get_or marks number false) unmarked) ∙ told)
-          ];
-          each = λ sorted above index seen is matters. elim (cases_lt above middle) [
-            | inl less ↦ or_right (get_or others number false) _ (here.each sorted above index (seen.0, less) is matters)
-            | inr more ↦ or_left _ _ (there.each sorted above index (more, seen.1) is matters)
-          ];
-        });
-  }
 
 -- ---- one set without one of its items
 

@@ -10,6 +10,8 @@ use Rattle.basket_core.specs.Listing.{Listing}
 use Rattle.basket_sets.specs.declared.counted.Counted.{Counted}
 use Rattle.basket_sets.specs.Itemset.{IsRising}
 use Rattle.basket_sets.specs.Subsets.{subsets_of, subsets_up_to}
+use Rattle.std.proofs.lemmas.Simd.{map-map}
+use Rattle.basket_sets.proofs.theory.Items.{filter-map}
 use Rattle.basket_sets.proofs.theory.Members.{Member, Member-filter, Member-map, All-from_Member, at_Member}
 use Rattle.basket_sets.proofs.theory.Rising.{contains_each}
 use Rattle.basket_sets.proofs.theory.Subsets.{IsSubset-from_Member}
@@ -21,7 +23,7 @@ use Rattle.basket_rules.specs.Listed.{set_at}
 use Rattle.basket_rules.specs.Consequents.{has_bit, longer, no_bits, side_of, with_bit}
 use Rattle.basket_rules.specs.Rules.{is_confident_among, rule_among, rules_among_with, rules_among, consequents_of, IsConsequent, IsRuleFor, KeepsConfident}
 use Rattle.basket_rules.proofs.SearchLemmas.{none, set_is}
-use Rattle.basket_rules.proofs.SubsetLemmas.{filter_same}
+use Rattle.basket_sets.proofs.theory.Ranges.{filter_members}
 use Rattle.basket_rules.proofs.RuleLemmas.{is_met, met_falls}
 use Rattle.basket_rules.proofs.ConsequentLemmas.{sides_of, sides_are_subsets, all_longer, chosen_rises, first_longer, kept_longer, fewer_longer, side_grows}
 use Rattle.basket_rules.proofs.SizeLemmas.{joined, consequents_are}
@@ -112,14 +114,7 @@ right_sides listing number size consequents up few some less within = All-from_M
 -- a test of the sides, and what is made of those that pass
 filtered_sides : {X : Type 0} (test : List ℕ → Bool) (made : List ℕ → X) (side : Consequent → List ℕ) (consequents : List Consequent)
     → map (λ r. made (side r)) (filter (λ r. test (side r)) consequents) ≡ map made (filter test (map side consequents))
-filtered_sides test made side [] = refl
-filtered_sides test made side (consequent ∷ consequents) = at (test (side consequent)) (filtered_sides test made side consequents)
-  where
-    at : (b : Bool) → map (λ r. made (side r)) (filter (λ r. test (side r)) consequents) ≡ map made (filter test (map side consequents))
-        → map (λ r. made (side r)) (cond b (consequent ∷ filter (λ r. test (side r)) consequents) (filter (λ r. test (side r)) consequents))
-        ≡ map made (cond b (side consequent ∷ filter test (map side consequents)) (filter test (map side consequents)))
-    at true e = ap (λ l. made (side consequent) ∷ l) e
-    at false e = e
+filtered_sides test made side consequents = sym (map-map made side (filter (λ r. test (side r)) consequents)) ∙ sym (ap (map made) (filter-map side test consequents))
 
 module _ (listing : Listing) (confidence : ℕ × ℕ) (number size : ℕ) (below : number < length listing.sets) (few : length (set_at listing.sets number) ≤ MOST_BITS) (some : 1 ≤ size)
     (less : size < length (set_at listing.sets number)) (consequents met : List Consequent) (rules more : List Rule) (keeps : KeepsConfident listing confidence number consequents met rules more)
@@ -144,7 +139,7 @@ module _ (listing : Listing) (confidence : ℕ × ℕ) (number size : ℕ) (belo
       let l = level consistent in
       let all = right_sides listing number size consequents rises few some less l.within in
       let k = keeps consistent all in (
-        k.0 ∙ filter_same (λ consequent. is_confident_among listing confidence set (side_of set consequent)) test consequents
+        k.0 ∙ filter_members (λ consequent. is_confident_among listing confidence set (side_of set consequent)) test consequents
             (λ consequent m. sym (ap (λ b. b && is_confident_among listing confidence set (side_of set consequent))
             (lt-ltb (length (side_of set consequent)) (length set) (at_Member (λ r. IsConsequent listing number (side_of set r)) consequent consequents all m).1))) ∙ l.all,
         k.1,
@@ -174,7 +169,7 @@ module _ (listing : Listing) (confidence : ℕ × ℕ) (number size : ℕ) (belo
 
 -- the consequents are those that are smaller than the union
 met_sides : (listing : Listing) (confidence : ℕ × ℕ) (union : List ℕ) → filter (is_met listing confidence union) (consequents_of union) ≡ filter (is_confident_among listing confidence union) (consequents_of union)
-met_sides listing confidence union = filter_same (is_met listing confidence union) (is_confident_among listing confidence union) (consequents_of union) (λ consequent m.
+met_sides listing confidence union = filter_members (is_met listing confidence union) (is_confident_among listing confidence union) (consequents_of union) (λ consequent m.
     ap (λ b. b && is_confident_among listing confidence union consequent) (Member-filter (λ r. ltb (length r) (length union)) consequent (subsets_of union) m).1)
 
 pub all_levels : (listing : Listing) (confidence : ℕ × ℕ) (number size : ℕ) (consequents : List Consequent) (rules : List Rule) → number < length listing.sets

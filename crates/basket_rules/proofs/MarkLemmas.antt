@@ -1,11 +1,10 @@
 -- Which sets of a consistent list are marked, and what is kept of them.
-use Rattle.std.proofs.Common.{◌≡◌, ℕ, ◌<◌, ◌≤◌, Bool, true, false, not, eqb, ◌&&◌, List, length, get_or, sym, ap, ◌∙◌, subst, inl, inr, arith}
+use Rattle.std.proofs.Common.{◌≡◌, ℕ, ◌<◌, ◌≤◌, Bool, true, false, not, eqb, ◌&&◌, List, [], ◌∷◌, length, get_or, refl, sym, ap, ◌∙◌, subst, inl, inr, arith}
 use Rattle.std.specs.List.{list_all}
-use Rattle.std.proofs.lemmas.Bool.{cases_Bool, and_parts, and_from, eqb-true, eq-eqb, true≢false, false_from_ne_true}
+use Rattle.std.proofs.lemmas.Bool.{and_parts, and_from, eqb-true, eq-eqb}
 use Rattle.basket_sets.specs.declared.counted.Counted.{Counted}
 use Rattle.basket_sets.specs.Itemset.{contains, with_item, without}
 use Rattle.basket_sets.proofs.theory.Members.{Contains-from_Member}
-use Rattle.basket_sets.proofs.theory.Rising.{same_test}
 use Rattle.basket_rules.specs.Consistency.{IsConsistent}
 use Rattle.basket_rules.specs.Listed.{set_at, count_at}
 use Rattle.basket_rules.specs.Subset.{IsWithout}
@@ -14,11 +13,11 @@ use Rattle.basket_rules.specs.declared.covered.Supersets.TheVariants.{All, SameC
 use Rattle.basket_rules.specs.Covered.{AreMarks, HasSuperset, IsBetween, IsMark}
 use Rattle.basket_rules.specs.Condensed.{is_proper_superset, is_closed_in, is_maximal_in, closed_in, maximal_in}
 use Rattle.basket_lists.specs.CountedSets.{AreUnmarked}
-use Rattle.basket_rules.proofs.SubsetLemmas.{not_true, true_not, contains_without, without_lacks, placed, item_more, contains_less, contains_with_item}
+use Rattle.basket_rules.proofs.SubsetLemmas.{none_alike, not_true, true_not, contains_without, without_lacks, placed, item_more, contains_less, contains_with_item}
 use Rattle.basket_rules.proofs.SearchLemmas.{none, set_is, count_is, entry_listed, stands_once}
 use Rattle.basket_rules.proofs.theory.Condensed.{with_item_nonempty}
 use Rattle.basket_rules.proofs.theory.Consistency.{set_nonempty, subset_stands}
-use Rattle.basket_sets.proofs.theory.Without.{all_pass, each_passes}
+use Rattle.basket_sets.proofs.theory.Numerals.{and_true}
 
 -- ---- the entries of a list
 
@@ -29,13 +28,16 @@ module _ (list : List Counted) where
   entry_is : (k : ℕ) (d : Counted) → k < length list → entry k ≡ get_or list k d
   entry_is k d below = λ i. record { set = set_is list k d below i; count = count_is list k d below i }
 
-  -- what a test says of all entries
-  each_entry : (test : Counted → Bool) → list_all test list ≡ true → (k : ℕ) → k < length list → test (entry k) ≡ true
-  each_entry test h k below =
-      subst (λ x. test x ≡ true) (sym (entry_is k none below)) (each_passes test list h (get_or list k none) (entry_listed list k below))
-
-  all_entries : (test : Counted → Bool) → ((k : ℕ) → k < length list → test (entry k) ≡ true) → list_all test list ≡ true
-  all_entries test h = all_pass test list (λ c m. let p = Contains-from_Member c list m in subst (λ x. test x ≡ true) (entry_is p.0 c p.1 ∙ p.2) (h p.0 p.1))
+  -- none passes a test exactly where there is no mark, if an entry that passes gives a mark and a mark such an entry
+  marked_alike : (test : Counted → Bool) (mark : Bool) → (mark ≡ true → (k : ℕ) × (k < length list) × (test (entry k) ≡ true)) → ((k : ℕ) → k < length list → test (entry k) ≡ true → mark ≡ true)
+      → list_all (λ c. not (test c)) list ≡ not mark
+  marked_alike test mark some each = none_alike test (λ b. b) list (mark ∷ [])
+      (λ c m e. let p = Contains-from_Member c list m in (mark, inl refl, each p.0 p.1 (subst (λ x. test x ≡ true) (sym (entry_is p.0 c p.1 ∙ p.2)) e)))
+      (λ b m e. elim m [
+        | inl is ↦ (let p = some (is ∙ e) in (get_or list p.0 none, entry_listed list p.0 p.1, subst (λ x. test x ≡ true) (entry_is p.0 none p.1) p.2))
+        | inr no' ↦ absurd no'
+      ])
+      ∙ and_true (not mark)
 
 -- ---- the marks
 
@@ -77,43 +79,19 @@ module _ (list : List Counted) (consistent : IsConsistent list) where
       }
 
   closed_at : (k : ℕ) (mark : Bool) → k < length list → IsMark list SameCount (IsBetween 0 (length list)) k mark → is_closed_in list (entry list k) ≡ not mark
-  closed_at k mark below m = same_test _ _ into back
-    where
-      into : is_closed_in list (entry list k) ≡ true → not mark ≡ true
-      into h = elim (cases_Bool mark) [
-        | inl told ↦ absurd (
-            let a = m.some told in
-            let fails = true_not _ (each_entry list (λ o. not (is_proper_superset o.set (set_at list k) && eqb o.count (count_at list k))) h a.above a.without.listed) in
-            let holds = and_from (is_proper_superset (set_at list a.above) (set_at list k)) (eqb (count_at list a.above) (count_at list k)) (above_is_superset SameCount k a) (eq-eqb (count_at list a.above) (count_at list k) a.matters) in
-            true≢false (sym holds ∙ fails))
-        | inr unmarked ↦ not_true mark unmarked
-      ]
-
-      back : not mark ≡ true → is_closed_in list (entry list k) ≡ true
-      back h = all_entries list (λ o. not (is_proper_superset o.set (set_at list k) && eqb o.count (count_at list k))) (λ j there. not_true _ (false_from_ne_true _ (λ e.
-          let tests = and_parts (is_proper_superset (set_at list j) (set_at list k)) (eqb (count_at list j) (count_at list k)) e in
-          let o = one_more k j below there tests.0 in
-          let same = eqb-true (count_at list j) (count_at list k) tests.1 in
-          let low = o.no_lower in
-          let high = o.no_higher in
-          true≢false (sym (m.each consistent.in_order o.above o.index (omega arith, o.without.listed) o.without (omega (arith, same, low, high))) ∙ true_not mark h))))
+  closed_at k mark below m = marked_alike list (λ o. is_proper_superset o.set (set_at list k) && eqb o.count (count_at list k)) mark
+      (λ told. let a = m.some told in
+      (a.above, a.without.listed, and_from (is_proper_superset (set_at list a.above) (set_at list k)) _ (above_is_superset SameCount k a) (eq-eqb (count_at list a.above) (count_at list k) a.matters)))
+      (λ j there e. let tests = and_parts (is_proper_superset (set_at list j) (set_at list k)) (eqb (count_at list j) (count_at list k)) e in
+      let o = one_more k j below there tests.0 in
+      let same = eqb-true (count_at list j) (count_at list k) tests.1 in
+      let low = o.no_lower in let high = o.no_higher in
+      m.each consistent.in_order o.above o.index (omega arith, o.without.listed) o.without (omega (arith, same, low, high)))
 
   maximal_at : (k : ℕ) (mark : Bool) → k < length list → IsMark list All (IsBetween 0 (length list)) k mark → is_maximal_in list (entry list k) ≡ not mark
-  maximal_at k mark below m = same_test _ _ into back
-    where
-      into : is_maximal_in list (entry list k) ≡ true → not mark ≡ true
-      into h = elim (cases_Bool mark) [
-        | inl told ↦ absurd (
-            let a = m.some told in
-            let fails = true_not _ (each_entry list (λ o. not (is_proper_superset o.set (set_at list k))) h a.above a.without.listed) in
-            true≢false (sym (above_is_superset All k a) ∙ fails))
-        | inr unmarked ↦ not_true mark unmarked
-      ]
-
-      back : not mark ≡ true → is_maximal_in list (entry list k) ≡ true
-      back h = all_entries list (λ o. not (is_proper_superset o.set (set_at list k))) (λ j there. not_true _ (false_from_ne_true _ (λ e.
-          let o = one_more k j below there e in
-          true≢false (sym (m.each consistent.in_order o.above o.index (omega arith, o.without.listed) o.without tt) ∙ true_not mark h))))
+  maximal_at k mark below m = marked_alike list (λ o. is_proper_superset o.set (set_at list k)) mark
+      (λ told. let a = m.some told in (a.above, a.without.listed, above_is_superset All k a))
+      (λ j there e. let o = one_more k j below there e in m.each consistent.in_order o.above o.index (omega arith, o.without.listed) o.without tt)
 
 -- ---- all sets
 

@@ -1,12 +1,11 @@
 -- What one comparison in a list in report order says of the sets beside it, and when a search is over.
-use Rattle.std.proofs.Common.{◌≡◌, ℕ, ◌<◌, ◌≤◌, ◌+◌, List, [], ◌∷◌, length, get_or, refl, sym, ap, ◌∙◌, inl, inr, arith}
+use Rattle.std.proofs.Common.{◌≡◌, ℕ, ◌<◌, ◌≤◌, ◌+◌, List, [], ◌∷◌, length, get_or, sym, ap, ◌∙◌, subst, inl, inr, arith}
 use Rattle.std.specs.declared.cmp.Ordering.{Ordering}
 use Rattle.std.specs.declared.cmp.Ordering.TheVariants.{Less, Equal, Greater}
-use Rattle.std.specs.Ordering.{ordering_index, is_eq}
+use Rattle.std.specs.Ordering.{is_eq, ordering_reverse}
 use Rattle.std.specs.Cmp.Lexicographic.{bytes_decides}
 use Rattle.std.specs.List.{AllWithin, HoldsAt}
-use Rattle.std.specs.List.Sorted.{IsNonDecreasingBy}
-use Rattle.std.proofs.lemmas.Bool.{cases_lt}
+use Rattle.std.proofs.lemmas.Bool.{cases_eq, cases_lt}
 use Rattle.std.proofs.lemmas.Cmp.{tied_itself}
 use Rattle.std.proofs.lemmas.Map.Keys.{Less-from_sorted}
 use Rattle.std.proofs.lemmas.List.{get_or_default, get_or-map, length-map}
@@ -15,7 +14,6 @@ use Rattle.basket_sets.specs.Order.{report_order, report_order_total, report_ord
 use Rattle.basket_sets.proofs.theory.Members.{Member, Member-from_Contains}
 use Rattle.basket_rules.specs.Listed.{IsSorted, sets_in, set_at, count_at}
 use Rattle.basket_rules.specs.Search.{IsBetween}
-use Rattle.basket_sets.proofs.theory.Sorting.{at_most_greater, only_greater, only_less}
 
 -- ---- the sets of a list
 
@@ -37,36 +35,28 @@ entry_listed list k below = let c = get_or list k none in Member-from_Contains c
 equal_sets : (a b : List ℕ) → report_order a b ≡ Equal → a ≡ b
 equal_sets a b e = (bytes_decides a b).0 (report_order_ties a b ∙ ap is_eq e)
 
--- of a smaller set no greater answer
-index_rises : (a b set : List ℕ) (o : Ordering) → report_order a b ≡ Less → report_order b set ≡ o → ordering_index (report_order a set) ≤ ordering_index o
-index_rises a b set Less less e = let below = ap ordering_index (report_order_total.trans a b set less e) in omega arith
-index_rises a b set Equal less e = let below = ap ordering_index (ap (report_order a) (sym (equal_sets b set e)) ∙ less) in omega arith
-index_rises a b set Greater less e = at_most_greater (report_order a set)
-
-answers_rise : (list : List Counted) (set : List ℕ) → IsSorted list → IsNonDecreasingBy (λ c. ordering_index (report_order c.set set)) list
-answers_rise list set up i j d le below = elim (cases_lt i j) [
-  | inl less ↦ (let long = length-map list (λ (c : Counted). c.set) in
-      let first = get_or-map (λ (c : Counted). c.set) list i d d.set (omega arith) in
-      let second = get_or-map (λ (c : Counted). c.set) list j d d.set below in
-      let before : report_order (get_or list i d).set (get_or list j d).set ≡ Less =
-      (λ k. report_order (sym first k) (sym second k)) ∙ Less-from_sorted report_order (sets_in list) i j d.set up less (omega arith) in
-      index_rises (get_or list i d).set (get_or list j d).set set _ before refl)
-  | inr more ↦ (let e : i ≡ j = omega arith in let same = ap (λ k. ordering_index (report_order (get_or list k d).set set)) e in omega arith)
-]
+-- an earlier set is smaller
+before_less : (list : List Counted) (i j : ℕ) (d : Counted) → IsSorted list → i < j → j < length list → report_order (get_or list i d).set (get_or list j d).set ≡ Less
+before_less list i j d up less below =
+    let long = length-map list (λ (c : Counted). c.set) in
+    (λ k. report_order (sym (set_is list i d (omega arith)) k) (sym (set_is list j d below) k)) ∙ Less-from_sorted report_order (sets_in list) i j [] up less (omega arith)
 
 -- the sets up to a smaller one are smaller
 pub smaller_up_to : (list : List Counted) (set : List ℕ) (i : ℕ) → IsSorted list → i < length list
     → HoldsAt (λ c. report_order c.set set ≡ Less) list i → AllWithin (λ c. report_order c.set set ≡ Less) list 0 (i + 1)
-smaller_up_to list set i up below less k d low high =
-    let rises = answers_rise list set up k i d (omega arith) below in
-    only_less (report_order (get_or list k d).set set) (omega (arith, ap ordering_index (less d)))
+smaller_up_to list set i up below less k d low high = elim (cases_eq k i) [
+  | inl same ↦ subst (λ n. report_order (get_or list n d).set set ≡ Less) (sym same) (less d)
+  | inr differ ↦ report_order_total.trans (get_or list k d).set (get_or list i d).set set (before_less list k i d up (omega arith) below) (less d)
+]
 
 -- the sets from a greater one on are greater
 pub greater_from : (list : List Counted) (set : List ℕ) (i : ℕ) → IsSorted list
     → HoldsAt (λ c. report_order c.set set ≡ Greater) list i → AllWithin (λ c. report_order c.set set ≡ Greater) list i (length list)
-greater_from list set i up more k d low high =
-    let rises = answers_rise list set up i k d low high in
-    only_greater (report_order (get_or list k d).set set) (omega (arith, ap ordering_index (more d)))
+greater_from list set i up more k d low high = elim (cases_eq k i) [
+  | inl same ↦ subst (λ n. report_order (get_or list n d).set set ≡ Greater) (sym same) (more d)
+  | inr differ ↦ report_order_total.antisymm (get_or list k d).set set ∙ ap ordering_reverse (report_order_total.trans set (get_or list i d).set (get_or list k d).set
+      (report_order_total.antisymm set (get_or list i d).set ∙ ap ordering_reverse (more d)) (before_less list i k d up (omega arith) high))
+]
 
 -- a set that was compared
 pub compared_at : (list : List Counted) (set : List ℕ) (i : ℕ) (items : List ℕ) (result o : Ordering) → i < length list → items ≡ set_at list i

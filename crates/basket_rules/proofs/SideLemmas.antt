@@ -10,22 +10,9 @@ use Rattle.basket_rules.specs.declared.consequents.Consequent.{Consequent}
 use Rattle.basket_rules.specs.declared.consequents.TheConstants.{MOST_BITS}
 use Rattle.basket_rules.specs.Consequents.{chosen, chosen_from, has_bit, side_of}
 use Rattle.basket_rules.specs.Rules.{difference}
-use Rattle.basket_rules.proofs.ConsequentLemmas.{item_taken, item_left, others_are}
+use Rattle.basket_rules.proofs.ConsequentLemmas.{chosen_alike, none_chosen, item_taken, item_left, others_are}
 
 -- ---- from the lowest index on
-
--- tests that agree on the indexes of a list
-chosen_alike : (one other : ℕ → Bool) (start : ℕ) (items : List ℕ) → ((i : ℕ) → start ≤ i → i < start + length items → one i ≡ other i) → chosen_from one start items ≡ chosen_from other start items
-chosen_alike one other start [] same = refl
-chosen_alike one other start (x ∷ items) same =
-    let rest = chosen_alike one other (suc start) items (λ k low h. same k (omega (arith, low)) (omega (arith, h))) in
-    λ i. cond (same start (omega arith) (omega arith) i) (x ∷ rest i) (rest i)
-
--- no index passes
-none_chosen : (test : ℕ → Bool) (start : ℕ) (items : List ℕ) → ((i : ℕ) → i < start + length items → test i ≡ false) → chosen_from test start items ≡ []
-none_chosen test start [] fails = refl
-none_chosen test start (x ∷ items) fails =
-    ap (λ b. cond b (x ∷ chosen_from test (suc start) items) (chosen_from test (suc start) items)) (fails start (omega arith)) ∙ none_chosen test (suc start) items (λ k h. fails k (omega (arith, h)))
 
 -- the first index that passes, and the test without it
 first_chosen : (one other : ℕ → Bool) (start index none : ℕ) (items : List ℕ) → start ≤ index → index < start + length items

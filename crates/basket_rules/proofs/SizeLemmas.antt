@@ -20,6 +20,7 @@ use Rattle.basket_sets.specs.Order.{report_order, report_order_total, report_ord
 use Rattle.basket_sets.specs.Subsets.{subsets_of_size, subsets_up_to}
 use Rattle.basket_sets.specs.Support.{support_of, total_of, all_items}
 use Rattle.basket_sets.proofs.theory.Frequent.{lists_frequent}
+use Rattle.basket_sets.proofs.theory.Items.{filter_all, filter_none}
 use Rattle.basket_sets.proofs.theory.Members.{Member, Member-append, Member-map, Member-from_map, Member-from_Contains, Contains-from_Member}
 use Rattle.basket_sets.proofs.theory.Rising.{contains-refl, contains_each, Member-rising}
 use Rattle.basket_sets.proofs.theory.Subsets.{IsSubset-from_Member, size_of_Member}
@@ -44,14 +45,6 @@ joined made p union (suc k) some =
     ∙ ap (map made) (sym (filter-append p (subsets_up_to k union) (subsets_of_size (suc k) union)))
 
 -- ---- consequents
-
-filter_all : (p : List ℕ → Bool) (xs : List (List ℕ)) → ((x : List ℕ) → Member x xs → p x ≡ true) → filter p xs ≡ xs
-filter_all p [] h = refl
-filter_all p (x ∷ xs) h = ap (λ b. cond b (x ∷ filter p xs) (filter p xs)) (h x (inl refl)) ∙ ap (λ l. x ∷ l) (filter_all p xs (λ y m. h y (inr m)))
-
-filter_none : (p : List ℕ → Bool) (xs : List (List ℕ)) → ((x : List ℕ) → Member x xs → p x ≡ false) → filter p xs ≡ []
-filter_none p [] h = refl
-filter_none p (x ∷ xs) h = ap (λ b. cond b (x ∷ filter p xs) (filter p xs)) (h x (inl refl)) ∙ filter_none p xs (λ y m. h y (inr m))
 
 pub consequents_are : (union : List ℕ) → IsRising union → consequents_of union ≡ subsets_up_to (length union - 1) union
 consequents_are [] up = refl

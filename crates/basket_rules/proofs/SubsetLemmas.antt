@@ -1,10 +1,11 @@
 -- A set without one of its items, and a set with an item more.
-use Rattle.std.proofs.Common.{◌≡◌, ℕ, ◌+◌, ◌<◌, Bool, true, false, not, cond, eqb, ltb, List, [], ◌∷◌, ◌++◌, length, get_or, map, filter, refl, sym, ap, ◌∙◌, subst, inl, inr, arith, zero, suc}
-use Rattle.std.specs.List.{flat_map}
-use Rattle.std.proofs.lemmas.Bool.{cases_Bool, and_from, eqb-true, true≢false, false_from_ne_true}
+use Rattle.std.proofs.Common.{◌≡◌, ℕ, ◌+◌, ◌<◌, Bool, true, false, not, List, [], ◌∷◌, ◌++◌, length, get_or, refl, sym, ap, ◌∙◌, subst, inl, inr, arith, zero, suc}
+use Rattle.std.specs.List.{flat_map, list_all}
+use Rattle.std.proofs.lemmas.Bool.{cases_Bool, and_from, true≢false, false_from_ne_true}
 use Rattle.basket_sets.specs.Itemset.{IsRising, has, contains, with_item, without}
 use Rattle.basket_sets.proofs.theory.Members.{Member}
-use Rattle.basket_sets.proofs.theory.Rising.{Member-from_has, has-from_Member, has_each, contains_each, cons_rises, first_below, rest_rises, Member-with_item, Member-into_with_item}
+use Rattle.basket_sets.proofs.theory.Rising.{Member-from_has, has-from_Member, has_each, contains_each, cons_rises, first_below, rest_rises, same_test, with_item_by, Member-with_item, Member-into_with_item}
+use Rattle.basket_sets.proofs.theory.Tests.{all_of, each_of}
 
 -- ---- tests
 
@@ -16,14 +17,15 @@ pub true_not : (b : Bool) → not b ≡ true → b ≡ false
 true_not true e = absurd (true≢false (sym e))
 true_not false e = refl
 
-pub filter_same : {X : Type 0} (p q : X → Bool) (xs : List X) → ((x : X) → Member x xs → p x ≡ q x) → filter p xs ≡ filter q xs
-filter_same p q [] same = refl
-filter_same p q (x ∷ xs) same =
-    ap (λ b. cond b (x ∷ filter p xs) (filter p xs)) (same x (inl refl)) ∙ ap (λ l. cond (q x) (x ∷ l) l) (filter_same p q xs (λ y m. same y (inr m)))
+none_there : {X Y : Type 0} (p : X → Bool) (q : Y → Bool) (xs : List X) (ys : List Y) → ((y : Y) → Member y ys → q y ≡ true → (x : X) × Member x xs × (p x ≡ true))
+    → list_all (λ x. not (p x)) xs ≡ true → list_all (λ y. not (q y)) ys ≡ true
+none_there p q xs ys back h = all_of (λ y. not (q y)) ys (λ y m. not_true (q y) (false_from_ne_true (q y) (λ e.
+    let from = back y m e in true≢false (sym from.2 ∙ true_not (p from.0) (each_of (λ x. not (p x)) xs h from.0 from.1)))))
 
-pub map_same : {X Y : Type 0} (f g : X → Y) (xs : List X) → ((x : X) → Member x xs → f x ≡ g x) → map f xs ≡ map g xs
-map_same f g [] same = refl
-map_same f g (x ∷ xs) same = λ i. same x (inl refl) i ∷ map_same f g xs (λ y m. same y (inr m)) i
+-- none of one list passes exactly where none of another does
+pub none_alike : {X Y : Type 0} (p : X → Bool) (q : Y → Bool) (xs : List X) (ys : List Y) → ((x : X) → Member x xs → p x ≡ true → (y : Y) × Member y ys × (q y ≡ true))
+    → ((y : Y) → Member y ys → q y ≡ true → (x : X) × Member x xs × (p x ≡ true)) → list_all (λ x. not (p x)) xs ≡ list_all (λ y. not (q y)) ys
+none_alike p q xs ys into back = same_test _ _ (none_there p q xs ys back) (none_there q p ys xs into)
 
 pub flat_map_same : {X Y : Type 0} (f g : X → List Y) (xs : List X) → ((x : X) → Member x xs → f x ≡ g x) → flat_map f xs ≡ flat_map g xs
 flat_map_same f g [] same = refl
@@ -78,18 +80,12 @@ without_lacks index items up below = false_from_ne_true _ (λ h. let r = lacks i
 
 -- ---- an item more
 
-placed_at : (item x : ℕ) (items rest : List ℕ) (p q : Bool) → eqb item x ≡ q → has (x ∷ items) item ≡ false
-    → ((index : ℕ) × (index < length rest) × (without index rest ≡ items))
-    → (index : ℕ) × (index < length (cond p (item ∷ x ∷ items) (cond q (x ∷ items) (x ∷ rest)))) × (without index (cond p (item ∷ x ∷ items) (cond q (x ∷ items) (x ∷ rest))) ≡ x ∷ items)
-placed_at item x items rest true q e lack r = (0, omega arith, refl)
-placed_at item x items rest false true e lack r =
-    absurd (true≢false (sym (has-from_Member (x ∷ items) item (inl (sym (eqb-true item x e)))) ∙ lack))
-placed_at item x items rest false false e lack r = (suc r.0, omega (arith, r.1), ap (λ l. x ∷ l) r.2)
-
 -- a set with an item more is that set without the item's index
 pub placed : (item : ℕ) (items : List ℕ) → has items item ≡ false → (index : ℕ) × (index < length (with_item item items)) × (without index (with_item item items) ≡ items)
 placed item [] lack = (0, omega arith, refl)
-placed item (x ∷ items) lack = placed_at item x items (with_item item items) (ltb item x) (eqb item x) refl lack (placed item items (rest_lacks lack))
+placed item (x ∷ items) lack = with_item_by (λ l. (index : ℕ) × (index < length l) × (without index l ≡ x ∷ items)) item x items (λ less. (0, omega arith, refl))
+    (λ same. absurd (true≢false (sym (has-from_Member (x ∷ items) item (inl (sym same))) ∙ lack)))
+    (λ more. let r = placed item items (rest_lacks lack) in (suc r.0, omega (arith, r.1), ap (λ l. x ∷ l) r.2))
   where
     rest_lacks : has (x ∷ items) item ≡ false → has items item ≡ false
     rest_lacks h = false_from_ne_true _ (λ e. true≢false (sym (has-from_Member (x ∷ items) item (inr (Member-from_has items item e))) ∙ h))

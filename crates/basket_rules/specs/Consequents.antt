@@ -29,7 +29,7 @@ no_bits = record { bits = 0; first = MOST_BITS }
 abbrev pub with_bit : ℕ → Consequent → Consequent
 with_bit index consequent = record { bits = bit_or consequent.bits (2 ^ index); first = index }
 
--- the sets with an index more before their first: with this index, and with any below a number
+-- the sets that get one more index, before their first: this index, and each below a number
 abbrev pub longer_by : List Consequent → ℕ → List Consequent
 longer_by met index = map (with_bit index) (filter (λ consequent. nat_lt index consequent.first) met)
 

@@ -1,4 +1,4 @@
--- The list of the frequent sets of a database, index by index.
+-- The list of the frequent sets of a database, and what stands at an index of it.
 use Rattle.std.specs.Prelude.{◌≡◌, ℕ, List, [], map, slice_index_or}
 use Rattle.basket_core.specs.Listing.{Listing}
 use Rattle.basket_sets.specs.declared.weighted.Weighted.{Weighted}

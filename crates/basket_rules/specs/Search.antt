@@ -11,6 +11,6 @@ pub record IsBetween (start end : ℕ) (list : List Counted) (set : List ℕ) : 
   pub smaller : AllWithin (λ c. report_order c.set set ≡ Less) list 0 start
   pub greater : AllWithin (λ c. report_order c.set set ≡ Greater) list end (length list)
 
--- if the list is sorted, the set is at no index of it
+-- a sorted list has the set nowhere
 abbrev pub IsMissing : List Counted → List ℕ → Type 0
 IsMissing list set = IsSorted list → (index : ℕ) → index < length list → set_at list index ≢ set

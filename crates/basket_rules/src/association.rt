@@ -12,9 +12,9 @@ use crate::consequents::{Consequent, MOST_BITS, Sides, longer_consequents};
 use crate::listed::items_at;
 use crate::query::RuleQuery;
 use crate::rule_counts::RuleCounts;
-use crate::set_index::{SetIndex, places_of};
+use crate::set_index::{SetIndex, index_table_of};
 use basket_core::{Fraction, Frequent, Itemset, MOST_ITEMS, Share};
-use basket_order::PlaceTable;
+use basket_order::IndexTable;
 use std::alloc::{AllocError, Global};
 
 /// The rules of a union of up to this many items have room before they are made.
@@ -41,8 +41,8 @@ pub fn rules(alloc: Global, frequent: &Frequent, confidence: Share) -> Result<Ve
     ensures lists { IfOk result (λ rules. IsConsistent frequent.now.sets → rules.items ≡ rules_among frequent.now confidence) }
 {
     let sets = frequent.sets();
-    let places = places_of(alloc, sets)?;
-    let mut set_index = SetIndex::new(alloc, &places);
+    let table = index_table_of(alloc, sets)?;
+    let mut set_index = SetIndex::new(alloc, &table);
     let mut rules = Vec::new(alloc);
     for number in 0..sets.len() {
         let met = met_rules(alloc, frequent, number, confidence, &mut set_index)?;
@@ -62,8 +62,8 @@ pub fn rules_with(
     ensures baskets { IfOk result (λ rules. AreRulesWith frequent.now confidence number rules.items) }
     ensures lists { IfOk result (λ rules. IsConsistent frequent.now.sets → rules.items ≡ rules_among_with frequent.now confidence (set_at frequent.now.sets number)) }
 {
-    let places = PlaceTable::none(alloc);
-    let mut set_index = SetIndex::new(alloc, &places);
+    let table = IndexTable::none(alloc);
+    let mut set_index = SetIndex::new(alloc, &table);
     let met = met_rules(alloc, frequent, number, confidence, &mut set_index)?;
     let mut rules = Vec::with_capacity(alloc, met.len())?;
     add_rules(alloc, frequent, number, &met, &mut set_index, &mut rules)?;

@@ -1,6 +1,6 @@
 //! Which sets of a list have a superset in it with one item more.
 ghost use Rattle.std.specs.Prelude.{◌≡◌, ◌≤◌, ◌<◌, ◌+◌, IfOk, IfSome, IfNone, IsTrue, ◌↔◌, ◌⊎◌, ℕ, length};
-ghost use Rattle.basket_lists.specs.Without.{ArePlacesWithout};
+ghost use Rattle.basket_lists.specs.Without.{AreIndexesWithout};
 ghost use Rattle.basket_lists.specs.declared.known.TheConstants.{MOST_ITEMS};
 ghost use Rattle.basket_rules.specs.Covered.{AreMarks, IsBetween, Matters};
 ghost use Rattle.basket_rules.specs.Listed.{set_at};
@@ -11,7 +11,7 @@ use crate::listed::items_at;
 use crate::search::find_near;
 use basket_core::CountedSets;
 use basket_lists::MOST_ITEMS;
-use basket_order::{NOWHERE, PlaceTable};
+use basket_order::{IndexTable, NOWHERE};
 use std::alloc::{AllocError, Global};
 
 /// Which supersets matter.
@@ -83,7 +83,7 @@ pub fn covered_between(
         let size = sets.size(start);
         let first = start_of_size(sets, size.saturating_sub(1));
         let last = start_of_size(sets, size);
-        let below = sets.places(covering.alloc, first, last)?;
+        let below = sets.index_table(covering.alloc, first, last)?;
         let next = start_of_size(sets, size.saturating_add(1)).clamp(start + 1, end);
         mark_below(covering, &below, start, next, &mut marks);
         start = next;
@@ -111,7 +111,7 @@ fn start_of_size(sets: &CountedSets, size: usize) -> usize
 /// Marks the sets that are those from `start` up to `end` without one of their items.
 fn mark_below(
     covering: Covering<'_>,
-    below: &PlaceTable,
+    below: &IndexTable,
     start: usize,
     end: usize,
     marks: &mut [bool],
@@ -125,7 +125,7 @@ fn mark_below(
     let mut found = [NOWHERE; MOST_ITEMS];
     let mut hint = 0;
     for number in start..end {
-        covering.sets.places_without(below, number, &mut found);
+        covering.sets.indexes_without(below, number, &mut found);
         mark_subsets(covering, &found, number, &mut hint, marks);
     }
 }
@@ -139,7 +139,7 @@ fn mark_subsets(
     marks: &mut [bool],
 )
     requires listed { number < length covering.sets.now }
-    requires found { ArePlacesWithout covering.sets.now (set_at covering.sets.now number) MOST_ITEMS found.now }
+    requires found { AreIndexesWithout covering.sets.now (set_at covering.sets.now number) MOST_ITEMS found.now }
     requires long { length marks.old ≡ length covering.sets.now }
     ensures long { length marks.new ≡ length marks.old }
     ensures marked { (from : ℕ) → AreMarks covering.entry.sets.now covering.entry.supersets (IsBetween from number) marks.old
@@ -168,7 +168,7 @@ fn find_below(
 ) -> Option<usize>
     requires listed { number < length sets.now }
     requires index { index < length (set_at sets.now number) }
-    requires found { ArePlacesWithout sets.now (set_at sets.now number) MOST_ITEMS found.now }
+    requires found { AreIndexesWithout sets.now (set_at sets.now number) MOST_ITEMS found.now }
     ensures bound { IfSome result (λ at. at < length sets.now) }
     ensures found { IfSome result (λ at. set_at sets.now at ≡ without index (set_at sets.now number)) }
     ensures missing { IfNone result (IsMissing sets.now (without index (set_at sets.now number))) }

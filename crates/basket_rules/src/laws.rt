@@ -15,22 +15,26 @@ pub fn frequent_is_consistent()
 {}
 
 /// The list of the frequent sets decides which of them are closed, without the baskets.
+#[tactic(auto, using(crate::proofs::theory::Condensed::list_decides_closed))]
 pub fn list_decides_closed()
     ensures { ListDecidesClosed }
 {}
 
 /// The list of the frequent sets decides which of them are maximal, without the baskets.
+#[tactic(auto, using(crate::proofs::theory::Condensed::list_decides_maximal))]
 pub fn list_decides_maximal()
     ensures { ListDecidesMaximal }
 {}
 
 /// The list of the frequent sets, with the weight of all baskets, decides their rules.
+#[tactic(auto, using(crate::proofs::theory::Rules::list_decides_rules))]
 pub fn list_decides_rules()
     ensures { ListDecidesRules }
 {}
 
 /// The confidence of the rules of one union falls as the consequent grows (Agrawal and Srikant
 /// 1994).
+#[tactic(auto, using(crate::proofs::theory::Rules::confidence_falls))]
 pub fn confidence_falls()
     ensures { ConfidenceFalls }
 {}

@@ -38,7 +38,7 @@ impl RuleQuery<'_> {
     {
         let sets = self.frequent.sets();
         let room = &mut set_index.room;
-        if let Some(index) = index_of(sets, self.items, bits, hash, set_index.places, room) {
+        if let Some(index) = index_of(sets, self.items, bits, hash, set_index.table, room) {
             return Ok(sets.count(index));
         }
         set_index.sides.fill(self.items, bits)?;

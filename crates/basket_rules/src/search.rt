@@ -2,7 +2,7 @@
 //!
 //! The set comes in two parts, the items of `front` and then those of `rest`, so that a set without
 //! one of its items need not be copied.
-ghost use Rattle.std.specs.Prelude.{◌≡◌, ◌≤◌, ◌<◌, ◌++◌, IfSome, IfNone, length};
+ghost use Rattle.std.specs.Prelude.{◌≡◌, ◌<◌, ◌++◌, IfSome, IfNone, length};
 ghost use Rattle.basket_sets.specs.Order.{report_order};
 ghost use Rattle.basket_rules.specs.Listed.{set_at};
 ghost use Rattle.basket_rules.specs.Search.{IsMissing};

@@ -9,14 +9,14 @@ use crate::hashes::ItemHashes;
 use crate::listed::items_at;
 use crate::rule_counts::RuleCounts;
 use basket_core::{CountedSets, Frequent, MOST_ITEMS};
-use basket_order::{PlaceTable, items_hash};
+use basket_order::{IndexTable, items_hash};
 use std::alloc::{AllocError, Global};
 
-/// What a thread keeps from union to union while it makes the rules of a list: places of its sets by
-/// hashes, which threads share, and room that is used again. No rule depends on it.
+/// What a thread keeps from union to union while it makes the rules of a list: a table of the indexes of
+/// its sets, which threads share, and room that is used again. No rule depends on it.
 #[derive(Debug, Drop)]
 pub struct SetIndex<'a> {
-    pub(crate) places: &'a PlaceTable,
+    pub(crate) table: &'a IndexTable,
     /// The items of the set that was looked at last, if it is kept as a word.
     pub(crate) room: [u32; MOST_ITEMS],
     /// The hashes of the items of the last union.
@@ -25,21 +25,21 @@ pub struct SetIndex<'a> {
     pub sides: Sides,
 }
 
-/// The places of the sets of a list by their hashes.
-pub fn places_of(alloc: Global, sets: &CountedSets) -> Result<PlaceTable, AllocError> {
-    let mut places = PlaceTable::with_room(alloc, sets.len())?;
+/// The indexes of the sets of a list by their hashes.
+pub fn index_table_of(alloc: Global, sets: &CountedSets) -> Result<IndexTable, AllocError> {
+    let mut table = IndexTable::with_room(alloc, sets.len())?;
     let mut room = [0; MOST_ITEMS];
     for index in 0..sets.len() {
-        places.keep(items_hash(items_at(sets, index, &mut room)), index);
+        table.keep(items_hash(items_at(sets, index, &mut room)), index);
     }
-    Ok(places)
+    Ok(table)
 }
 
 impl<'a> SetIndex<'a> {
     /// Nothing is allocated.
-    pub fn new(alloc: Global, places: &'a PlaceTable) -> Self {
+    pub fn new(alloc: Global, table: &'a IndexTable) -> Self {
         SetIndex {
-            places,
+            table,
             room: [0; MOST_ITEMS],
             hashes: ItemHashes::none(alloc),
             sides: Sides::new(alloc),

@@ -8,7 +8,7 @@ use crate::consequents::MOST_BITS;
 use crate::listed::items_at;
 use crate::search::find_near;
 use basket_core::{CountedSets, MOST_ITEMS};
-use basket_order::{MOST_STEPS, PlaceTable};
+use basket_order::{IndexTable, MOST_STEPS};
 
 /// The index of the set with the items of a union at the bits of a word, if it is found by its
 /// hash.
@@ -17,7 +17,7 @@ pub fn index_of(
     union: &[u32],
     bits: u64,
     hash: u64,
-    kept: &PlaceTable,
+    kept: &IndexTable,
     room: &mut [u32; MOST_ITEMS],
 ) -> Option<usize>
     requires { length union.now ≤ MOST_BITS }

@@ -1,21 +1,21 @@
 -- Counting items in a table: its slots while the places are added, and the entries that it gives in the end.
-use Rattle.std.proofs.Common.{◌≡◌, ℕ, ◌+◌, ◌<◌, ◌≤◌, Bool, true, false, ◌&&◌, ◌||◌, List, [], ◌∷◌, ◌++◌, length, take, get_or, map, cond, Option, Some, None, unwrap_or, refl, sym, ap, ◌∙◌, subst, inl, inr, arith, add-zero, zero-add, ◌-◌, zero, suc}
+use Rattle.std.proofs.Common.{◌≡◌, ℕ, ◌+◌, ◌<◌, ◌≤◌, Bool, true, ◌||◌, List, [], ◌∷◌, ◌++◌, length, take, get_or, map, cond, Option, Some, None, unwrap_or, refl, sym, ap, ◌∙◌, subst, inl, inr, arith, add-zero, zero-add, ◌-◌, zero, suc}
 use Rattle.std.specs.List.{IsDistinct}
 use Rattle.std.specs.Prelude.{nat_eq}
 use Rattle.std.proofs.lemmas.List.{append-nil, length-take, take_more, get_or_default, get_or_past}
 use Rattle.std.proofs.lemmas.List.Concat.{flat_map-append}
-use Rattle.std.proofs.Math.Bool.{or-true}
-use Rattle.std.proofs.lemmas.Bool.{cases_lt, or_cases, cond-false, eq-eqb, ne_eqb}
+use Rattle.std.proofs.lemmas.Bool.{cases_lt, or_cases, cond-false, cond_both, eq-eqb, ne_eqb}
 use Rattle.std.proofs.lemmas.Map.Keys.{below_from_sorted}
 use Rattle.basket_sets.specs.declared.weighted.Weighted.{Weighted}
 use Rattle.basket_sets.specs.Itemset.{IsRising, has}
 use Rattle.basket_sets.specs.Counts.{item_supports, tally, IsTable, AllBelow, entries_from, entries_of}
 use Rattle.basket_sets.specs.ItemTable.{Tabled, HasCounted}
 use Rattle.basket_sets.specs.Slot.{slot_with, slots_joined}
-use Rattle.basket_sets.specs.Support.{weight_at, support_of, all_items}
+use Rattle.basket_sets.specs.Support.{weight_at, all_items}
 use Rattle.basket_sets.proofs.theory.Counts.{found, is_at_eqb, items-append, supports_are, tally-append}
-use Rattle.basket_sets.proofs.theory.Members.{Member, Contains-from_Member}
-use Rattle.basket_sets.proofs.theory.Rising.{has-append, not_before, Member-from_has, nil_rises, cons_rises}
+use Rattle.basket_sets.proofs.theory.Members.{Member, Contains-from_Member, Member-from_Contains, Member-into_flat_map}
+use Rattle.basket_sets.proofs.theory.Numerals.{and_true}
+use Rattle.basket_sets.proofs.theory.Rising.{has-append, has-from_Member, not_before, Member-from_has, nil_rises, cons_rises}
 use Rattle.basket_sets.proofs.theory.Support.{support-append}
 
 -- ---- the items of the baskets so far
@@ -56,11 +56,7 @@ slot_before items old table i weight distinct below added = added (get_or items 
 -- ---- the table after so many places
 
 weight_of_item : (place : Weighted) (item : ℕ) → weight_at (item ∷ []) place ≡ cond (has place.basket item) place.weight 0
-weight_of_item place item = at (has place.basket item)
-  where
-    at : (b : Bool) → cond (b && true) place.weight 0 ≡ cond b place.weight 0
-    at true = refl
-    at false = refl
+weight_of_item place item = ap (λ b. cond b place.weight 0) (and_true (has place.basket item))
 
 -- what is known of an item after one more place
 pub tally_push : (before : List Weighted) (place : Weighted) (item : ℕ)
@@ -71,8 +67,7 @@ tally_push before place item = at (has place.basket item) (tally before item) �
     one = λ i. cond (has (append-nil place.basket i) item) (Some ((zero-add (weight_at (item ∷ []) place) ∙ weight_of_item place item) i)) None
 
     at : (h : Bool) (slot : Option ℕ) → cond h (slot_with place.weight slot) slot ≡ slots_joined slot (cond h (Some (cond h place.weight 0)) None)
-    at true slot = refl
-    at false slot = refl
+    at h slot = grind arith
 
 -- the table after one more place
 pub table_push : (before : List Weighted) (place : Weighted) (old table : List (Option ℕ)) → length table ≡ length old
@@ -84,12 +79,8 @@ table_push before place old table long added so_far item within =
 table_knows : (baskets : List Weighted) (table : List (Option ℕ)) → IsTable baskets table → AllBelow (length table) (all_items baskets) → (item : ℕ) → get_or table item None ≡ tally baskets item
 table_knows baskets table is within item = elim (cases_lt item (length table)) [
   | inl below ↦ is item below
-  | inr past ↦ get_or_past table item None past ∙ at (has (all_items baskets) item) (λ h. omega (arith, within item h))
+  | inr past ↦ get_or_past table item None past ∙ cond_both (has (all_items baskets) item) _ _ (λ slot. None ≡ slot) (λ h. absurd (omega (arith, within item h))) (λ h. refl)
 ]
-  where
-    at : (h : Bool) → (h ≡ true → ⊥) → None ≡ cond h (Some (support_of baskets (item ∷ []))) None
-    at true apart = absurd (apart refl)
-    at false apart = refl
 
 -- the table after one more basket
 pub counted_push : (before : List Weighted) (place : Weighted) (old : Tabled) (slots : List (Option ℕ)) (total : ℕ) → HasCounted old before → AllBelow (length old.slots) place.basket
@@ -125,11 +116,8 @@ counted_both before more a b slots total counted also shorter long sum joined = 
 pub bounded_push : (place : Weighted) (old table : List (Option ℕ)) (item : ℕ) → HasAdded old place.weight place.basket table
     → unwrap_or (get_or table item None) 0 ≤ unwrap_or (get_or old item None) 0 + place.weight
 bounded_push place old table item added =
-    subst (λ s. unwrap_or s 0 ≤ unwrap_or (get_or old item None) 0 + place.weight) (sym (added item)) (at (has place.basket item))
-  where
-    at : (h : Bool) → unwrap_or (cond h (slot_with place.weight (get_or old item None)) (get_or old item None)) 0 ≤ unwrap_or (get_or old item None) 0 + place.weight
-    at true = omega arith
-    at false = omega arith
+    subst (λ s. unwrap_or s 0 ≤ unwrap_or (get_or old item None) 0 + place.weight) (sym (added item))
+    (cond_both (has place.basket item) _ _ (λ slot. unwrap_or slot 0 ≤ unwrap_or (get_or old item None) 0 + place.weight) (λ h. omega arith) (λ h. omega arith))
 
 -- ---- the entries of a table
 
@@ -188,8 +176,5 @@ table_entries baskets table is within = supports_are baskets (entries_of table) 
 
 -- an item of a basket is among all items
 pub item_of_place : (baskets : List Weighted) (i : ℕ) (place : Weighted) → i < length baskets → place ≡ get_or baskets i place → (x : ℕ) → has place.basket x ≡ true → has (all_items baskets) x ≡ true
-item_of_place [] i place below is x h = absurd (omega arith)
-item_of_place (first ∷ baskets) zero place below is x h =
-    has-append first.basket (all_items baskets) x ∙ ap (λ t. t || has (all_items baskets) x) (ap (λ (p : Weighted). has p.basket x) (sym is) ∙ h)
-item_of_place (first ∷ baskets) (suc i) place below is x h =
-    has-append first.basket (all_items baskets) x ∙ ap (λ t. has first.basket x || t) (item_of_place baskets i place (omega arith) is x h) ∙ or-true (has first.basket x)
+item_of_place baskets i place below is x h =
+    has-from_Member (all_items baskets) x (Member-into_flat_map (λ (p : Weighted). p.basket) x place baskets (Member-from_Contains place baskets (i, below, sym is)) (Member-from_has place.basket x h))

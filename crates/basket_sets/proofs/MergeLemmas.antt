@@ -1,7 +1,8 @@
 -- A merged database is a database, and what the map of weights does with one more basket.
-use Rattle.std.proofs.Common.{◌≡◌, ℕ, ◌+◌, ◌≤◌, Bool, true, false, List, [], ◌∷◌, Some, cond, nat_eq, map, unwrap_or, refl, sym, ap, subst, zero-add, arith}
+use Rattle.std.proofs.Common.{◌≡◌, ℕ, ◌+◌, ◌≤◌, Bool, List, [], ◌∷◌, Some, cond, nat_eq, map, unwrap_or, sym, ap, subst, zero-add, arith}
 use Rattle.std.specs.Cmp.Lexicographic.{pointwise}
 use Rattle.std.specs.Map.{lookup}
+use Rattle.std.proofs.lemmas.Bool.{cond_both}
 use Rattle.std.proofs.lemmas.List.Elements.{All-from_recursion, recursion_from_All}
 use Rattle.std.proofs.lemmas.List.Sums.{sum_by-cons}
 use Rattle.indexmap.specs.IndexMap.{insert_entry}
@@ -34,13 +35,10 @@ module _ (basket : List ℕ) where
           → map as_weighted (cond b ((entry.0, unwrap_or (cond b (Some entry.1) (lookup (pointwise nat_eq basket) entries)) 0 + weight) ∷ entries)
           (entry ∷ insert_entry (pointwise nat_eq) entries basket (unwrap_or (cond b (Some entry.1) (lookup (pointwise nat_eq basket) entries)) 0 + weight)))
           ≡ cond b (weighted entry.0 (entry.1 + weight) ∷ map as_weighted entries) (as_weighted entry ∷ with_basket (map as_weighted entries) (weighted basket weight))
-      at true later = refl
-      at false later = ap (λ l. as_weighted entry ∷ l) later
+      at b later = grind arith
 
   pub light_before : (entries : List (List ℕ × ℕ)) → weight_before entries ≤ total_of (map as_weighted entries)
   light_before [] = omega arith
-  light_before (entry ∷ entries) = at (pointwise nat_eq basket entry.0) (light_before entries)
-    where
-      at : (b : Bool) → weight_before entries ≤ total_of (map as_weighted entries) → unwrap_or (cond b (Some entry.1) (lookup (pointwise nat_eq basket) entries)) 0 ≤ total_of (map as_weighted (entry ∷ entries))
-      at true less = omega (arith, sum_by-cons (weight_at []) (as_weighted entry) (map as_weighted entries))
-      at false less = omega (arith, sum_by-cons (weight_at []) (as_weighted entry) (map as_weighted entries), less)
+  light_before (entry ∷ entries) =
+      let whole = sum_by-cons (weight_at []) (as_weighted entry) (map as_weighted entries) in
+      cond_both (pointwise nat_eq basket entry.0) _ _ (λ found. unwrap_or found 0 ≤ total_of (map as_weighted (entry ∷ entries))) (λ same. omega arith) (λ differ. omega (arith, light_before entries))

@@ -8,11 +8,11 @@ use Rattle.basket_sets.specs.Support.{support_of, total_of}
 abbrev pub weighted : List ℕ → ℕ → Weighted
 weighted basket weight = record { basket = basket; weight = weight }
 
--- a place whose weight is at least 1
+-- a basket whose weight is at least 1
 abbrev pub HasWeight : Weighted → Type 0
 HasWeight place = 1 ≤ place.weight
 
--- a place of a database: its basket is a nonempty set, and its weight is at least 1
+-- a basket of a database: it is a nonempty set, and its weight is at least 1
 abbrev pub IsPlace : Weighted → Type 0
 IsPlace place = IsRising place.basket × (place.basket ≢ []) × (1 ≤ place.weight)
 
@@ -36,7 +36,7 @@ with_basket (other ∷ others) place =
     if pointwise nat_eq place.basket other.basket then weighted other.basket (other.weight + place.weight) ∷ others
     else other ∷ with_basket others place
 
--- each distinct basket once, at its first place, with the sum of its weights
+-- each distinct basket once, where it first comes, with the sum of its weights
 abbrev pub merged_of : List Weighted → List Weighted
 merged_of baskets = fold with_basket [] baskets
 

@@ -15,7 +15,7 @@ has items item = list_any (λ other. other == item) items
 abbrev pub contains : List ℕ → List ℕ → Bool
 contains basket set = list_all (has basket) set
 
--- a rising list with the item at its place, once
+-- a rising list with the item where it belongs, once
 abbrev pub with_item : ℕ → List ℕ → List ℕ
 with_item item [] = item ∷ []
 with_item item (first ∷ others) = if nat_lt item first then item ∷ first ∷ others else (if item == first then first ∷ others else first ∷ with_item item others)
@@ -29,11 +29,11 @@ rising (number ∷ numbers) = with_item number (rising numbers)
 abbrev pub AllBelow : ℕ → List ℕ → Type 0
 AllBelow bound items = (item : ℕ) → IsTrue (has items item) → item < bound
 
--- the items without the one at a place
+-- the items without the one at an index
 abbrev pub without : ℕ → List ℕ → List ℕ
-without place [] = []
+without index [] = []
 without zero (item ∷ items) = items
-without (suc place) (item ∷ items) = item ∷ without place items
+without (suc index) (item ∷ items) = item ∷ without index items
 
 -- the items with one space between
 abbrev pub spaced : List ℕ → List ℕ

@@ -28,7 +28,7 @@ ratio_of None denominator = None
 abbrev pub has_byte : ℕ → List ℕ → Bool
 has_byte byte text = nat_lt (position_or_len (λ other. other == byte) text) (length text)
 
--- the text before the byte's first place, and the text after it
+-- the text before the byte's first occurrence, and the text after it
 abbrev pub text_before : ℕ → List ℕ → List ℕ
 text_before byte text = before_first (λ other. other == byte) text
 

@@ -3,11 +3,11 @@ use Rattle.std.specs.List.{sum_by, flat_map}
 use Rattle.basket_sets.specs.declared.weighted.Weighted.{Weighted}
 use Rattle.basket_sets.specs.Itemset.{contains, rising}
 
--- what a place adds to the support of a set: its weight where its basket contains the set, else nothing
+-- what a weighted basket adds to the support of a set: its weight where it contains the set, else nothing
 abbrev pub weight_at : List ℕ → Weighted → ℕ
 weight_at set place = if contains place.basket set then place.weight else 0
 
--- the support of a set: the sum of the weights of the places whose basket contains it
+-- the support of a set: the sum of the weights of the baskets that contain it
 abbrev pub support_of : List Weighted → List ℕ → ℕ
 support_of baskets set = sum_by (weight_at set) baskets
 

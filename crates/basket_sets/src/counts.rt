@@ -3,7 +3,7 @@ ghost use Rattle.std.specs.BTreeMap.{get};
 ghost use Rattle.std.specs.Ordering.{nat_cmp};
 ghost use Rattle.std.specs.List.{IsDistinct};
 ghost use Rattle.basket_sets.specs.declared.weighted.Weighted.{Weighted as Basket};
-ghost use Rattle.basket_sets.specs.Counts.{item_supports, tally, IsTable, AllBelow, entries_of};
+ghost use Rattle.basket_sets.specs.Counts.{item_supports, IsTable, AllBelow, entries_of};
 ghost use Rattle.basket_sets.specs.Database.{MOST_WEIGHT};
 ghost use Rattle.basket_sets.specs.Itemset.{IsRising, has};
 ghost use Rattle.basket_sets.specs.Slot.{slot_with, slots_joined};
@@ -33,11 +33,9 @@ pub fn count_items(alloc: Global, baskets: &[Weighted]) -> Result<Vec<(u32, u64)
 
 /// How many items the baskets have together, or `usize::MAX` if they have more.
 pub fn occurrences(baskets: &[Weighted]) -> usize {
-    let mut occurrences = 0usize;
-    for place in baskets {
-        occurrences = occurrences.saturating_add(place.basket.len());
-    }
-    occurrences
+    baskets.iter().fold(0usize, |all, weighted| {
+        all.saturating_add(weighted.basket.len())
+    })
 }
 
 /// The greatest item of any basket, or 0.
@@ -45,8 +43,8 @@ pub fn greatest_item(baskets: &[Weighted]) -> u32
     ensures { AllBelow (result + 1) (all_items baskets.now) }
 {
     let mut greatest = 0u32;
-    for place in baskets {
-        if let Some(last) = place.basket.items().last() {
+    for weighted in baskets {
+        if let Some(last) = weighted.basket.items().last() {
             greatest = greatest.max(*last);
         }
     }
@@ -64,19 +62,19 @@ fn count_by_table(
     ensures { IfOk result (λ counts. counts.items ≡ item_supports baskets.now) }
 {
     let mut table = vec![in alloc; Slot::empty(); greatest as usize + 1]?;
-    add_places(&mut table, baskets);
+    add_baskets(&mut table, baskets);
     listed(alloc, &table)
 }
 
-/// Adds the weights of places at their items.
-pub fn add_places(table: &mut [Slot], baskets: &[Weighted])
+/// Adds the weight of each basket at its items.
+pub fn add_baskets(table: &mut [Slot], baskets: &[Weighted])
     requires within { AllBelow (length table.old) (all_items baskets.now) }
     requires fits { (item : ℕ) → unwrap_or (slice_index_or table.old item None) 0 + total_of baskets.now ≤ MOST_WEIGHT }
     ensures table { (before : List Basket) → IsTable before table.old → IsTable (before ++ baskets.now) table.new }
     ensures bounded { (item : ℕ) → unwrap_or (slice_index_or table.new item None) 0 ≤ unwrap_or (slice_index_or table.old item None) 0 + total_of baskets.now }
 {
-    for place in baskets {
-        add_to_table(table, place.basket.items(), place.weight);
+    for weighted in baskets {
+        add_to_table(table, weighted.basket.items(), weighted.weight);
     }
 }
 
@@ -109,21 +107,13 @@ pub fn add_slots(table: &mut [Slot], more: &[Slot])
     }
 }
 
-/// How many slots are not empty.
-fn seen(table: &[Slot]) -> usize {
-    let mut seen = 0usize;
-    for slot in table {
-        seen = seen.saturating_add(usize::from(slot.support().is_some()));
-    }
-    seen
-}
-
 /// The numbers of the slots that are not empty, each with its support.
 pub fn listed(alloc: Global, table: &[Slot]) -> Result<Vec<(u32, u64)>, AllocError>
     requires { length table.now ≤ 2 ^ 32 }
     ensures { IfOk result (λ entries. entries.items ≡ entries_of table.now) }
 {
-    let mut entries = Vec::with_capacity(alloc, seen(table))?;
+    let seen = table.iter().filter(|slot| slot.support().is_some()).count();
+    let mut entries = Vec::with_capacity(alloc, seen)?;
     for (item, slot) in table.iter().enumerate() {
         if let Some(support) = slot.support() {
             entries.push((item as u32, support))?;
@@ -138,8 +128,8 @@ fn count_by_map(alloc: Global, baskets: &[Weighted]) -> Result<Vec<(u32, u64)>, 
     ensures { IfOk result (λ counts. counts.items ≡ item_supports baskets.now) }
 {
     let mut supports = BTreeMap::new(alloc);
-    for place in baskets {
-        add_to_map(&mut supports, place.basket.items(), place.weight)?;
+    for weighted in baskets {
+        add_to_map(&mut supports, weighted.basket.items(), weighted.weight)?;
     }
     supports.into_iter().collect(alloc)
 }

@@ -8,7 +8,7 @@ use crate::weighted::Weighted;
 use std::alloc::{AllocError, AllocFailed, Global};
 use std::marker::Model;
 
-/// A list of nonempty baskets, each with its weight. Equal baskets may be at several places.
+/// A list of nonempty baskets, each with its weight. Equal baskets may stand there several times.
 #[derive(Debug, Drop)]
 pub struct Database {
     baskets: Vec<Weighted>,
@@ -128,7 +128,7 @@ impl Database {
         })
     }
 
-    /// Each distinct basket once, at its first place, with the sum of its weights.
+    /// Each distinct basket once, where it first comes, with the sum of its weights.
     pub fn merged(&self, alloc: Global) -> Result<Database, AllocError>
         ensures { IfOk result (λ merged. merged ≡ merged_of self.now) }
     {
@@ -151,8 +151,8 @@ fn copied(alloc: Global, baskets: &[Weighted]) -> Result<Vec<Weighted>, AllocErr
     ensures { IfOk result (λ copy. copy.items ≡ baskets.now) }
 {
     let mut copy = Vec::with_capacity(alloc, baskets.len())?;
-    for place in baskets {
-        copy.push(place.copied(alloc)?)?;
+    for weighted in baskets {
+        copy.push(weighted.copied(alloc)?)?;
     }
     Ok(copy)
 }
@@ -162,9 +162,9 @@ pub fn support(database: &Database, set: &Itemset) -> u64
     ensures { result ≡ support_of database.now set.now }
 {
     let mut support = 0;
-    for place in database.baskets() {
-        if place.basket.holds(set) {
-            support += place.weight;
+    for weighted in database.baskets() {
+        if weighted.basket.holds(set) {
+            support += weighted.weight;
         }
     }
     support
@@ -176,8 +176,8 @@ pub fn weight_of(baskets: &[Weighted]) -> u64
     ensures { result ≡ total_of baskets.now }
 {
     let mut weight = 0;
-    for place in baskets {
-        weight += place.weight;
+    for weighted in baskets {
+        weight += weighted.weight;
     }
     weight
 }

@@ -9,7 +9,7 @@ ghost use Rattle.basket_sets.specs.Itemset.{IsRising, rising};
 ghost use Rattle.basket_sets.specs.Support.{all_items, total_of};
 
 use crate::counts::{
-    SMALL_TABLE, add_places, add_slots, add_to_table, greatest_item, listed, occurrences,
+    SMALL_TABLE, add_baskets, add_slots, add_to_table, greatest_item, listed, occurrences,
 };
 use crate::database::weight_of;
 use crate::itemset::{are_distinct, is_rising};
@@ -138,7 +138,7 @@ impl ItemTable {
         requires light { self.old.total + total_of baskets.now ≤ MOST_WEIGHT }
         ensures { (before : List Basket) → HasCounted self.old before → HasCounted self.new (before ++ baskets.now) }
     {
-        add_places(&mut self.slots, baskets);
+        add_baskets(&mut self.slots, baskets);
         self.total += weight_of(baskets);
         self.occurrences = occurrences;
     }

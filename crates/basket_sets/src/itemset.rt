@@ -33,8 +33,8 @@ pub fn is_rising(numbers: &[u32]) -> bool
 pub fn are_distinct(numbers: &[u32]) -> bool
     ensures { IsTrue result → IsDistinct nat_eq numbers.now }
 {
-    for (place, number) in numbers.iter().enumerate() {
-        if numbers[..place].contains(number) {
+    for (index, number) in numbers.iter().enumerate() {
+        if numbers[..index].contains(number) {
             return false;
         }
     }
@@ -60,8 +60,8 @@ fn rename(numbers: &mut [u32], names: &[u32])
     requires { AllBelow (length names.now) numbers.old }
     ensures { numbers.new ≡ map (λ number. slice_index_or names.now number 0) numbers.old }
 {
-    for place in 0..numbers.len() {
-        numbers[place] = names[numbers[place] as usize];
+    for index in 0..numbers.len() {
+        numbers[index] = names[numbers[index] as usize];
     }
 }
 
@@ -102,7 +102,7 @@ impl Itemset {
         put_rising(&mut self.items);
     }
 
-    /// The set of the names of the items. The list has the name of an item at the place of that
+    /// The set of the names of the items. The list has the name of an item at the index of that
     /// item. It takes the room of the items.
     pub fn renamed(self, names: &[u32]) -> Self
         requires { AllBelow (length names.now) self }
@@ -120,8 +120,8 @@ impl Itemset {
         ensures short { length self.now < INLINE_ITEMS → IsOk result }
     {
         let mut items = SmallVec::from_slice(alloc, self.items.as_slice())?;
-        if let Err(place) = self.items().binary_search(&item) {
-            items.insert(place, item)?;
+        if let Err(index) = self.items().binary_search(&item) {
+            items.insert(index, item)?;
         }
         Ok(Itemset { items })
     }

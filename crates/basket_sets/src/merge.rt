@@ -39,7 +39,7 @@ impl BuildHasher for Seed {
     }
 }
 
-/// Each distinct basket once, at its first place, with the sum of its weights.
+/// Each distinct basket once, where it first comes, with the sum of its weights.
 pub fn merged(alloc: Global, baskets: Vec<Weighted>) -> Result<Vec<Weighted>, AllocError>
     requires light { total_of baskets.items ≤ MOST_WEIGHT }
     ensures { IfOk result (λ merged. merged.items ≡ merged_of baskets.items) }

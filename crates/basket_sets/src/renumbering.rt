@@ -18,8 +18,8 @@ pub fn renumber<N: Renumbering>(numbers: &mut [u32], names: &N) -> usize
     ensures few { result ≤ length numbers.old }
 {
     let mut len = 0;
-    for place in 0..numbers.len() {
-        let name = names.name(numbers[place]);
+    for index in 0..numbers.len() {
+        let name = names.name(numbers[index]);
         numbers[len] = name.unwrap_or(0);
         len += usize::from(name.is_some());
     }

@@ -1,21 +1,21 @@
 -- Extensions in order of their prefixes, and the look-up of a set among them.
-use Rattle.std.proofs.Common.{◌≡◌, ◌≢◌, ℕ, Bool, true, false, List, [], ◌∷◌, ◌++◌, length, drop, filter, get_or, cond, refl, sym, ap, ◌∙◌, subst, inl, inr, arith}
+use Rattle.std.proofs.Common.{◌≡◌, ◌≢◌, ℕ, Bool, true, false, List, [], ◌∷◌, ◌++◌, length, drop, filter, get_or, refl, sym, ap, ◌∙◌, subst, inl, inr, arith}
 use Rattle.std.specs.Cmp.Lexicographic.{slice_cmp, nat_list_cmp_total}
 use Rattle.std.specs.List.Sorted.{IsStrictlySortedBy}
 use Rattle.std.specs.Ordering.{nat_cmp}
 use Rattle.std.specs.declared.cmp.Ordering.TheVariants.{Less}
-use Rattle.std.proofs.lemmas.Bool.{cases_Bool, true≢false}
+use Rattle.std.proofs.lemmas.Bool.{cases_Bool, cond_both, true≢false}
 use Rattle.std.proofs.lemmas.List.{length-append}
 use Rattle.basket_sets.specs.Itemset.{IsRising, has}
 use Rattle.basket_sets.specs.Order.{report_order, IsInReportOrder}
-use Rattle.basket_sets.proofs.theory.Members.{Member, Member-append_left, Member-filter, Member-map, Member-from_map, All-from_Member, first_is_less, rest_is_sorted, not_both_less, sorted_append, sorted_map}
+use Rattle.basket_sets.proofs.theory.Members.{Member, Member-append_left, Member-filter, Member-flat_map, Member-into_flat_map, Member-map, Member-from_map, All-from_Member, first_is_less, rest_is_sorted, not_both_less, sorted_append, sorted_map}
 use Rattle.basket_sets.proofs.theory.Rising.{Member-from_has, cons_rises, has-from_Member, lt-from_Less, nil_rises, same_test}
 use Rattle.basket_sets.proofs.theory.Subsets.{same_length}
 use Rattle.mine_apriori.specs.Candidates.{is_one_of}
 use Rattle.mine_supports.specs.Extensions.{AreGrouped, Group, prefixes_of, extend, sets_of}
 use Rattle.mine_supports.proofs.theory.Grouped.{last_less, less_last, less_longer, of_each, size_at}
 use Rattle.mine_apriori.proofs.JoinLemmas.{length_after}
-use Rattle.mine_apriori.proofs.PruneLemmas.{Member-flat_map, Member-from_is_one_of, Member-into_flat_map, is_one_of-from_Member}
+use Rattle.mine_apriori.proofs.PruneLemmas.{Member-from_is_one_of, is_one_of-from_Member}
 
 -- ---- prefixes in order
 
@@ -24,18 +24,18 @@ filter_prefix p groups prefix m =
     let g = Member-from_map (λ (group : Group). group.prefix) prefix (filter p groups) m in
     subst (λ s. Member s (prefixes_of groups)) g.2 (Member-map (λ (group : Group). group.prefix) g.0 groups (Member-filter p g.0 groups g.1).0)
 
-sorted_step : (first : Group) (rest : List Group) (b : Bool) → ((prefix : List ℕ) → Member prefix (prefixes_of rest) → slice_cmp nat_cmp first.prefix prefix ≡ Less)
-    → IsStrictlySortedBy (slice_cmp nat_cmp) (prefixes_of rest) → IsStrictlySortedBy (slice_cmp nat_cmp) (prefixes_of (cond b (first ∷ rest) rest))
-unfolding IsStrictlySortedBy
-sorted_step first rest false less up = up
-sorted_step first rest true less up = (All-from_Member (λ z. slice_cmp nat_cmp first.prefix z ≡ Less) (prefixes_of rest) less, up)
-
 filter_sorted : (p : Group → Bool) (groups : List Group) → IsStrictlySortedBy (slice_cmp nat_cmp) (prefixes_of groups) → IsStrictlySortedBy (slice_cmp nat_cmp) (prefixes_of (filter p groups))
+unfolding IsStrictlySortedBy
 filter_sorted p [] up = up
 filter_sorted p (first ∷ groups) up =
-    sorted_step first (filter p groups) (p first)
-    (λ prefix m. first_is_less nat_list_cmp_total first.prefix prefix (prefixes_of groups) up (filter_prefix p groups prefix m))
-    (filter_sorted p groups (rest_is_sorted nat_list_cmp_total first.prefix (prefixes_of groups) up))
+    let rest = filter_sorted p groups (rest_is_sorted nat_list_cmp_total first.prefix (prefixes_of groups) up) in
+    cond_both (p first) (first ∷ filter p groups) (filter p groups) (λ l. IsStrictlySortedBy (slice_cmp nat_cmp) (prefixes_of l))
+    (λ passes. (
+      All-from_Member (λ z. slice_cmp nat_cmp first.prefix z ≡ Less) (prefixes_of (filter p groups))
+          (λ prefix m. first_is_less nat_list_cmp_total first.prefix prefix (prefixes_of groups) up (filter_prefix p groups prefix m)),
+      rest,
+    ))
+    (λ fails. rest)
 
 pub filter_grouped : (p : Group → Bool) (groups : List Group) → AreGrouped groups → AreGrouped (filter p groups)
 filter_grouped p groups grouped = record {

@@ -1,37 +1,26 @@
 -- The candidates of baskets of items are those of the baskets of ranks.
-use Rattle.std.proofs.Common.{◌≡◌, ℕ, ◌<◌, Bool, true, false, List, [], ◌∷◌, length, get_or, map, cond, eqb, ltb, refl, sym, ap, ◌∙◌, subst, inl, inr, arith, suc}
+use Rattle.std.proofs.Common.{◌≡◌, ℕ, ◌<◌, Bool, true, false, List, [], ◌∷◌, length, get_or, map, refl, sym, ap, ◌∙◌, subst, inl, inr, arith}
 use Rattle.std.specs.Cmp.{eq_by_cmp_equiv}
 use Rattle.std.specs.Cmp.Lexicographic.{bytes_decides}
 use Rattle.std.specs.List.{IsDistinct, list_any}
 use Rattle.std.specs.Ordering.{eq_by_cmp}
-use Rattle.std.proofs.lemmas.Bool.{cases_Bool, eqb-true, true≢false}
+use Rattle.std.proofs.lemmas.Bool.{cases_Bool, true≢false}
 use Rattle.std.proofs.lemmas.List.{get_or_default, length-map}
 use Rattle.std.proofs.lemmas.Map.Keys.{IsDistinct-from_sorted}
 use Rattle.std.proofs.lemmas.Map.Made.{length-from_same_keys}
 use Rattle.std.proofs.lemmas.Map.Views.{Contains-from_any, list_any-from_Contains}
 use Rattle.basket_ranks.specs.Codes.{Coding, IsCoding, baskets_of, coded, decoded}
 use Rattle.basket_ranks.proofs.theory.Coding.{from_decoded, from_ranks, into_decoded, ranks_rise}
-use Rattle.basket_ranks.proofs.theory.Decoding.{decoded_apart, items_ranked, rank_from_decoded, ranks_below, recoded, test_is}
+use Rattle.basket_ranks.proofs.theory.Decoding.{decoded_apart, items_ranked, length-decoded, rank_from_decoded, ranks_below, recoded, test_is}
 use Rattle.basket_sets.specs.Counts.{AllBelow}
 use Rattle.basket_sets.specs.Frequent.{is_frequent}
-use Rattle.basket_sets.specs.Itemset.{IsRising, with_item}
 use Rattle.basket_sets.specs.Order.{report_order, report_order_ties, report_order_total}
 use Rattle.basket_sets.proofs.theory.Members.{Member, All-from_Member, at_Member, Member-map, Member-from_map, Member-from_Contains, Contains-from_Member}
-use Rattle.basket_sets.proofs.theory.Rising.{first_below, has-from_Member, Member-from_has, rest_rises, rising-rises, same_test}
+use Rattle.basket_sets.proofs.theory.Rising.{has-from_Member, Member-from_has, rising-rises, same_test}
 use Rattle.mine_apriori.specs.Work.{all_candidates, candidate_count}
 use Rattle.mine_apriori.proofs.LawLemmas.{IsOne, candidates_sorted, from_all, in_frequent, into_all}
 
 -- ---- ranks and items
-
-length-with_item : (item : ℕ) (items : List ℕ) → (Member item items → ⊥) → length (with_item item items) ≡ suc (length items)
-length-with_item item [] new = refl
-length-with_item item (first ∷ others) new = at (ltb item first) (eqb item first) refl (λ n. length-with_item item others n)
-  where
-    at : (less same : Bool) → eqb item first ≡ same → ((Member item others → ⊥) → length (with_item item others) ≡ suc (length others))
-        → length (cond less (item ∷ first ∷ others) (cond same (first ∷ others) (first ∷ with_item item others))) ≡ suc (suc (length others))
-    at true same e later = refl
-    at false true e later = absurd (new (inl (sym (eqb-true item first e))))
-    at false false e later = ap suc (later (λ m. new (inr m)))
 
 itself : (set : List ℕ) → eq_by_cmp report_order set set ≡ true
 itself set = sym (report_order_ties set set) ∙ (bytes_decides set set).1 refl
@@ -42,18 +31,6 @@ same_sets a b e = (bytes_decides a b).0 (report_order_ties a b ∙ e)
 module _ (coding : Coding) (is : IsCoding coding) where
   abbrev items : List ℕ
   items = coding.items
-
-  -- as many items as ranks
-  length-decoded : (ranks : List ℕ) → IsRising ranks → AllBelow (length items) ranks → length (decoded items ranks) ≡ length ranks
-  length-decoded [] rises below = refl
-  length-decoded (rank ∷ ranks) rises below =
-      length-with_item (get_or items rank 0) (decoded items ranks) (λ m.
-      let n = rank_from_decoded items ranks rank is.distinct later (below rank (has-from_Member (rank ∷ ranks) rank (inl refl))) m in
-      let less = first_below rank ranks rises rank n in absurd (omega arith))
-      ∙ ap suc (length-decoded ranks (rest_rises rank ranks rises) later)
-    where
-      later : AllBelow (length items) ranks
-      later other h = below other (has-from_Member (rank ∷ ranks) other (inr (Member-from_has ranks other h)))
 
   coded_below : (set : List ℕ) → AllBelow (length items) (coded items set)
   coded_below set rank here = let r = from_ranks 0 items set rank (Member-from_has (coded items set) rank here) in omega (arith, r.1, r.2)
@@ -79,7 +56,7 @@ module _ (coding : Coding) (is : IsCoding coding) where
   decoded_one : (set : List ℕ) → by_rank set → by_item (decoded items set)
   decoded_one set one =
       let below = ranks_within set one in
-      let long = length-decoded set one.rises below in
+      let long = length-decoded items set is.distinct one.rises below in
       record {
         rises = rising-rises (map (λ rank. get_or items rank 0) set);
         some = omega (arith, long, one.some);
@@ -90,7 +67,7 @@ module _ (coding : Coding) (is : IsCoding coding) where
             let back = recoded items subset rises ranked in
             let up = ranks_rise 0 items subset in
             let inside = coded_below subset in
-            let length_is = length-decoded ranks up inside in
+            let length_is = length-decoded items ranks is.distinct up inside in
             let rank_within : (rank : ℕ) → Member rank ranks → Member rank set = λ rank m.
             rank_from_decoded items set rank is.distinct below (inside rank (has-from_Member ranks rank m)) (within (get_or items rank 0) (subst (Member (get_or items rank 0)) back (into_decoded items ranks rank m))) in
             ap (is_frequent (baskets_of coding) coding.minimum) (sym back) ∙ test_is coding is ranks inside
@@ -104,13 +81,13 @@ module _ (coding : Coding) (is : IsCoding coding) where
       let back = recoded items set one.rises (items_within set one) in
       let up = ranks_rise 0 items set in
       let inside = coded_below set in
-      let long = length-decoded ranks up inside in
+      let long = length-decoded items ranks is.distinct up inside in
       record {
         rises = up;
         some = omega (arith, long, ap length back, one.some);
         subsets = λ subset rises sized within.
             let below : AllBelow (length items) subset = λ rank h. inside rank (has-from_Member ranks rank (within rank (Member-from_has subset rank h))) in
-            let length_is = length-decoded subset rises below in
+            let length_is = length-decoded items subset is.distinct rises below in
             sym (test_is coding is subset below)
             ∙ one.subsets (decoded items subset) (rising-rises (map (λ rank. get_or items rank 0) subset)) (omega (arith, length_is, sized, long, ap length back))
             (λ item m. let d = from_decoded items subset item m in

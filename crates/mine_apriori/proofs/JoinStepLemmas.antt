@@ -8,6 +8,7 @@ use Rattle.std.proofs.lemmas.Grind.{flat_map-append}
 use Rattle.std.proofs.lemmas.List.{drop_more, get_or-map, get_or_default, take_more}
 use Rattle.std.proofs.lemmas.List.Elements.{filter-append, filter_agree}
 use Rattle.basket_sets.specs.Itemset.{IsRising, has, without}
+use Rattle.basket_sets.proofs.theory.Items.{filter_none}
 use Rattle.basket_sets.proofs.theory.Members.{Member, Member-from_Contains, Member-map}
 use Rattle.basket_sets.proofs.theory.Ranges.{filter_members}
 use Rattle.basket_sets.proofs.theory.Rising.{Member-from_has, has-from_Member, has_place, rest_rises}
@@ -19,7 +20,7 @@ use Rattle.mine_supports.proofs.theory.Extensions.{no_group}
 use Rattle.mine_supports.proofs.theory.Grouped.{at_each, size_at}
 use Rattle.mine_apriori.proofs.GroupLemmas.{into_sets, looked_up, missing}
 use Rattle.mine_apriori.proofs.JoinedLemmas.{all_joined, join_of, parts_decide}
-use Rattle.mine_apriori.proofs.PruneLemmas.{filter_both, filter_none, is_one_of-from_Member}
+use Rattle.mine_apriori.proofs.PruneLemmas.{filter_both, is_one_of-from_Member}
 
 -- ---- one set more is joined
 
@@ -34,48 +35,48 @@ Member-from_drop zero items x m = m
 Member-from_drop (suc k) [] x m = absurd m
 Member-from_drop (suc k) (y ∷ items) x m = inr (Member-from_drop k items x m)
 
-module _ (groups : List Group) (prefix items : List ℕ) (parts : AreParts groups prefix items) (place : ℕ) (below : place < length items) where
+module _ (groups : List Group) (prefix items : List ℕ) (parts : AreParts groups prefix items) (index : ℕ) (below : index < length items) where
   abbrev set : List ℕ
-  set = prefix ++ get_or items place 0 ∷ []
+  set = prefix ++ get_or items index 0 ∷ []
 
   abbrev later : List ℕ
-  later = drop (place + 1) items
+  later = drop (index + 1) items
 
   abbrev kept_items : List ℕ
   kept_items = filter (has_parts (length prefix) (sets_of groups) set) later
 
   kept_is : kept_items ≡ filter (λ x. has_subsets (suc (length prefix)) (sets_of groups) (set ++ x ∷ [])) later
   kept_is = filter_members (has_parts (length prefix) (sets_of groups) set) (λ x. has_subsets (suc (length prefix)) (sets_of groups) (set ++ x ∷ [])) later (λ x m.
-      parts_decide (sets_of groups) prefix (get_or items place 0) x
-      (parts.there (get_or items place 0) (has_place items place below))
-      (parts.there x (has-from_Member items x (Member-from_drop (place + 1) items x m))))
+      parts_decide (sets_of groups) prefix (get_or items index 0) x
+      (parts.there (get_or items index 0) (has_place items index below))
+      (parts.there x (has-from_Member items x (Member-from_drop (index + 1) items x m))))
 
   pub join_more : (found : List Group)
       → (found ++ filter has_items (record { prefix = set; items = kept_items } ∷ [])) ++ filter has_items (joined_group (suc (length prefix)) (sets_of groups) prefix later)
-      ≡ found ++ filter has_items (joined_group (suc (length prefix)) (sets_of groups) prefix (drop place items))
+      ≡ found ++ filter has_items (joined_group (suc (length prefix)) (sets_of groups) prefix (drop index items))
   join_more found =
       let rest = joined_group (suc (length prefix)) (sets_of groups) prefix later in
       append_assoc found (filter has_items (record { prefix = set; items = kept_items } ∷ [])) (filter has_items rest)
       ∙ ap (λ l. found ++ l) (sym (filter-append has_items (record { prefix = set; items = kept_items } ∷ []) rest) ∙ ap (λ l. filter has_items (record { prefix = set; items = l } ∷ rest)) kept_is)
-      ∙ ap (λ l. found ++ filter has_items (joined_group (suc (length prefix)) (sets_of groups) prefix l)) (sym (drop_more items place 0 below))
+      ∙ ap (λ l. found ++ filter has_items (joined_group (suc (length prefix)) (sets_of groups) prefix l)) (sym (drop_more items index 0 below))
 
 -- ---- one prefix more
 
-pub group_more : (sets : List (List ℕ)) (groups found more : List Group) (place : ℕ) (d : Group) → place < length groups → found ≡ filter has_items (all_joined sets (take place groups))
-    → (let group = get_or groups place d in more ≡ found ++ filter has_items (joined_group (suc (length group.prefix)) sets group.prefix group.items))
-    → more ≡ filter has_items (all_joined sets (take (place + 1) groups))
-group_more sets groups found more place d below before is =
-    let group = get_or groups place d in
+pub group_more : (sets : List (List ℕ)) (groups found more : List Group) (index : ℕ) (d : Group) → index < length groups → found ≡ filter has_items (all_joined sets (take index groups))
+    → (let group = get_or groups index d in more ≡ found ++ filter has_items (joined_group (suc (length group.prefix)) sets group.prefix group.items))
+    → more ≡ filter has_items (all_joined sets (take (index + 1) groups))
+group_more sets groups found more index d below before is =
+    let group = get_or groups index d in
     is ∙ ap (λ l. l ++ filter has_items (join_of sets group)) before
-    ∙ sym (ap (λ l. filter has_items (all_joined sets l)) (take_more groups place d below)
-    ∙ ap (filter has_items) (flat_map-append (join_of sets) (take place groups) (group ∷ []) ∙ ap (λ l. all_joined sets (take place groups) ++ l) (append-nil (join_of sets group)))
-    ∙ filter-append has_items (all_joined sets (take place groups)) (join_of sets group))
+    ∙ sym (ap (λ l. filter has_items (all_joined sets l)) (take_more groups index d below)
+    ∙ ap (filter has_items) (flat_map-append (join_of sets) (take index groups) (group ∷ []) ∙ ap (λ l. all_joined sets (take index groups) ++ l) (append-nil (join_of sets group)))
+    ∙ filter-append has_items (all_joined sets (take index groups)) (join_of sets group))
 
-pub group_parts : (groups : List Group) (place : ℕ) (d : Group) → AreGrouped groups → All IsRising (sets_of groups) → place < length groups → IsRising (get_or groups place d).items
-    → AreParts groups (get_or groups place d).prefix (get_or groups place d).items
-group_parts groups place d grouped rising below up =
-    let group = get_or groups place d in
-    let here = Member-from_Contains group groups (place, below, get_or_default groups place group d below) in
+pub group_parts : (groups : List Group) (index : ℕ) (d : Group) → AreGrouped groups → All IsRising (sets_of groups) → index < length groups → IsRising (get_or groups index d).items
+    → AreParts groups (get_or groups index d).prefix (get_or groups index d).items
+group_parts groups index d grouped rising below up =
+    let group = get_or groups index d in
+    let here = Member-from_Contains group groups (index, below, get_or_default groups index group d below) in
     let size = size_at grouped.size (prefixes_of groups) grouped.sized group.prefix (Member-map (λ (g : Group). g.prefix) group groups here) in
     let there = λ (item : ℕ) (h : has group.items item ≡ true). into_sets groups group item here (Member-from_has group.items item h) in
     record {
@@ -86,17 +87,17 @@ group_parts groups place d grouped rising below up =
       items_rise = up;
     }
 
--- ---- one place more
+-- ---- one index more
 
 pub parts_none : (sets : List (List ℕ)) (set items : List ℕ) → filter (has_parts 0 sets set) items ≡ items
 parts_none sets one [] = refl
 parts_none sets one (x ∷ items) = ap (λ l. x ∷ l) (parts_none sets one items)
 
-pub parts_more : (sets : List (List ℕ)) (set items old new : List ℕ) (place : ℕ) → old ≡ filter (has_parts place sets set) items → new ≡ filter (λ x. is_one_of sets (without place set ++ x ∷ [])) old → new ≡ filter (has_parts (place + 1) sets set) items
-parts_more sets set items old new place before is =
-    let one : suc place ≡ place + 1 = omega arith in
-    is ∙ ap (filter (λ x. is_one_of sets (without place set ++ x ∷ []))) before
-    ∙ filter_both (has_parts place sets set) (λ x. is_one_of sets (without place set ++ x ∷ [])) items
+pub parts_more : (sets : List (List ℕ)) (set items old new : List ℕ) (index : ℕ) → old ≡ filter (has_parts index sets set) items → new ≡ filter (λ x. is_one_of sets (without index set ++ x ∷ [])) old → new ≡ filter (has_parts (index + 1) sets set) items
+parts_more sets set items old new index before is =
+    let one : suc index ≡ index + 1 = omega arith in
+    is ∙ ap (filter (λ x. is_one_of sets (without index set ++ x ∷ []))) before
+    ∙ filter_both (has_parts index sets set) (λ x. is_one_of sets (without index set ++ x ∷ [])) items
     ∙ ap (λ n. filter (has_parts n sets set) items) one
 
 pub kept_found : (groups : List Group) (at : ℕ) (prefix items : List ℕ) → IsStrictlySortedBy (slice_cmp nat_cmp) (prefixes_of groups) → at < length groups → get_or (prefixes_of groups) at [] ≡ prefix

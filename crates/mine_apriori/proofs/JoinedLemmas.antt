@@ -10,40 +10,41 @@ use Rattle.std.proofs.lemmas.Simd.{map-map}
 use Rattle.basket_sets.specs.Itemset.{IsRising, without}
 use Rattle.basket_sets.specs.Order.{report_order, report_order_total, IsInReportOrder}
 use Rattle.basket_sets.specs.Subsets.{subsets_of_size}
-use Rattle.basket_sets.proofs.theory.Members.{Member, Member-filter, Member-from_filter, Member-map, same_members, sorted_along}
+use Rattle.basket_sets.proofs.theory.Members.{Member, Member-filter, Member-flat_map, Member-from_filter, Member-into_flat_map, Member-map, same_members, sorted_along}
 use Rattle.basket_sets.proofs.theory.Ranges.{filter_rises}
 use Rattle.basket_sets.proofs.theory.Rising.{first_below, rest_rises, same_test}
-use Rattle.basket_sets.proofs.theory.Without.{each_passes}
+use Rattle.basket_sets.proofs.theory.Subsets.{same_order}
+use Rattle.basket_sets.proofs.theory.Tests.{each_of}
 use Rattle.mine_apriori.specs.Candidates.{is_one_of, has_subsets, candidates_of}
 use Rattle.mine_apriori.specs.Join.{has_parts, joined_group, joined_groups}
 use Rattle.mine_supports.specs.Extensions.{AreGrouped, Group, extend, kept, sets_of, prefixes_of, has_items}
 use Rattle.mine_supports.specs.Sizes.{AreOfSize}
 use Rattle.mine_supports.proofs.theory.Extensions.{passing, sets_filled}
-use Rattle.mine_supports.proofs.theory.Grouped.{at_each, of_each, regrouped, same_order, size_at}
+use Rattle.mine_supports.proofs.theory.Grouped.{at_each, of_each, regrouped, size_at}
 use Rattle.mine_apriori.proofs.GroupLemmas.{filter_grouped, from_sets, into_sets, items_rise, last_same, same_group, sets_in_order}
 use Rattle.mine_apriori.proofs.JoinLemmas.{ends_of, length_after, rises_after, rising_ends, without_first, without_second}
 use Rattle.mine_apriori.proofs.LawLemmas.{candidates_are_in_report_order, into_candidates, subset_of_size, without_is_there}
-use Rattle.mine_apriori.proofs.PruneLemmas.{Member-flat_map, Member-into_flat_map, Member-without, has_all}
+use Rattle.mine_apriori.proofs.PruneLemmas.{Member-without, has_all}
 
 -- ---- the subsets without one of the first items
 
-parts_each : (count : ℕ) (sets : List (List ℕ)) (set : List ℕ) (item : ℕ) → has_parts count sets set item ≡ true → (place : ℕ) → place < count → is_one_of sets (without place set ++ item ∷ []) ≡ true
-parts_each zero sets set item h place below = absurd (omega arith)
-parts_each (suc count) sets set item h place below =
+parts_each : (count : ℕ) (sets : List (List ℕ)) (set : List ℕ) (item : ℕ) → has_parts count sets set item ≡ true → (index : ℕ) → index < count → is_one_of sets (without index set ++ item ∷ []) ≡ true
+parts_each zero sets set item h index below = absurd (omega arith)
+parts_each (suc count) sets set item h index below =
     let b = and_parts (has_parts count sets set item) (is_one_of sets (without count set ++ item ∷ [])) h in
-    elim (cases_lt place count) [
-      | inl less ↦ parts_each count sets set item b.0 place less
-      | inr more ↦ (let e : count ≡ place = omega arith in subst (λ n. is_one_of sets (without n set ++ item ∷ []) ≡ true) e b.1)
+    elim (cases_lt index count) [
+      | inl less ↦ parts_each count sets set item b.0 index less
+      | inr more ↦ (let e : count ≡ index = omega arith in subst (λ n. is_one_of sets (without n set ++ item ∷ []) ≡ true) e b.1)
     ]
 
-parts_from : (count : ℕ) (sets : List (List ℕ)) (set : List ℕ) (item : ℕ) → ((place : ℕ) → place < count → is_one_of sets (without place set ++ item ∷ []) ≡ true) → has_parts count sets set item ≡ true
+parts_from : (count : ℕ) (sets : List (List ℕ)) (set : List ℕ) (item : ℕ) → ((index : ℕ) → index < count → is_one_of sets (without index set ++ item ∷ []) ≡ true) → has_parts count sets set item ≡ true
 parts_from zero sets set item each = refl
-parts_from (suc count) sets set item each = (λ i. parts_from count sets set item (λ place below. each place (omega arith)) i && each count (omega arith) i)
+parts_from (suc count) sets set item each = (λ i. parts_from count sets set item (λ index below. each index (omega arith)) i && each count (omega arith) i)
 
-without_before : (place : ℕ) (set : List ℕ) (item : ℕ) → place < length set → without place (set ++ item ∷ []) ≡ without place set ++ item ∷ []
-without_before place [] item below = absurd (omega arith)
+without_before : (index : ℕ) (set : List ℕ) (item : ℕ) → index < length set → without index (set ++ item ∷ []) ≡ without index set ++ item ∷ []
+without_before index [] item below = absurd (omega arith)
 without_before zero (x ∷ set) item below = refl
-without_before (suc place) (x ∷ set) item below = ap (λ l. x ∷ l) (without_before place set item (omega arith))
+without_before (suc index) (x ∷ set) item below = ap (λ l. x ∷ l) (without_before index set item (omega arith))
 
 -- if a set and its prefix with an item are there, the other subsets decide
 pub parts_decide : (sets : List (List ℕ)) (prefix : List ℕ) (first item : ℕ) → is_one_of sets (prefix ++ first ∷ []) ≡ true → is_one_of sets (prefix ++ item ∷ []) ≡ true
@@ -51,9 +52,9 @@ pub parts_decide : (sets : List (List ℕ)) (prefix : List ℕ) (first item : �
 parts_decide sets prefix first item one other =
     same_test (has_parts last sets set item) (has_subsets (suc last) sets joined)
     (λ h. has_all last sets joined long (ap (is_one_of sets) (without_second prefix first item) ∙ one) (ap (is_one_of sets) (without_first prefix first item) ∙ other)
-    (λ place below. ap (is_one_of sets) (without_before place set item (omega (arith, set_long, below))) ∙ parts_each last sets set item h place below))
-    (λ h. parts_from last sets set item (λ place below. ap (is_one_of sets) (sym (without_before place set item (omega (arith, set_long, below))))
-    ∙ each_passes (is_one_of sets) (subsets_of_size (suc last) joined) h (without place joined) (Member-without (suc last) place joined long (omega (arith, below)))))
+    (λ index below. ap (is_one_of sets) (without_before index set item (omega (arith, set_long, below))) ∙ parts_each last sets set item h index below))
+    (λ h. parts_from last sets set item (λ index below. ap (is_one_of sets) (sym (without_before index set item (omega (arith, set_long, below))))
+    ∙ each_of (is_one_of sets) (subsets_of_size (suc last) joined) h (without index joined) (Member-without (suc last) index joined long (omega (arith, below)))))
   where
     last : ℕ
     last = length prefix

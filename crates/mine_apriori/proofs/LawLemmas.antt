@@ -18,7 +18,7 @@ use Rattle.basket_sets.specs.Support.{all_items, items_of}
 use Rattle.basket_sets.proofs.theory.Members.{Member, Member-append, Member-append_right, Member-filter, Member-from_filter, sorted_along, Member-from_Contains, Contains-from_Member, at_Member, same_members}
 use Rattle.basket_sets.proofs.theory.Rising.{rising-rises, has_each, contains_each}
 use Rattle.basket_sets.proofs.theory.Subsets.{IsSubset, IsSubset-from_Member, Member-from_IsSubset, of_size_sorted, same_length, Member-subsets, subset_from_Member, subsets_sorted}
-use Rattle.basket_sets.proofs.theory.Without.{all_pass, each_passes}
+use Rattle.basket_sets.proofs.theory.Tests.{all_of, each_of}
 use Rattle.basket_sets.proofs.theory.Frequent.{IsSound, lists_frequent}
 use Rattle.basket_sets.proofs.theory.Support.{frequent_items}
 use Rattle.mine_supports.proofs.theory.Grouped.{of_each, size_at}
@@ -72,14 +72,14 @@ candidate_from size sets set sized m =
       rises = s.0.rises;
       sized = omega (arith, s.0.sized);
       subsets = λ subset up long within. Contains-from_Member subset sets (Member-from_is_one_of sets subset
-          (each_passes (is_one_of sets) (subsets_of_size size set) s.1 subset
+          (each_of (is_one_of sets) (subsets_of_size size set) s.1 subset
           (Member-from_IsSubset size set subset s.0.rises (record { rises = up; sized = long; within = has_each set subset within }))));
     }
 
 -- a set without one of its items is in the list
-pub without_is_there : (last : ℕ) (sets : List (List ℕ)) (set : List ℕ) → length set ≡ suc (suc last) → has_subsets (suc last) sets set ≡ true → (place : ℕ) → place < suc (suc last) → Member (without place set) sets
-without_is_there last sets set long has place below =
-    Member-from_is_one_of sets (without place set) (each_passes (is_one_of sets) (subsets_of_size (suc last) set) has (without place set) (Member-without (suc last) place set long below))
+pub without_is_there : (last : ℕ) (sets : List (List ℕ)) (set : List ℕ) → length set ≡ suc (suc last) → has_subsets (suc last) sets set ≡ true → (index : ℕ) → index < suc (suc last) → Member (without index set) sets
+without_is_there last sets set long has index below =
+    Member-from_is_one_of sets (without index set) (each_of (is_one_of sets) (subsets_of_size (suc last) set) has (without index set) (Member-without (suc last) index set long below))
 
 pub into_candidates : (last : ℕ) (sets : List (List ℕ)) (set : List ℕ) → AreOfSize (suc last) sets → IsRising set → length set ≡ suc (suc last) → has_subsets (suc last) sets set ≡ true → Member set (candidates_of sets)
 into_candidates last [] set sized up long has = without_is_there last [] set long has last (omega arith)
@@ -97,7 +97,7 @@ into_candidates last (first ∷ others) set sized up long has =
 
 Member-from_candidate : (last : ℕ) (sets : List (List ℕ)) (set : List ℕ) → AreOfSize (suc last) sets → IsCandidate (suc last) sets set → Member set (candidates_of sets)
 Member-from_candidate last sets set sized is = into_candidates last sets set sized is.rises (omega (arith, is.sized))
-    (all_pass (is_one_of sets) (subsets_of_size (suc last) set) (λ subset m.
+    (all_of (is_one_of sets) (subsets_of_size (suc last) set) (λ subset m.
     let s = IsSubset-from_Member (suc last) set subset is.rises m in
     is_one_of-from_Member sets subset (Member-from_Contains subset sets (is.subsets subset s.rises s.sized (contains_each set subset s.within)))))
 
@@ -134,7 +134,7 @@ module _ (baskets : List Weighted) (minimum : Minimum) where
       record {
         rises = s.0;
         some = leb-true 2 (length set) parts.0;
-        subsets = λ subset rises sized within. each_passes passes (subsets_of_size (length set - 1) set) parts.1 subset
+        subsets = λ subset rises sized within. each_of passes (subsets_of_size (length set - 1) set) parts.1 subset
             (Member-from_IsSubset (length set - 1) set subset s.0 (record { rises = rises; sized = omega (arith, sized); within = within }));
       }
 
@@ -148,10 +148,10 @@ module _ (baskets : List Weighted) (minimum : Minimum) where
         | inr n ↦ (without last set, frequent last last long (omega arith), n)
       ]
     where
-      frequent : (place last : ℕ) → length set ≡ suc (suc last) → place < suc (suc last) → passes (without place set) ≡ true
-      frequent place last long below =
-          let s = IsSubset-from_Member (suc last) set (without place set) one.rises (Member-without (suc last) place set long below) in
-          one.subsets (without place set) s.rises (omega (arith, s.sized, long)) s.within
+      frequent : (index last : ℕ) → length set ≡ suc (suc last) → index < suc (suc last) → passes (without index set) ≡ true
+      frequent index last long below =
+          let s = IsSubset-from_Member (suc last) set (without index set) one.rises (Member-without (suc last) index set long below) in
+          one.subsets (without index set) s.rises (omega (arith, s.sized, long)) s.within
 
   pub into_all : (set : List ℕ) → IsOne set → Member set (all_candidates baskets minimum)
   into_all set one =
@@ -159,7 +159,7 @@ module _ (baskets : List Weighted) (minimum : Minimum) where
       Member-from_filter (is_candidate baskets minimum) set (subsets_of (items_of baskets))
       (Member-subsets (items_of baskets) set up one.rises (nonempty set (omega (arith, one.some))) within)
       (and_from (leb 2 (length set)) (list_all passes (subsets_of_size (length set - 1) set)) (le-leb 2 (length set) one.some)
-      (all_pass passes (subsets_of_size (length set - 1) set) (λ subset m.
+      (all_of passes (subsets_of_size (length set - 1) set) (λ subset m.
       let s = IsSubset-from_Member (length set - 1) set subset one.rises m in
       one.subsets subset s.rises (omega (arith, s.sized, one.some)) s.within)))
 

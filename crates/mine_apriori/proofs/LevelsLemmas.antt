@@ -1,6 +1,7 @@
 -- The frequent sets by levels: each level is what is frequent among the candidates of the one before.
-use Rattle.std.proofs.Common.{◌≡◌, ◌≢◌, ℕ, ◌+◌, ◌<◌, ◌≤◌, Bool, true, false, List, [], ◌∷◌, ◌++◌, ◌&&◌, length, map, refl, sym, ap, ◌∙◌, subst, inl, arith, zero, suc}
+use Rattle.std.proofs.Common.{◌≡◌, ◌≢◌, ℕ, ◌+◌, ◌<◌, ◌≤◌, Bool, true, List, [], ◌∷◌, ◌++◌, ◌&&◌, length, map, refl, sym, ap, ◌∙◌, subst, inl, arith, zero, suc}
 use Rattle.std.specs.List.{All, filter, flat_map, range_with_len}
+use Rattle.std.proofs.Math.Bool.{and_self}
 use Rattle.std.proofs.lemmas.List.{append-nil, length-append, length-map, map-append, map-id}
 use Rattle.std.proofs.lemmas.List.Elements.{filter-append, filter_agree}
 use Rattle.std.proofs.lemmas.List.FromFn.{length-range_with_len}
@@ -18,7 +19,7 @@ use Rattle.basket_sets.proofs.theory.Frequent.{frequent_once}
 use Rattle.std.proofs.lemmas.Simd.{map-map}
 use Rattle.basket_sets.proofs.theory.Items.{one_item}
 use Rattle.basket_sets.proofs.theory.Ranges.{Member-into_range, range_rises}
-use Rattle.basket_sets.proofs.theory.Members.{Member, Member-filter, Member-from_filter, Member-from_Contains, Contains-from_Member, same_members}
+use Rattle.basket_sets.proofs.theory.Members.{Member, Member-filter, Member-flat_map, Member-from_filter, Member-from_Contains, Contains-from_Member, same_members}
 use Rattle.basket_sets.proofs.theory.Rising.{has-from_Member, rising-rises, Member-rising, length-le-contains}
 use Rattle.basket_sets.proofs.theory.Subsets.{IsSubset, IsSubset-from_Member, Member-from_IsSubset}
 use Rattle.basket_sets.proofs.theory.Support.{frequent_items, subsets_are_frequent}
@@ -29,7 +30,7 @@ use Rattle.mine_supports.specs.Sizes.{AreOfSize}
 use Rattle.mine_supports.proofs.theory.Extensions.{kept_sets}
 use Rattle.mine_supports.proofs.theory.Grouped.{of_each}
 use Rattle.mine_apriori.proofs.LawLemmas.{subset_of_size, candidates_are_exact, candidates_are_in_report_order, of_size_in_order}
-use Rattle.mine_apriori.proofs.PruneLemmas.{Member-flat_map, filter_both, none_larger}
+use Rattle.mine_apriori.proofs.PruneLemmas.{filter_both, none_larger}
 use Rattle.mine_apriori.proofs.JoinedLemmas.{kept_grouped}
 
 -- the subsets that pass a test, up to a size
@@ -206,11 +207,7 @@ module _ (coding : Coding) where
 
   -- the frequent ones of a level are the level
   pub level_again : (size : ℕ) → filter passes (level_of coding size) ≡ level_of coding size
-  level_again size = filter_both passes passes (subsets_of_size size items) ∙ filter_agree (λ set. passes set && passes set) passes (λ set. twice (passes set)) (subsets_of_size size items)
-    where
-      twice : (b : Bool) → (b && b) ≡ b
-      twice true = refl
-      twice false = refl
+  level_again size = filter_both passes passes (subsets_of_size size items) ∙ filter_agree (λ set. passes set && passes set) passes (λ set. and_self (passes set)) (subsets_of_size size items)
 
 -- one level more is found
 pub record AreNext (coding : Coding) (size : ℕ) (found : List Counted) (level : List Group) : Type 0 where

@@ -24,7 +24,7 @@ use Rattle.basket_sets.specs.Itemset.{IsRising}
 use Rattle.basket_sets.specs.Minimum.{IsLeastSupport}
 use Rattle.basket_sets.specs.Subsets.{subsets_of_size}
 use Rattle.basket_sets.specs.Support.{items_of, support_of, total_of}
-use Rattle.basket_sets.proofs.theory.Members.{Member, Member-filter, Member-from_filter, Member-from_map, Member-map, sorted_map}
+use Rattle.basket_sets.proofs.theory.Members.{Member, Member-filter, Member-flat_map, Member-from_filter, Member-from_map, Member-into_flat_map, Member-map, map_members, sorted_map}
 use Rattle.basket_sets.proofs.theory.Ranges.{range_more, Member-into_range, Member-range, filter_members, filtered_range_rises}
 use Rattle.basket_sets.proofs.theory.Rising.{first_below, has-from_Member}
 use Rattle.basket_sets.proofs.theory.Sorting.{sorted_is}
@@ -38,13 +38,7 @@ use Rattle.mine_apriori.specs.declared.pairs.Pair.{Pair}
 use Rattle.mine_apriori.specs.Levels.{level_of}
 use Rattle.mine_supports.proofs.theory.Grouped.{at_each, one_rises}
 use Rattle.mine_apriori.proofs.JoinLemmas.{rises_after}
-use Rattle.mine_apriori.proofs.PruneLemmas.{Member-flat_map, Member-into_flat_map}
 use Rattle.mine_apriori.proofs.LevelsLemmas.{from_level, into_level, items_rise}
-
--- functions that agree on the members of a list give one list
-map_members : {X Y : Type 0} (f g : X → Y) (xs : List X) → ((x : X) → Member x xs → f x ≡ g x) → map f xs ≡ map g xs
-map_members f g [] same = refl
-map_members f g (x ∷ xs) same = let first = same x (inl refl) in let rest = map_members f g xs (λ y m. same y (inr m)) in λ i. first i ∷ rest i
 
 -- ---- a least support
 

@@ -16,7 +16,7 @@ abbrev pub IsBefore : List ℕ → List ℕ → Type 0
 IsBefore one other = slice_cmp nat_cmp one other ≡ Less
 
 module _ (sets : List (List ℕ)) (key : List ℕ) where
-  -- the set at a place compares as it did where it was read
+  -- the set at an index compares as it did where it was read
   pub compared : (at : ℕ) (read : List ℕ) (o : Ordering) → at < length sets → read ≡ get_or sets at read → slice_cmp nat_cmp read key ≡ o → slice_cmp nat_cmp (get_or sets at []) key ≡ o
   compared at read o below is e = ap (λ set. slice_cmp nat_cmp set key) (get_or_default sets at [] read below ∙ sym is) ∙ e
 

@@ -2,7 +2,7 @@
 use Rattle.std.proofs.Common.{◌≡◌, ℕ, ◌+◌, ◌-◌, ◌*◌, ◌/◌, ◌≤◌, ◌&&◌, Bool, true, false, List, [], ◌∷◌, ◌++◌, length, map, cond, leb, refl, sym, ap, ◌∙◌, subst, arith, zero, suc}
 use Rattle.std.specs.List.{filter, list_all}
 use Rattle.std.proofs.Math.Nat.{add-mul, mul-suc, mul-div_cancel, suc-mul}
-use Rattle.std.proofs.lemmas.Bool.{and_from, and_left, and_parts, le-leb, lt-leb}
+use Rattle.std.proofs.lemmas.Bool.{and_from, and_left, and_parts, cond_both, le-leb, lt-leb}
 use Rattle.std.proofs.lemmas.List.{length-append, length-map}
 use Rattle.std.proofs.lemmas.Simd.{map-map}
 use Rattle.std.proofs.Math.Bool.{and-true}
@@ -13,7 +13,7 @@ use Rattle.basket_sets.specs.Frequent.{is_frequent}
 use Rattle.basket_sets.specs.Order.{report_order, report_order_total}
 use Rattle.basket_sets.specs.Subsets.{subsets_of_size}
 use Rattle.basket_sets.specs.Support.{items_of}
-use Rattle.basket_sets.proofs.theory.Items.{filter-map, one_item}
+use Rattle.basket_sets.proofs.theory.Items.{filter-map, filter_none, one_item}
 use Rattle.basket_sets.proofs.theory.Members.{Member-filter, Member-from_filter, Member-from_map, Member-from_Contains, Contains-from_Member, same_members}
 use Rattle.basket_sets.proofs.theory.Rising.{contains_each, has_each}
 use Rattle.basket_sets.proofs.theory.Subsets.{IsSubset-from_Member, Member-from_IsSubset}
@@ -22,8 +22,7 @@ use Rattle.mine_apriori.specs.Levels.{asked_of, level_of}
 use Rattle.mine_apriori.specs.Work.{all_candidates, candidates_of_size, candidates_up_to, is_candidate}
 use Rattle.mine_apriori.proofs.LawLemmas.{candidates_are_exact, candidates_are_in_report_order, of_size_in_order}
 use Rattle.mine_apriori.proofs.LevelsLemmas.{candidate_items, empty_later, from_level, into_level, items_rise, level_sized, next_level, one_more, settled}
-use Rattle.mine_apriori.proofs.PruneLemmas.{filter_none}
-use Rattle.basket_sets.proofs.theory.Without.{all_pass, each_passes}
+use Rattle.basket_sets.proofs.theory.Tests.{all_of, each_of}
 
 -- ---- how many pairs there are
 
@@ -78,7 +77,7 @@ module _ (coding : Coding) where
       Member-from_filter tests set (subsets_of_size (size + 1) items)
       (Member-from_IsSubset (size + 1) items set up (record { rises = c.rises; sized = c.sized; within = candidate_items coding size set m }))
       (and_from (leb 2 (length set)) (list_all passes (subsets_of_size (length set - 1) set)) (le-leb 2 (length set) (omega (arith, c.sized)))
-      (subst (λ n. list_all passes (subsets_of_size n set) ≡ true) one (all_pass passes (subsets_of_size size set) (λ subset n.
+      (subst (λ n. list_all passes (subsets_of_size n set) ≡ true) one (all_of passes (subsets_of_size size set) (λ subset n.
       let s = IsSubset-from_Member size set subset c.rises n in
       (from_level coding size subset (Member-from_Contains subset level (c.subsets subset s.rises s.sized (contains_each set subset s.within)))).1)))))
       (λ set m. let k = Member-filter tests set (subsets_of_size (size + 1) items) m in
@@ -90,7 +89,7 @@ module _ (coding : Coding) where
         sized = s.sized;
         subsets = λ subset rises sized within.
             Contains-from_Member subset level (into_level coding size subset rises sized
-            (each_passes passes (subsets_of_size size set) all subset (Member-from_IsSubset size set subset s.rises (record { rises = rises; sized = sized; within = has_each set subset within }))));
+            (each_of passes (subsets_of_size size set) all subset (Member-from_IsSubset size set subset s.rises (record { rises = rises; sized = sized; within = has_each set subset within }))));
       })))
 
   pub candidates_next : (size : ℕ) → 1 ≤ size → up_to (size + 1) ≡ up_to size ++ asked_of coding size
@@ -133,11 +132,12 @@ module _ (coding : Coding) where
   frequent_pairs : (all : List ℕ) → filter tests (subsets_of_size 2 all) ≡ subsets_of_size 2 (filter frequent all)
   frequent_pairs [] = refl
   frequent_pairs (rank ∷ others) =
-      filter-append tests (map (λ set. rank ∷ set) (subsets_of_size 1 others)) (subsets_of_size 2 others) ∙ (λ i. filter tests (pairs_of rank others i) ++ frequent_pairs others i) ∙ at (frequent rank) refl
+      filter-append tests (map (λ set. rank ∷ set) (subsets_of_size 1 others)) (subsets_of_size 2 others) ∙ (λ i. filter tests (pairs_of rank others i) ++ frequent_pairs others i)
+      ∙ cond_both (frequent rank) (rank ∷ kept) kept (λ l. filter tests (map (λ other. rank ∷ other ∷ []) others) ++ subsets_of_size 2 kept ≡ subsets_of_size 2 l)
+      (λ is. ap (λ l. l ++ subsets_of_size 2 kept) (pairs_with rank true others is ∙ sym (pairs_of rank kept))) (λ is. ap (λ l. l ++ subsets_of_size 2 kept) (pairs_with rank false others is))
     where
-      at : (b : Bool) → frequent rank ≡ b → filter tests (map (λ other. rank ∷ other ∷ []) others) ++ subsets_of_size 2 (filter frequent others) ≡ subsets_of_size 2 (cond b (rank ∷ filter frequent others) (filter frequent others))
-      at true is = ap (λ l. l ++ subsets_of_size 2 (filter frequent others)) (pairs_with rank true others is ∙ sym (pairs_of rank (filter frequent others)))
-      at false is = ap (λ l. l ++ subsets_of_size 2 (filter frequent others)) (pairs_with rank false others is)
+      kept : List ℕ
+      kept = filter frequent others
 
   pub pair_count : length (candidates_up_to coding.baskets coding.minimum 2) ≡ length (level_of coding 1) * (length (level_of coding 1) - 1) / 2
   pair_count =

@@ -12,7 +12,7 @@ use Rattle.basket_sets.specs.Itemset.{IsRising, has, without}
 -- whether a set with one item more has, in the list, its subsets that lack one of so many first items
 abbrev pub has_parts : ℕ → List (List ℕ) → List ℕ → ℕ → Bool
 has_parts zero sets set item = true
-has_parts (suc place) sets set item = has_parts place sets set item && is_one_of sets (without place set ++ item ∷ [])
+has_parts (suc index) sets set item = has_parts index sets set item && is_one_of sets (without index set ++ item ∷ [])
 
 -- for each item of a prefix the set with it, and the later items with which that set has all subsets
 abbrev pub joined_group : ℕ → List (List ℕ) → List ℕ → List ℕ → List Group

@@ -61,10 +61,10 @@ fn add_extensions(
     let minimum = coded.minimum();
     let total = coded.total();
     let mut kept = Vec::new(alloc);
-    for (place, item) in items.iter().enumerate() {
-        if minimum.met(counts[place], total) {
+    for (index, item) in items.iter().enumerate() {
+        if minimum.met(counts[index], total) {
             let ranks = prefix.with(alloc, *item)?;
-            found.push_renamed(alloc, &ranks, coded.items(), counts[place])?;
+            found.push_renamed(alloc, &ranks, coded.items(), counts[index])?;
             kept.push(*item)?;
         }
     }

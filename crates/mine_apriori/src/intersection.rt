@@ -20,15 +20,15 @@ pub fn push_shared(items: &[u32], others: &[u32], shared: &mut Vec<u32>) -> Resu
     Ok(())
 }
 
-/// The place, from one on, of the first of the items that isn't below a given one.
+/// The index, from one on, of the first of the items that isn't below a given one.
 fn first_from(items: &[u32], start: usize, least: u32) -> usize
     ensures later { start ≤ result }
     ensures below { (k : ℕ) → start ≤ k → k < result → slice_index items.now k < least }
     ensures first { result < length items.now → least ≤ slice_index items.now result }
 {
-    let mut place = start;
-    while place < items.len() && items[place] < least {
-        place += 1;
+    let mut index = start;
+    while index < items.len() && items[index] < least {
+        index += 1;
     }
-    place
+    index
 }

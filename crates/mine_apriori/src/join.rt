@@ -1,9 +1,9 @@
 //! Apriori's candidates, made by join and prune.
-ghost use Rattle.std.specs.Prelude.{◌≡◌, ◌<◌, ◌≤◌, ◌+◌, ◌-◌, ◌++◌, ◌∷◌, [], ℕ, suc, All, IfOk, IsTrue, OnOk, filter, length, slice_range};
+ghost use Rattle.std.specs.Prelude.{◌≡◌, ◌<◌, ◌≤◌, ◌+◌, ◌-◌, ◌++◌, ◌∷◌, [], suc, All, IfOk, OnOk, filter, length, slice_range};
 ghost use Rattle.std.specs.Cmp.Lexicographic.{slice_cmp};
 ghost use Rattle.std.specs.List.Sorted.{IsStrictlySortedBy};
 ghost use Rattle.std.specs.Ordering.{nat_cmp};
-ghost use Rattle.basket_sets.specs.Itemset.{IsRising, has, without};
+ghost use Rattle.basket_sets.specs.Itemset.{IsRising, without};
 ghost use Rattle.basket_sets.specs.Order.{IsInReportOrder};
 ghost use Rattle.mine_apriori.specs.Candidates.{is_one_of, candidates_of};
 ghost use Rattle.mine_supports.specs.Extensions.{AreGrouped, has_items, prefixes_of, sets_of};
@@ -45,9 +45,9 @@ pub fn candidates_in(
         None => 0,
     };
     let mut hints = vec![in alloc; 0; size]?;
-    for place in range.start..range.end {
-        let prefix = level.prefixes()[place].items();
-        let items = level.lists()[place].items();
+    for index in range.start..range.end {
+        let prefix = level.prefixes()[index].items();
+        let items = level.lists()[index].items();
         found = join(alloc, level, prefix, items, &mut hints, found)?;
     }
     Ok(found)
@@ -70,10 +70,10 @@ fn join(
     let mut joined = Vec::new(alloc);
     let mut later = Vec::new(alloc);
     let mut room = Vec::new(alloc);
-    for place in 0..items.len() {
-        put_extended(&mut joined, prefix, items[place])?;
+    for index in 0..items.len() {
+        put_extended(&mut joined, prefix, items[index])?;
         later.clear();
-        later.extend_from_slice(&items[place + 1..])?;
+        later.extend_from_slice(&items[index + 1..])?;
         keep_extensions(level, &joined, hints, &mut later, &mut room)?;
         found = found.with_items(alloc, &joined, &later)?;
     }
@@ -81,7 +81,7 @@ fn join(
 }
 
 /// Keeps those items with which a set has all subsets of its size that lack one of its items except the last. From one
-/// set to the next the prefix without the item at a place mostly moves on a little, so each place has a hint of its own.
+/// set to the next the prefix without the item at an index mostly moves on a little, so each index has a hint of its own.
 #[tactic(auto, using(crate::proofs::JoinStepLemmas::parts_none, crate::proofs::JoinStepLemmas::parts_more, basket_sets::proofs::theory::Ranges::filter_rises))]
 fn keep_extensions(
     level: &Extensions,
@@ -97,33 +97,33 @@ fn keep_extensions(
     requires rising { IsRising items.old.items }
     ensures { OnOk result (items.new.items ≡ filter (has_parts (length set.now - 1) (sets_of level.now) set.now) items.old.items) }
 {
-    for place in 0..set.len() - 1 {
-        keep_with(level, set, place, &mut hints[place], items, room)?;
+    for index in 0..set.len() - 1 {
+        keep_with(level, set, index, &mut hints[index], items, room)?;
     }
     Ok(())
 }
 
-/// Keeps those items with which the set without the item at a place is in the level. The search for that prefix begins at the
-/// hint, which then becomes the place where it was found.
+/// Keeps those items with which the set without the item at an index is in the level. The search for that prefix begins at the
+/// hint, which then becomes the index where it was found.
 fn keep_with(
     level: &Extensions,
     set: &[u32],
-    place: usize,
+    index: usize,
     hint: &mut usize,
     items: &mut Vec<u32>,
     room: &mut Vec<u32>,
 ) -> Result<(), AllocError>
-    requires within { place < length set.now }
+    requires within { index < length set.now }
     requires sized { AreOfSize (length set.now - 1) (prefixes_of level.now) }
     requires sorted { IsStrictlySortedBy (slice_cmp nat_cmp) (prefixes_of level.now) }
     requires rising { IsRising items.old.items }
-    ensures { OnOk result (items.new.items ≡ filter (λ item. is_one_of (sets_of level.now) (without place set.now ++ item ∷ [])) items.old.items) }
+    ensures { OnOk result (items.new.items ≡ filter (λ item. is_one_of (sets_of level.now) (without index set.now ++ item ∷ [])) items.old.items) }
 {
     if items.is_empty() {
         return Ok(());
     }
     room.clear();
-    match find_near(level.prefixes(), &set[..place], &set[place + 1..], *hint) {
+    match find_near(level.prefixes(), &set[..index], &set[index + 1..], *hint) {
         Ok(at) => {
             *hint = at;
             push_shared(items, level.lists()[at].items(), room)?;

@@ -1,4 +1,4 @@
--- Covers of ranks, made place by place.
+-- Covers of ranks, made tid by tid.
 use Rattle.std.proofs.Common.{◌≡◌, ℕ, ◌+◌, ◌<◌, Bool, true, false, ◌&&◌, ◌||◌, List, [], ◌∷◌, ◌++◌, drop, length, get_or, map, cond, refl, sym, ap, ◌∙◌, subst, inl, inr, arith, zero, suc, zero-add, add-one}
 use Rattle.std.specs.declared.vec.Vec.{Vec}
 use Rattle.std.specs.declared.alloc.Global.{Global}
@@ -9,12 +9,13 @@ use Rattle.std.proofs.lemmas.List.{append-nil, get_or-map, get_or-set_other, get
 use Rattle.std.proofs.lemmas.List.Elements.{filter-append}
 use Rattle.std.proofs.lemmas.Simd.{map-map}
 use Rattle.basket_sets.specs.declared.weighted.Weighted.{Weighted}
+use Rattle.basket_sets.specs.Database.{weighted}
 use Rattle.basket_sets.specs.Itemset.{IsRising, contains, has}
 use Rattle.basket_sets.proofs.theory.Rising.{Member-from_has, first_below, nil_rises, rest_rises}
 use Rattle.basket_sets.proofs.theory.Tests.{apart_eqb}
 use Rattle.basket_sets.proofs.theory.Ranges.{range_more}
 use Rattle.mine_baskets.specs.declared.span.Span.{Span}
-use Rattle.mine_baskets.specs.Covers.{AreCovers, HasPlace, basket_at, covers_in, weights_of}
+use Rattle.mine_baskets.specs.Covers.{AreCovers, HasTid, basket_at, covers_in, weights_of}
 use Rattle.mine_baskets.specs.Span.{baskets_at}
 use Rattle.mine_baskets.specs.Span.{basket_at as span_at}
 
@@ -29,54 +30,54 @@ drop_rises xs zero up = up
 drop_rises [] (suc n) up = nil_rises
 drop_rises (x ∷ xs) (suc n) up = drop_rises xs n (rest_rises x xs up)
 
--- no place is added where there are no ranks
-pub no_place : (place : ℕ) (covers : List (List ℕ)) → HasPlace place [] covers covers
-no_place place covers = record { same = refl; at = λ rank below. sym (append-nil (get_or covers rank [])) }
+-- no tid is added where there are no ranks
+pub no_tid : (tid : ℕ) (covers : List (List ℕ)) → HasTid tid [] covers covers
+no_tid tid covers = record { same = refl; at = λ rank below. sym (append-nil (get_or covers rank [])) }
 
--- a place is added to the cover of the first rank, and then to those of the others
-module _ (place first : ℕ) (ranks : List ℕ) (up : IsRising (first ∷ ranks)) where
+-- a tid is added to the cover of the first rank, and then to those of the others
+module _ (tid first : ℕ) (ranks : List ℕ) (up : IsRising (first ∷ ranks)) where
   once : (rank : ℕ) → first ≡ rank → has ranks rank ≡ false
   once rank same = elim (cases_Bool (has ranks rank)) [
     | inl e ↦ absurd (let less = first_below first ranks up rank (Member-from_has ranks rank e) in omega (arith, same))
     | inr e ↦ e
   ]
 
-  first_place : (now end : List (List ℕ)) → first < length now → HasPlace place ranks (set now first (get_or now first [] ++ place ∷ [])) end → HasPlace place (first ∷ ranks) now end
-  first_place now end here later = record {
+  first_tid : (now end : List (List ℕ)) → first < length now → HasTid tid ranks (set now first (get_or now first [] ++ tid ∷ [])) end → HasTid tid (first ∷ ranks) now end
+  first_tid now end here later = record {
     same = later.same ∙ length-set now first added;
     at = λ rank low. later.at rank (subst (λ n. rank < n) (sym (length-set now first added)) low) ∙ (elim (cases_eq first rank) [
       | inl e ↦
-          ap (λ b. get_or (set now first added) rank [] ++ cond b (place ∷ []) []) (once rank e) ∙ append-nil (get_or (set now first added) rank [])
-          ∙ ap (λ k. get_or (set now first added) k []) (sym e) ∙ get_or-set_same now first added [] here ∙ ap (λ k. get_or now k [] ++ place ∷ []) e
-          ∙ sym (ap (λ b. get_or now rank [] ++ cond (b || has ranks rank) (place ∷ []) []) (eq-eqb first rank e))
+          ap (λ b. get_or (set now first added) rank [] ++ cond b (tid ∷ []) []) (once rank e) ∙ append-nil (get_or (set now first added) rank [])
+          ∙ ap (λ k. get_or (set now first added) k []) (sym e) ∙ get_or-set_same now first added [] here ∙ ap (λ k. get_or now k [] ++ tid ∷ []) e
+          ∙ sym (ap (λ b. get_or now rank [] ++ cond (b || has ranks rank) (tid ∷ []) []) (eq-eqb first rank e))
       | inr differ ↦
-          ap (λ l. l ++ cond (has ranks rank) (place ∷ []) []) (get_or-set_other now first rank added [] (λ same. differ (sym same)))
-          ∙ sym (ap (λ b. get_or now rank [] ++ cond (b || has ranks rank) (place ∷ []) []) (apart_eqb first rank differ))
+          ap (λ l. l ++ cond (has ranks rank) (tid ∷ []) []) (get_or-set_other now first rank added [] (λ same. differ (sym same)))
+          ∙ sym (ap (λ b. get_or now rank [] ++ cond (b || has ranks rank) (tid ∷ []) []) (apart_eqb first rank differ))
     ]);
   }
     where
       added : List ℕ
-      added = get_or now first [] ++ place ∷ []
+      added = get_or now first [] ++ tid ∷ []
 
   -- the same in vectors, one of which is changed
-  pub pushed_place : (covers : List (Vec ℕ Global)) (d pushed : Vec ℕ Global) (end : List (List ℕ)) → first < length covers → pushed.items ≡ (get_or covers first d).items ++ place ∷ []
-      → HasPlace place ranks (covers_in (set covers first pushed)) end → HasPlace place (first ∷ ranks) (covers_in covers) end
-  pushed_place covers d pushed end here is later =
-      first_place (covers_in covers) end (subst (λ n. first < n) (sym (length-covers_in covers)) here)
-      (subst (λ l. HasPlace place ranks l end) (map-set (λ (w : Vec ℕ Global). w.items) covers first pushed
-      ∙ ap (set (covers_in covers) first) (is ∙ ap (λ l. l ++ place ∷ []) (sym (covers_at covers first d here)))) later)
+  pub pushed_tid : (covers : List (Vec ℕ Global)) (d pushed : Vec ℕ Global) (end : List (List ℕ)) → first < length covers → pushed.items ≡ (get_or covers first d).items ++ tid ∷ []
+      → HasTid tid ranks (covers_in (set covers first pushed)) end → HasTid tid (first ∷ ranks) (covers_in covers) end
+  pushed_tid covers d pushed end here is later =
+      first_tid (covers_in covers) end (subst (λ n. first < n) (sym (length-covers_in covers)) here)
+      (subst (λ l. HasTid tid ranks l end) (map-set (λ (w : Vec ℕ Global). w.items) covers first pushed
+      ∙ ap (set (covers_in covers) first) (is ∙ ap (λ l. l ++ tid ∷ []) (sym (covers_at covers first d here)))) later)
 
--- the places of a rank below a number
-abbrev pub places_below : List Weighted → ℕ → ℕ → List ℕ
-places_below baskets places rank = filter (λ place. contains (basket_at baskets place) (rank ∷ [])) (range_with_len 0 places)
+-- the tids of a rank below a number
+abbrev pub tids_below : List Weighted → ℕ → ℕ → List ℕ
+tids_below baskets tids rank = filter (λ tid. contains (basket_at baskets tid) (rank ∷ [])) (range_with_len 0 tids)
 
 only_one : (b : Bool) → b ≡ (b && true)
 only_one true = refl
 only_one false = refl
 
--- one more place of each cover
+-- one more tid of each cover
 pub next_covers : (baskets : List Weighted) (n count : ℕ) (basket : List ℕ) (old new : List (List ℕ)) → basket ≡ basket_at baskets n → length old ≡ count
-    → ((rank : ℕ) → rank < count → get_or old rank [] ≡ places_below baskets n rank) → HasPlace n basket old new → (rank : ℕ) → rank < count → get_or new rank [] ≡ places_below baskets (n + 1) rank
+    → ((rank : ℕ) → rank < count → get_or old rank [] ≡ tids_below baskets n rank) → HasTid n basket old new → (rank : ℕ) → rank < count → get_or new rank [] ≡ tids_below baskets (n + 1) rank
 next_covers baskets n count basket old new is long so_far added rank low =
     added.at rank (omega (arith, low, long)) ∙ ap (λ l. l ++ cond (has basket rank) (n ∷ []) []) (so_far rank low)
     ∙ ap (λ b. filter test (range_with_len 0 n) ++ cond b (n ∷ []) []) (ap (λ b. has b rank) is ∙ only_one (has (basket_at baskets n) rank))
@@ -84,20 +85,20 @@ next_covers baskets n count basket old new is long so_far added rank low =
     ∙ filter-append test (range_with_len 0 n) (n ∷ []))
   where
     test : ℕ → Bool
-    test place = contains (basket_at baskets place) (rank ∷ [])
+    test tid = contains (basket_at baskets tid) (rank ∷ [])
 
--- the covers as far as all places go
-pub all_covers : (baskets : List Weighted) (places count : ℕ) (covers : List (Vec ℕ Global)) → places ≡ length baskets → length (covers_in covers) ≡ count
-    → ((rank : ℕ) → rank < count → get_or (covers_in covers) rank [] ≡ places_below baskets places rank) → AreCovers (record { ranks = count; baskets = baskets }) covers
-all_covers baskets places count covers all long at = record {
+-- the covers as far as all tids go
+pub all_covers : (baskets : List Weighted) (tids count : ℕ) (covers : List (Vec ℕ Global)) → tids ≡ length baskets → length (covers_in covers) ≡ count
+    → ((rank : ℕ) → rank < count → get_or (covers_in covers) rank [] ≡ tids_below baskets tids rank) → AreCovers (record { ranks = count; baskets = baskets }) covers
+all_covers baskets tids count covers all long at = record {
   long = sym (length-covers_in covers) ∙ long;
-  at = λ rank none low. sym (covers_at covers rank none (let same = length-covers_in covers in omega (arith, low, long))) ∙ at rank low ∙ ap (λ n. places_below baskets n rank) all;
+  at = λ rank none low. sym (covers_at covers rank none (let same = length-covers_in covers in omega (arith, low, long))) ∙ at rank low ∙ ap (λ n. tids_below baskets n rank) all;
 }
 
--- the basket at a place, where baskets are made of some elements
-pub basket_of : {X : Type 0} (f : X → Weighted) (xs : List X) (n : ℕ) (d : X) → n < length xs → basket_at (map f xs) n ≡ (f (get_or xs n d)).basket
-basket_of f xs n d here =
-    get_or-map (λ (p : Weighted). p.basket) (map f xs) n (f d) [] (subst (λ m. n < m) (sym (length-map xs f)) here) ∙ ap (λ (p : Weighted). p.basket) (get_or-map f xs n d (f d) here)
+-- the basket of a tid
+pub basket_of : (baskets : List Weighted) (n : ℕ) (basket : Weighted) → n < length baskets → basket ≡ get_or baskets n (weighted [] 0) → basket.basket ≡ basket_at baskets n
+basket_of baskets n basket here is =
+    ap (λ (p : Weighted). p.basket) is ∙ sym (get_or-map (λ (p : Weighted). p.basket) baskets n (weighted [] 0) [] here)
 
 -- ---- weights
 

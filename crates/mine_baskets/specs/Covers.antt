@@ -1,4 +1,4 @@
--- Covers: the places of the baskets that contain a set.
+-- Covers: the indexes of the baskets that contain a set, their tids.
 use Rattle.std.specs.Prelude.{◌≡◌, ◌<◌, ◌++◌, ℕ, List, [], ◌∷◌, filter, length, map, slice_index_or, if◌then◌else◌}
 use Rattle.std.specs.List.{range_with_len}
 use Rattle.std.specs.declared.vec.Vec.{Vec}
@@ -7,15 +7,15 @@ use Rattle.basket_sets.specs.declared.weighted.Weighted.{Weighted}
 use Rattle.basket_sets.specs.Itemset.{contains, has}
 use Rattle.mine_baskets.specs.ListBaskets.{RankBaskets}
 
--- the basket at a place
+-- the basket of a tid
 abbrev pub basket_at : List Weighted → ℕ → List ℕ
-basket_at baskets place = slice_index_or (map (λ p. p.basket) baskets) place []
+basket_at baskets tid = slice_index_or (map (λ p. p.basket) baskets) tid []
 
--- the cover of a set: the places, rising, whose baskets contain it
+-- the cover of a set: the tids, rising, whose baskets contain it
 abbrev pub cover_of : List Weighted → List ℕ → List ℕ
-cover_of baskets set = filter (λ place. contains (basket_at baskets place) set) (range_with_len 0 (length baskets))
+cover_of baskets set = filter (λ tid. contains (basket_at baskets tid) set) (range_with_len 0 (length baskets))
 
--- the weights of the places
+-- the weights of the baskets
 abbrev pub weights_of : List Weighted → List ℕ
 weights_of baskets = map (λ p. p.weight) baskets
 
@@ -23,10 +23,10 @@ weights_of baskets = map (λ p. p.weight) baskets
 abbrev pub covers_in : List (Vec ℕ Global) → List (List ℕ)
 covers_in covers = map (λ cover. cover.items) covers
 
--- covers where a place is added to those of the ranks of its basket
-pub record HasPlace (place : ℕ) (basket : List ℕ) (old new : List (List ℕ)) : Type 0 where
+-- covers where a tid is added to those of the ranks of its basket
+pub record HasTid (tid : ℕ) (basket : List ℕ) (old new : List (List ℕ)) : Type 0 where
   pub same : length new ≡ length old
-  pub at : (rank : ℕ) → rank < length old → slice_index_or new rank [] ≡ slice_index_or old rank [] ++ (if has basket rank then place ∷ [] else [])
+  pub at : (rank : ℕ) → rank < length old → slice_index_or new rank [] ≡ slice_index_or old rank [] ++ (if has basket rank then tid ∷ [] else [])
 
 -- the cover of each rank of baskets
 pub record AreCovers (value : RankBaskets) (covers : List (Vec ℕ Global)) : Type 0 where

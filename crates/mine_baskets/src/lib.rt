@@ -2,11 +2,12 @@
 //!
 //! `list_baskets` sorts coded baskets so that those with a common prefix are neighbours, and merges
 //! equal ones; `entries` has the keys by which they are sorted, and `span` is a part of the list
-//! that has all their ranks. If there are at most 64 ranks, `words` has the baskets as bits, which
-//! are sorted and merged faster than lists, and `word_baskets` keeps them. `covers` finds the cover
-//! of each rank in both.
+//! that has all their ranks. `baskets` is how they are lent. If there are at most 64 ranks, `words`
+//! has the baskets as bits, which are sorted and merged faster than lists, and `word_baskets` keeps
+//! them. `covers` finds the cover of each rank.
 #![tactic(auto)]
 
+mod baskets;
 mod covers;
 mod entries;
 mod list_baskets;
@@ -14,6 +15,7 @@ pub mod span;
 mod word_baskets;
 pub mod words;
 
+pub use baskets::{BASKETS_AHEAD, Baskets};
 pub use list_baskets::ListBaskets;
 pub use span::Span;
 pub use word_baskets::WordBaskets;

@@ -6,9 +6,6 @@ ghost use Rattle.mine_baskets.specs.Span.{IsWithin, span_front};
 
 use std::alloc::AllocError;
 
-/// The ends of this many baskets are read ahead.
-pub const BASKETS_AHEAD: usize = 16;
-
 /// A part of a list of ranks, from `start` up to `end`, which is a basket, and its weight.
 #[derive(Clone, Copy, Debug, PartialEq, Eq)]
 pub struct Span {
@@ -35,17 +32,6 @@ impl Span {
         Span { end, ..*self }
     }
 
-    /// A part of another list with the same weight.
-    pub fn moved(&self, start: u32, end: u32) -> Span
-        ensures { result ≡ record { start = start; end = end; weight = self.now.weight } }
-    {
-        Span {
-            start,
-            end,
-            ..*self
-        }
-    }
-
     /// Adds the weight of an equal neighbour.
     pub fn add_weight(&mut self, weight: u64)
         requires { self.old.weight + weight ≤ MOST_WEIGHT }
@@ -55,27 +41,12 @@ impl Span {
     }
 }
 
-/// A place in a list of ranks. More than 4,294,967,295 ranks count as out of memory.
-pub fn place(len: usize) -> Result<u32, AllocError>
-    ensures { IfOk result (λ place. place ≡ len) }
+/// An index in a list of ranks. More than 4,294,967,295 ranks count as out of memory.
+pub fn as_index(len: usize) -> Result<u32, AllocError>
+    ensures { IfOk result (λ index. index ≡ len) }
 {
     if len > u32::MAX as usize {
         return Err(AllocError);
     }
     Ok(len as u32)
-}
-
-/// The greater of the ranks at the ends of each of the next baskets. These lie far apart, and such reads
-/// don't wait for one another.
-pub fn read_ahead(ranks: &[u32], baskets: &[Span]) -> [u32; BASKETS_AHEAD] {
-    let mut end_ranks = [0u32; BASKETS_AHEAD];
-    for (rank, basket) in end_ranks.iter_mut().zip(baskets) {
-        *rank = rank_at(ranks, basket.start).max(rank_at(ranks, basket.end));
-    }
-    end_ranks
-}
-
-/// The rank at a place, or 0 if there is none.
-fn rank_at(ranks: &[u32], place: u32) -> u32 {
-    ranks.get(place as usize).copied().unwrap_or(0)
 }

@@ -1,4 +1,1 @@
 pub mod theory
-mod ClassLemmas
-mod TogetherLemmas
-mod MinedLemmas

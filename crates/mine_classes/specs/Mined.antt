@@ -1,13 +1,13 @@
 -- What a miner of classes returns, and what the results for all classes add up to.
-use Rattle.std.specs.Prelude.{◌≡◌, ◌≤◌, ◌<◌, ◌+◌, ◌-◌, ◌*◌, ◌^◌, ◌⊎◌, ℕ, Bool, false, Err, IfOk, IsTrue, List, [], ◌∷◌, OnOk, Result, length, map, slice_index_or}
+use Rattle.std.specs.Prelude.{◌≡◌, ◌≤◌, ◌<◌, ◌+◌, ◌-◌, ◌*◌, ◌^◌, ◌⊎◌, ℕ, Bool, false, Err, IfOk, IsTrue, List, [], ◌∷◌, OnOk, Result, filter, length, map, slice_index_or}
 use Rattle.std.specs.List.{flat_map, range_with_len, sum_by}
 use Rattle.basket_sets.specs.declared.weighted.Weighted.{Weighted}
 use Rattle.basket_sets.specs.declared.minimum.Minimum.{Minimum}
 use Rattle.basket_sets.specs.declared.counted.Counted.{Counted}
 use Rattle.mine_limit.specs.declared.fault.MineFault.{MineFault}
 use Rattle.mine_limit.specs.declared.fault.MineFault.TheVariants.{TooMany}
-use Rattle.basket_ranks.specs.Codes.{Coding, IsCoding, baskets_of, coding_of, decoded_set, frequent_of_coding, merged_coding}
-use Rattle.basket_sets.specs.Frequent.{ListsOnce, is_frequent}
+use Rattle.basket_ranks.specs.Codes.{Coding, IsCoding, baskets_of, coding_of, decoded_set, merged_coding}
+use Rattle.basket_sets.specs.Frequent.{ListsOnce, frequent_of, is_frequent}
 use Rattle.mine_classes.specs.Classes.{ListsClass, class_of}
 
 -- the sets of a class of coded baskets as items, each once with its support, in any order
@@ -55,7 +55,7 @@ abbrev pub ClassItemsAreAll : Type 0
 ClassItemsAreAll = (coding : Coding) (classes : List (List Counted)) → IsCoding coding → length classes ≡ length coding.items
     → ListClassItems coding classes → ListsOnce (baskets_of coding) coding.minimum (flat_map (λ class. class) classes)
 
--- the sizes of all classes add up to the number of frequent sets
-abbrev pub ClassSizesAddUp : Type 0
-ClassSizesAddUp = (coding : Coding) → IsCoding coding
-    → sum_by (class_size coding) (range_with_len 0 (length coding.items)) ≡ length (frequent_of_coding coding)
+-- for any test of a set with its support: as many sets of all classes pass it, added up, as frequent sets
+abbrev pub ClassesAddUp : Type 0
+ClassesAddUp = (coding : Coding) (test : Counted → Bool) → IsCoding coding
+    → sum_by (λ rank. length (filter test (class_of coding.baskets coding.minimum rank))) (range_with_len 0 (length coding.items)) ≡ length (filter test (frequent_of coding.baskets coding.minimum))

@@ -1,9 +1,8 @@
 -- Whether baskets are a single branch, by the lengths of the paths of their runs.
-use Rattle.std.proofs.Common.{◌≡◌, ℕ, ◌+◌, ◌-◌, ◌<◌, ◌≤◌, Bool, true, false, List, [], ◌∷◌, filter, length, cond, drop, eqb, ltb, refl, sym, ap, ◌∙◌, subst, inl, inr, arith, zero, suc}
+use Rattle.std.proofs.Common.{◌≡◌, ℕ, ◌+◌, ◌-◌, ◌<◌, ◌≤◌, Bool, true, false, List, [], ◌∷◌, filter, length, cond, eqb, ltb, refl, sym, ap, ◌∙◌, subst, inl, inr, arith, zero, suc}
 use Rattle.std.specs.Prelude.{not}
-use Rattle.std.specs.List.{list_all, range_with_len, slice_range}
+use Rattle.std.specs.List.{list_all, range_with_len}
 use Rattle.std.proofs.lemmas.Bool.{cases_Bool, cases_lt, eq-eqb, eqb-true, lt-ltb, true≢false}
-use Rattle.std.proofs.lemmas.List.{length-drop, length-take}
 use Rattle.std.proofs.lemmas.List.Elements.{recursion_from_All}
 use Rattle.std.proofs.lemmas.List.FromFn.{length-range_with_len}
 use Rattle.std.proofs.lemmas.List.Sums.{sum_by-cons}
@@ -16,9 +15,12 @@ use Rattle.basket_sets.proofs.theory.Rising.{contains_each, first_below, has-fro
 use Rattle.basket_sets.proofs.theory.Tests.{all_of, each_of}
 use Rattle.basket_sets.proofs.theory.Ranges.{Member-range, range_rises}
 use Rattle.mine_baskets.specs.declared.span.Span.{Span}
-use Rattle.mine_baskets.specs.ListBaskets.{AreRankBaskets, IsRankBasket, RankBaskets, weight_where}
-use Rattle.mine_pairs.specs.Runs.{AreRunsOf, below}
-use Rattle.mine_baskets.specs.Span.{IsWithin, basket_at, baskets_at}
+use Rattle.mine_baskets.specs.declared.baskets.Baskets.{Baskets}
+use Rattle.mine_baskets.specs.Baskets.{baskets_in}
+use Rattle.mine_baskets.specs.ListBaskets.{AreRankBaskets, HaveSameWeights, IsRankBasket, RankBaskets, weight_where}
+use Rattle.mine_pairs.specs.Runs.{below}
+use Rattle.mine_baskets.specs.Span.{IsWithin, basket_at}
+use Rattle.mine_pairs.proofs.theory.Runs.{length-range}
 use Rattle.mine_conditional.proofs.theory.Branches.{AreHeavy, IsFullAt, from_picked, into_picked}
 use Rattle.mine_conditional.specs.Paths.{is_branch}
 
@@ -86,12 +88,13 @@ pub branch_from_full : (count : ℕ) (baskets : List Weighted) → ((place : Wei
 branch_from_full count baskets low full = all_of (λ (p : Weighted). list_all (λ r. contains p.basket (range_with_len 0 r)) p.basket) baskets (λ place m.
     all_of (λ r. contains place.basket (range_with_len 0 r)) place.basket (λ r n. let here = has-from_Member place.basket r n in full r (low place m r here) place m here))
 
-length-part : (ranks : List ℕ) (run : Span) → IsWithin (length ranks) run → length (slice_range ranks run.start run.end) ≡ run.end - run.start
-length-part ranks run within =
-    let ordered = within.ordered in let inside = within.within in
-    omega (arith, length-take (run.end - run.start) (drop run.start ranks), length-drop run.start ranks)
+module _ (value : RankBaskets) (rank : ℕ) (paths : Baskets) (count : paths.count ≡ rank) (weights : HaveSameWeights (below rank value.baskets) (baskets_in paths)) (ranked : AreRankBaskets value) where
+  abbrev ranks : List ℕ
+  ranks = paths.ranks.now
 
-module _ (ranks : List ℕ) (value : RankBaskets) (rank : ℕ) (runs : List Span) (are : AreRunsOf ranks value.baskets rank runs) (ranked : AreRankBaskets value) where
+  abbrev runs : List Span
+  runs = paths.spans.now
+
   abbrev lacks : List ℕ → Bool
   lacks basket = not (contains basket (range_with_len 0 rank))
 
@@ -105,13 +108,13 @@ module _ (ranks : List ℕ) (value : RankBaskets) (rank : ℕ) (runs : List Span
   lower_part place = weighted (filter (λ other. ltb other rank) place.basket) place.weight
 
   abbrev places : List Weighted
-  places = baskets_at ranks runs
+  places = baskets_in paths
 
   run_basket : (place : Weighted) → Member place places → IsRankBasket rank place
-  run_basket place m = at_Member (IsRankBasket rank) place places (recursion_from_All (IsRankBasket rank) places are.places) m
+  run_basket place m = subst (λ n. IsRankBasket n place) count (at_Member (IsRankBasket paths.count) place places (recursion_from_All (IsRankBasket paths.count) places paths.ranked.places) m)
 
   run_within : (run : Span) → Member run runs → IsWithin (length ranks) run
-  run_within run m = at_Member (IsWithin (length ranks)) run runs (recursion_from_All (IsWithin (length ranks)) runs are.within) m
+  run_within run m = at_Member (IsWithin (length ranks)) run runs (recursion_from_All (IsWithin (length ranks)) runs paths.within) m
 
   heavy : AreHeavy value.baskets
   heavy place m = (at_Member (IsRankBasket value.ranks) place value.baskets (recursion_from_All (IsRankBasket value.ranks) value.baskets ranked.places) m).weighs
@@ -136,7 +139,7 @@ module _ (ranks : List ℕ) (value : RankBaskets) (rank : ℕ) (runs : List Span
   whole_full run m h =
       let place = basket_at ranks run in
       let n = Member-map (basket_at ranks) run runs m in
-      let long = length-part ranks run (run_within run m) ∙ eqb-true (run.end - run.start) rank h in
+      let long = length-range ranks run (run_within run m) ∙ eqb-true (run.end - run.start) rank h in
       ap not (contains_each place.basket (range_with_len 0 rank) (λ z k. fills rank 0 place.basket (run_basket place n).rises (in_range place n) long z (omega arith) (let less = (Member-range 0 rank z k).1 in omega arith)))
 
   full_whole : (run : Span) → Member run runs → lacks (basket_at ranks run).basket ≡ false → is_whole run ≡ true
@@ -145,14 +148,14 @@ module _ (ranks : List ℕ) (value : RankBaskets) (rank : ℕ) (runs : List Span
       let n = Member-map (basket_at ranks) run runs m in
       let short = at_most rank 0 place.basket (run_basket place n).rises (in_range place n) in
       let more = length-le-contains (range_with_len 0 rank) place.basket (range_rises 0 rank) (run_basket place n).rises (has_each place.basket (range_with_len 0 rank) (not_lacking place.basket h)) in
-      eq-eqb (run.end - run.start) rank (omega (arith, length-part ranks run (run_within run m), short, more, length-range_with_len 0 rank))
+      eq-eqb (run.end - run.start) rank (omega (arith, length-range ranks run (run_within run m), short, more, length-range_with_len 0 rank))
 
   pub full_by_runs : list_all is_whole runs ≡ true → IsFullAt rank value.baskets
   full_by_runs h place m here =
       let none : weight_where lacks places ≡ 0 = no_weight lacks places (λ p n.
       let r = Member-from_map (basket_at ranks) p runs n in
       ap (λ (q : Weighted). lacks q.basket) (sym r.2) ∙ whole_full r.0 r.1 (each_of is_whole runs h r.0 r.1)) in
-      let lower = not_lacking (lower_part place).basket (weightless lacks (below rank value.baskets) below_heavy (are.weights lacks ∙ none) (lower_part place) (into_picked has_rank lower_part value.baskets place m here)) in
+      let lower = not_lacking (lower_part place).basket (weightless lacks (below rank value.baskets) below_heavy (weights lacks ∙ none) (lower_part place) (into_picked has_rank lower_part value.baskets place m here)) in
       contains_each place.basket (range_with_len 0 rank) (λ r n.
       (Member-filter (λ other. ltb other rank) r place.basket (has_each (lower_part place).basket (range_with_len 0 rank) lower r n)).0)
 
@@ -162,4 +165,4 @@ module _ (ranks : List ℕ) (value : RankBaskets) (rank : ℕ) (runs : List Span
       let r = from_picked has_rank lower_part value.baskets p n in
       ap (λ (q : Weighted). lacks q.basket) (sym r.3) ∙ ap not (lower_contains r.0 (full r.0 r.1 r.2))) in
       all_of is_whole runs (λ run m.
-      full_whole run m (weightless lacks places (λ p n. (run_basket p n).weighs) (sym (are.weights lacks) ∙ none) (basket_at ranks run) (Member-map (basket_at ranks) run runs m)))
+      full_whole run m (weightless lacks places (λ p n. (run_basket p n).weighs) (sym (weights lacks) ∙ none) (basket_at ranks run) (Member-map (basket_at ranks) run runs m)))

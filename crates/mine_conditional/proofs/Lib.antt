@@ -1,7 +1,7 @@
 pub mod theory
 mod BitLemmas
 mod BranchLemmas
-mod PlaceLemmas
+mod NumberLemmas
 mod RankSumLemmas
 mod ShiftLemmas
 mod WordPathLemmas

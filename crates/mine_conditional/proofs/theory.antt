@@ -1,2 +1,3 @@
--- What the proofs of every crate may cite of single branches.
+-- What the proofs of every crate may cite of single branches, and of the numbers of ranks.
 pub mod Branches
+pub mod Numbers

@@ -17,7 +17,7 @@ form_baskets (Words words) = words
 
 -- whether each basket that has a rank has the lower ones too: the prefix tree of such baskets is a single branch
 abbrev pub is_branch : List Weighted → Bool
-is_branch baskets = list_all (λ place. list_all (λ rank. contains place.basket (range_with_len 0 rank)) place.basket) baskets
+is_branch baskets = list_all (λ basket. list_all (λ rank. contains basket.basket (range_with_len 0 rank)) basket.basket) baskets
 
 -- a run ends where it starts or later
 abbrev pub IsOrdered : Span → Type 0

@@ -5,19 +5,19 @@ ghost use Rattle.basket_sets.specs.Counts.{AllBelow};
 ghost use Rattle.basket_sets.specs.Database.{MOST_WEIGHT};
 ghost use Rattle.basket_sets.specs.Itemset.{IsRising};
 ghost use Rattle.mine_baskets.specs.declared.words.Word.{Word as Bits};
-ghost use Rattle.mine_baskets.specs.ListBaskets.{AreRankBaskets, HaveSameWeights};
-ghost use Rattle.mine_baskets.specs.Span.{IsWithin, baskets_at};
+ghost use Rattle.mine_baskets.specs.Baskets.{baskets_in};
+ghost use Rattle.mine_baskets.specs.ListBaskets.{HaveSameWeights};
 ghost use Rattle.mine_baskets.specs.Words.{word_places};
 ghost use Rattle.mine_conditional.specs.BitTable.{AreBits, table_bits, table_word};
 
-use mine_baskets::span::{BASKETS_AHEAD, Span, read_ahead};
 use mine_baskets::words::{WORD_RANKS, Word, add, bit_of};
+use mine_baskets::{BASKETS_AHEAD, Baskets};
 use std::alloc::{AllocError, Global};
 
 /// A list of at most this many ranks is in the nearest cache, so nothing is read ahead.
 pub const NEAR_RANKS: usize = 16_384;
 
-/// Sets the bit of each rank's place in the list.
+/// Sets the bit of each rank's index in the list.
 pub fn set_bits(of: &mut [u64], kept: &[u32])
     requires none { of.old ≡ replicate (length of.old) 0 }
     requires rises { IsRising kept.now }
@@ -27,17 +27,6 @@ pub fn set_bits(of: &mut [u64], kept: &[u32])
 {
     for (at, rank) in kept.iter().enumerate() {
         of[*rank as usize] = bit_of(at);
-    }
-}
-
-/// Clears the bits of the list.
-pub fn clear_bits(of: &mut [u64], kept: &[u32])
-    requires bits { AreBits kept.now of.old }
-    requires below { AllBelow (length of.old) kept.now }
-    ensures { of.new ≡ replicate (length of.old) 0 }
-{
-    for rank in kept {
-        of[*rank as usize] = 0;
     }
 }
 
@@ -53,31 +42,24 @@ fn bits_of(of: &[u64], basket: &[u32]) -> u64
     bits
 }
 
-/// The baskets, which are parts of a list of ranks, as the bits that a table has for their ranks, equal
-/// neighbours merged.
-pub fn words_of(
-    alloc: Global,
-    of: &[u64],
-    ranks: &[u32],
-    baskets: &[Span],
-) -> Result<Vec<Word>, AllocError>
-    requires within { All (IsWithin (length ranks.now)) baskets.now }
-    requires ranked { AreRankBaskets (record { ranks = length of.now; baskets = baskets_at ranks.now baskets.now }) }
+/// The baskets as the bits that a table has for their ranks, equal neighbours merged.
+pub fn words_of(alloc: Global, of: &[u64], baskets: Baskets<'_>) -> Result<Vec<Word>, AllocError>
+    requires { baskets.count ≤ length of.now }
     ensures some { IfOk result (λ words. All (λ (word : Bits). 1 ≤ word.weight) words.items) }
     ensures light { IfOk result (λ words. sum_by (λ (word : Bits). word.weight) words.items ≤ MOST_WEIGHT) }
-    ensures weights { IfOk result (λ words. (count : ℕ) → HaveSameWeights (word_places count (map (table_word of.now) (baskets_at ranks.now baskets.now))) (word_places count words.items)) }
+    ensures weights { IfOk result (λ words. (count : ℕ) → HaveSameWeights (word_places count (map (table_word of.now) (baskets_in baskets.entry))) (word_places count words.items)) }
 {
     let mut words = Vec::with_capacity(alloc, baskets.len())?;
     let mut end_ranks = [0u32; BASKETS_AHEAD];
-    let is_far = ranks.len() > NEAR_RANKS;
-    for (place, basket) in baskets.iter().enumerate() {
-        if is_far && place % BASKETS_AHEAD == 0 {
-            end_ranks = read_ahead(ranks, &baskets[place..]);
+    let is_far = baskets.ranks.len() > NEAR_RANKS;
+    for index in 0..baskets.len() {
+        if is_far && index % BASKETS_AHEAD == 0 {
+            end_ranks = baskets.read_ahead(index);
         }
         // What was read has bits in the table: it never asks for room.
-        words.reserve(usize::from(end_ranks[place % BASKETS_AHEAD] as usize >= of.len()))?;
-        let bits = bits_of(of, basket.of(ranks));
-        let weight = basket.weight;
+        words.reserve(usize::from(end_ranks[index % BASKETS_AHEAD] as usize >= of.len()))?;
+        let (basket, weight) = baskets.at(index);
+        let bits = bits_of(of, basket);
         add(&mut words, Word { bits, weight })?;
     }
     Ok(words)

@@ -52,13 +52,13 @@ impl Conditional {
         ensures below { IfOk result (λ below. IsConditional runs.now.baskets least rank (conditional_baskets below)) }
         ensures places { places.new ≡ places.old }
     {
-        let (ranks, paths) = runs.of_rank(rank);
+        let paths = runs.of_rank(rank);
         if pairs.len() <= 1 {
             let below = below_few(alloc, runs.support(rank), pairs)?;
             return Ok(Conditional::Words(below));
         }
         let kept = ranks_of(alloc, pairs)?;
-        let below = places.coded(alloc, &kept, ranks, paths)?;
+        let below = places.coded(alloc, &kept, paths)?;
         Ok(below)
     }
 }

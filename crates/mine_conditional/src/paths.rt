@@ -150,8 +150,8 @@ fn have_whole_paths(runs: &Runs) -> bool
     ensures { result ≡ is_branch runs.now.baskets }
 {
     for rank in 0..runs.ranks() {
-        let (_ranks, own) = runs.of_rank(rank);
-        if !are_whole(own, rank) {
+        let paths = runs.of_rank(rank);
+        if !are_whole(paths.spans, rank) {
             return false;
         }
     }

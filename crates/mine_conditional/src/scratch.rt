@@ -6,7 +6,7 @@ use crate::local_numbers::LocalNumbers;
 use mine_pairs::Sums;
 use std::alloc::{AllocError, Global};
 
-/// A place and a sum for each rank, used again from rank to rank, and by databases of fewer ranks.
+/// A local number and a sum for each rank, used again from rank to rank, and by databases of fewer ranks.
 #[derive(Debug, Drop)]
 pub struct ClassScratch {
     pub sums: Sums,

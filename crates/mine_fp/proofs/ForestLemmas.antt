@@ -13,8 +13,6 @@ use Rattle.basket_sets.specs.Support.{support_of}
 use Rattle.basket_sets.proofs.theory.Ranges.{Member-into_range, Member-range, range_rises}
 use Rattle.basket_sets.proofs.theory.Rising.{Member-from_has, has-from_Member}
 use Rattle.basket_sets.proofs.theory.Support.{support_falls}
-use Rattle.mine_classes.specs.Classes.{ClassesAreListed}
-use Rattle.mine_classes.specs.Conditional.{ConditionalSupports}
 use Rattle.mine_pairs.specs.Pairs.{pairs_of}
 use Rattle.mine_fp.specs.declared.pattern_base.PatternBase.{PatternBase}
 use Rattle.mine_fp.specs.Forest.{IsForest}
@@ -93,27 +91,27 @@ module _ {all : PatternBase} (is : IsForest all) where
     none_of_rank : pairs_of all.paths.baskets all.least rank ≡ [] → kept (of_rank (supports_in coding all.least) rank) ≡ []
     none_of_rank none = subst (λ node. kept node ≡ []) node_is (none_are_kept numbered rank (inside rank here) none)
 
-    base_of_rank : ConditionalSupports → (below : PatternBase) → IsBelow all rank below → IsBase below (of_rank (supports_in coding all.least) rank)
-    base_of_rank law below is_below = subst (IsBase below) node_is (record {
-      numbered = numbered_below numbered rank (inside rank here) law below is_below;
-      ranks = ranks_are_kept numbered rank (inside rank here) law below is_below;
-      supports = supports_are_kept numbered rank (inside rank here) law below is_below
+    base_of_rank : (below : PatternBase) → IsBelow all rank below → IsBase below (of_rank (supports_in coding all.least) rank)
+    base_of_rank below is_below = subst (IsBase below) node_is (record {
+      numbered = numbered_below numbered rank (inside rank here) below is_below;
+      ranks = ranks_are_kept numbered rank (inside rank here) below is_below;
+      supports = supports_are_kept numbered rank (inside rank here) below is_below
           ∙ (λ i. map (λ r. support_of (sym is_below.coded i).now.baskets (r ∷ get_or (ranks_of all) rank 0 ∷ [])) (kept (child top (get_or (ranks_of all) rank 0))));
       first = ([], refl);
       tree = refl;
     })
 
     -- so it begins a search for its class
-    pub class_of_rank : ConditionalSupports → {below : Option PatternBase} {one : ℕ × ℕ} → one ≡ get_or all.ranks.items rank one → all.least ≤ one.1 → IfNone below (pairs_of all.paths.baskets all.least rank ≡ [])
+    pub class_of_rank : {below : Option PatternBase} {one : ℕ × ℕ} → one ≡ get_or all.ranks.items rank one → all.least ≤ one.1 → IfNone below (pairs_of all.paths.baskets all.least rank ≡ [])
         → IfSome below (IsBelow all rank) → IsClass IsBase coding rank one.1 below (supports_in coding all.least)
-    class_of_rank law is_at enough none some = record {
+    class_of_rank is_at enough none some = record {
       over_coding = over_coding;
       supported = entry_support rank here is_at;
       frequent = enough;
-      some = λ inner e. base_of_rank law inner (subst (λ o. IfSome o (IsBelow all rank)) e some);
+      some = λ inner e. base_of_rank inner (subst (λ o. IfSome o (IsBelow all rank)) e some);
       none = λ e. none_of_rank (subst (λ o. IfNone o (pairs_of all.paths.baskets all.least rank ≡ [])) e none);
     }
 
     -- and that search makes the trees of the class
-    pub trees_made : ClassesAreListed → {one : ℕ × ℕ} → one ≡ get_or all.ranks.items rank one → all.least ≤ one.1 → 1 + work_at (of_rank (supports_in coding all.least) rank) ≡ class_trees coding rank
-    trees_made listed {one} is_at enough = trees_are coding rank listed all.least over_coding (le-leb all.least (support_of coding.baskets (rank ∷ [])) (omega (arith, enough, entry_support rank here is_at)))
+    pub trees_made : {one : ℕ × ℕ} → one ≡ get_or all.ranks.items rank one → all.least ≤ one.1 → 1 + work_at (of_rank (supports_in coding all.least) rank) ≡ class_trees coding rank
+    trees_made {one} is_at enough = trees_are coding rank all.least over_coding (le-leb all.least (support_of coding.baskets (rank ∷ [])) (omega (arith, enough, entry_support rank here is_at)))

@@ -2,9 +2,7 @@ mod ForestLemmas
 mod BranchLemmas
 mod NodeLemmas
 mod BaseLemmas
-mod TreeCountLemmas
 mod StraightLemmas
-mod InnerLemmas
 mod NumberLemmas
 mod PatternLemmas
 mod TreesLemmas

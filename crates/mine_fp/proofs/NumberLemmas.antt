@@ -2,7 +2,7 @@
 use Rattle.std.proofs.Common.{◌≡◌, ℕ, ◌<◌, ◌≤◌, Bool, true, ◌&&◌, List, [], ◌∷◌, ◌++◌, leb, get_or, length, map, refl, sym, ap, ◌∙◌, subst, inl, inr, arith, append_assoc}
 use Rattle.std.specs.List.{range_with_len}
 use Rattle.std.proofs.lemmas.Bool.{cases_order, le-leb, leb-true, lt-ltb}
-use Rattle.std.proofs.lemmas.List.{get_or-map, get_or_default, length-map, map-append}
+use Rattle.std.proofs.lemmas.List.{get_or_default, length-map, map-append}
 use Rattle.std.proofs.lemmas.List.Elements.{recursion_from_All}
 use Rattle.basket_ranks.specs.Codes.{Coding, IsCodedPlace, IsCoding}
 use Rattle.basket_sets.specs.declared.weighted.Weighted.{Weighted}
@@ -18,13 +18,13 @@ use Rattle.basket_sets.proofs.theory.Ranges.{Member-range}
 use Rattle.basket_sets.proofs.theory.Rising.{Member-from_has, cons_rises, first_below, has-from_Member, nil_rises, rest_rises, same_rising}
 use Rattle.basket_sets.proofs.theory.Support.{support_falls}
 use Rattle.basket_sets.proofs.theory.Tests.{Member-at, rising_at}
-use Rattle.mine_classes.specs.Conditional.{ConditionalSupports, is_kept}
+use Rattle.mine_classes.specs.Conditional.{is_kept}
 use Rattle.mine_pairs.specs.Pairs.{kept_ranks, named_pair, pairs_of}
 use Rattle.mine_classes.proofs.theory.Conditional.{support_with}
 use Rattle.mine_pairs.proofs.theory.Kept.{Member-kept, met_alone, kept_rises, kept_below as below_kept, pair_ranks as first_ranks}
 use Rattle.mine_fp.specs.declared.pattern_base.PatternBase.{PatternBase}
 use Rattle.mine_fp.specs.PatternBase.{IsBelow, IsNumbered, named, ranks_of, supports_in}
-use Rattle.mine_fp.proofs.InnerLemmas.{support_below}
+use Rattle.mine_conditional.proofs.theory.Numbers.{named_among, named_twice, support_below}
 use Rattle.mine_fp.proofs.StraightLemmas.{ArePlain}
 use Rattle.mine_search.specs.Node.{Node, child, is_met, kept}
 use Rattle.mine_search.proofs.theory.Walk.{kept_has, kept_lower, kept_passes, kept_rises as walk_rises}
@@ -162,20 +162,14 @@ module _ {base : PatternBase} {node : Node} (is : IsNumbered base node) where
         ∷ pair_supports numbers (λ j h. low j (has-from_Member (k ∷ numbers) j (inr (Member-from_has numbers j h)))) i)
 
     -- its numbers are numbers of the greater pattern base
-    named_twice : (numbers : List ℕ) → AllBelow (length chosen) numbers → named (map rank_of chosen) numbers ≡ named ranks (named chosen numbers)
-    named_twice [] low = refl
-    named_twice (k ∷ numbers) low = λ i. get_or-map rank_of chosen k 0 0 (low k (has-from_Member (k ∷ numbers) k (inl refl))) i ∷ named_twice numbers (λ j h. low j (has-from_Member (k ∷ numbers) j (inr (Member-from_has numbers j h)))) i
-
     numbers_low : (numbers : List ℕ) → AllBelow (length chosen) numbers → AllBelow count (named chosen numbers ++ number ∷ [])
     numbers_low numbers low j h = elim (Member-append j (named chosen numbers) (number ∷ []) (Member-from_has (named chosen numbers ++ number ∷ []) j h)) [
-      | inl m ↦
-          (let d = Member-from_map (λ k. get_or chosen k 0) j numbers m in
-          chosen_low j (has-from_Member chosen j (subst (λ z. Member z chosen) d.2 (Member-at chosen d.0 (low d.0 (has-from_Member numbers d.0 d.1))))))
+      | inl m ↦ chosen_low j (has-from_Member chosen j (named_among chosen numbers low j m))
       | inr (inl e) ↦ subst (λ n. n < count) e here
       | inr (inr m) ↦ absurd m
     ]
 
-    module _ (law : ConditionalSupports) (below : PatternBase) (is_below : IsBelow base number below) where
+    module _ (below : PatternBase) (is_below : IsBelow base number below) where
       below_ranks : ranks_of below ≡ map rank_of chosen
       below_ranks = ap (map (λ (pair : ℕ × ℕ). pair.0)) is_below.ranks ∙ pair_ranks chosen
 
@@ -189,10 +183,10 @@ module _ {base : PatternBase} {node : Node} (is : IsNumbered base node) where
       supports_below : (numbers : List ℕ) → AllBelow (length chosen) numbers → support_of coding.baskets (named (ranks_of below) numbers ++ rank ∷ node.set) ≡ support_of below.paths.baskets numbers
       supports_below numbers low =
           (λ i. support_of coding.baskets (named (below_ranks i) numbers ++ rank ∷ node.set))
-          ∙ (λ i. support_of coding.baskets (named_twice numbers low i ++ rank ∷ node.set))
+          ∙ (λ i. support_of coding.baskets (named_twice ranks chosen numbers low i ++ rank ∷ node.set))
           ∙ ap (support_of coding.baskets) (sym (append_assoc (named ranks (named chosen numbers)) (rank ∷ []) node.set) ∙ ap (λ l. l ++ node.set) (sym (map-append rank_of (named chosen numbers) (number ∷ []))))
           ∙ support_numbers (named chosen numbers ++ number ∷ []) (numbers_low numbers low)
-          ∙ sym (support_below paths base.least number below.paths is_below.conditional law numbers low)
+          ∙ sym (support_below paths base.least number below.paths is_below.conditional numbers low)
 
       pub numbered_below : IsNumbered below (child node rank)
       numbered_below = record {

@@ -14,14 +14,12 @@ use Rattle.basket_sets.proofs.theory.Ranges.{Member-into_range, Member-range}
 use Rattle.basket_sets.proofs.theory.Rising.{Member-from_has, contains_each, has-from_Member, has_each, same_test}
 use Rattle.basket_sets.proofs.theory.Tests.{Member-at, all_of, each_of}
 use Rattle.mine_baskets.specs.ListBaskets.{IsRankBasket}
-use Rattle.mine_classes.specs.Conditional.{ConditionalSupports}
 use Rattle.mine_conditional.specs.declared.scratch.ClassScratch.{ClassScratch}
 use Rattle.mine_conditional.specs.Paths.{is_branch}
 use Rattle.mine_pairs.proofs.theory.Kept.{kept_short}
 use Rattle.mine_fp.specs.declared.pattern_base.PatternBase.{PatternBase}
 use Rattle.mine_fp.specs.PatternBase.{HaveSlots, IsBase, IsBelow, KeepSlots, ranks_of}
 use Rattle.mine_fp.specs.Trees.{has_tree, is_straight}
-use Rattle.mine_fp.proofs.InnerLemmas.{ranked_plain}
 use Rattle.mine_fp.proofs.NumberLemmas.{more_below, none_below, number_of, numbered_below, numbers_less, plain, rank_of, ranks_are_kept, ranks_less, support_numbers, supports_are_kept, tests}
 use Rattle.mine_fp.proofs.StraightLemmas.{flat_from_straight, has_lower, has_more_too, same_support, straight_from_flat}
 use Rattle.mine_search.specs.Node.{Node, child, is_met, kept}
@@ -121,7 +119,7 @@ module _ {base : PatternBase} {node : Node} (is : IsBase base node) where
       ∙ flat_from_straight baskets base.coded.now.minimum node.below others (plain is.numbered) h (rank_of is.numbered i) (rank_of is.numbered j) (ranks_less is.numbered i j less there) (joins_number i here) (joins_number j there)
       ∙ one_support j there in
       has_each place.basket (i ∷ j ∷ [])
-      (has_more_too paths (i ∷ j ∷ []) (j ∷ []) (contains_each (i ∷ j ∷ []) (j ∷ []) (λ x o. inr o)) (λ p o. (ranked_plain base.paths is.numbered.ranked p o).1) same place m
+      (has_more_too paths (i ∷ j ∷ []) (j ∷ []) (contains_each (i ∷ j ∷ []) (j ∷ []) (λ x o. inr o)) (λ p o. (at_Member (IsRankBasket base.paths.ranks) p paths (recursion_from_All (IsRankBasket base.paths.ranks) paths is.numbered.ranked.places) o).weighs) same place m
       (contains_each place.basket (j ∷ []) (one place.basket j n))) i (inl refl))))
     where
       one : (basket : List ℕ) (j : ℕ) → Member j basket → (x : ℕ) → Member x (j ∷ []) → Member x basket
@@ -183,12 +181,12 @@ module _ {base : PatternBase} {node : Node} (is : IsBase base node) where
         ∙ ap (λ b. not b && has_tree baskets base.coded.now.minimum full) (branch_is ∙ branches)
         ∙ sym (ap (has_tree baskets base.coded.now.minimum) is.first.1) ∙ is.tree
 
-    pub base_below : ConditionalSupports → (number : ℕ) → number < length (ranks_of base) → (below : PatternBase) → IsBelow base number below → IsBase below (child node (rank_of is.numbered number))
-    base_below law number here below is_below = record {
-      numbered = numbered_below is.numbered number here law below is_below;
-      ranks = ranks_are_kept is.numbered number here law below is_below;
+    pub base_below : (number : ℕ) → number < length (ranks_of base) → (below : PatternBase) → IsBelow base number below → IsBase below (child node (rank_of is.numbered number))
+    base_below number here below is_below = record {
+      numbered = numbered_below is.numbered number here below is_below;
+      ranks = ranks_are_kept is.numbered number here below is_below;
       supports = (λ i. map (λ (pair : ℕ × ℕ). pair.1) below.ranks.items)
-          ∙ supports_are_kept is.numbered number here law below is_below
+          ∙ supports_are_kept is.numbered number here below is_below
           ∙ (λ i. map (λ r. support_of (sym is_below.coded i).now.baskets (r ∷ rank_of is.numbered number ∷ node.set)) (kept (child node (rank_of is.numbered number))));
       first = (node.set, refl);
       tree = subst (λ c. has_tree c.now.baskets c.now.minimum (rank_of is.numbered number ∷ node.set) ≡ true) (sym is_below.coded) (tree_more (rank_of is.numbered number));

@@ -38,11 +38,11 @@ begins (rank ∷ ranks) (first ∷ others) = rank == first && begins ranks other
 
 -- the weight of the paths that a path begins
 abbrev pub weight_begun : List ℕ → List Weighted → ℕ
-weight_begun path paths = sum_by (λ place. if begins path place.basket then place.weight else 0) paths
+weight_begun path paths = sum_by (λ one. if begins path one.basket then one.weight else 0) paths
 
 -- a path that is not empty and begins one of some paths
 abbrev pub BeginsOne : List Weighted → List ℕ → Type 0
-BeginsOne paths path = (path ≢ []) × ((place : Weighted) × Contains paths place × IsTrue (begins path place.basket))
+BeginsOne paths path = (path ≢ []) × ((one : Weighted) × Contains paths one × IsTrue (begins path one.basket))
 
 -- a tree stands for a list of weighted paths (Han, Pei and Yin 2000): no two nodes have one path, a path is a node's exactly where it begins one of the list, and the node's count is the weight of those that it begins
 pub record StandsFor (tree : Tree) (paths : List Weighted) : Type 0 where

@@ -1,7 +1,7 @@
 -- The conditional trees of FP-growth, by number.
-use Rattle.std.specs.Prelude.{◌≡◌, ◌||◌, ◌&&◌, not, ℕ, Bool, List, [], ◌∷◌, filter, length, nat_lt, if◌then◌else◌}
-use Rattle.std.specs.List.{flat_map, list_all, range_with_len, sum_by}
-use Rattle.basket_ranks.specs.Codes.{Coding, IsCoding}
+use Rattle.std.specs.Prelude.{◌||◌, ◌&&◌, not, ℕ, Bool, List, [], ◌∷◌, filter, length, nat_lt, if◌then◌else◌}
+use Rattle.std.specs.List.{flat_map, list_all}
+use Rattle.basket_ranks.specs.Codes.{Coding}
 use Rattle.basket_sets.specs.declared.weighted.Weighted.{Weighted}
 use Rattle.basket_sets.specs.declared.minimum.Minimum.{Minimum}
 use Rattle.basket_sets.specs.Frequent.{frequent_of, is_frequent}
@@ -17,7 +17,7 @@ joins baskets minimum (first ∷ others) rank = nat_lt rank first && is_frequent
 -- the baskets that contain a set, each kept to the ranks that join it
 abbrev pub paths_below : List Weighted → Minimum → List ℕ → List (List ℕ)
 paths_below baskets minimum set =
-    flat_map (λ place. if contains place.basket set then filter (joins baskets minimum set) place.basket ∷ [] else []) baskets
+    flat_map (λ one. if contains one.basket set then filter (joins baskets minimum set) one.basket ∷ [] else []) baskets
 
 -- whether of any two paths one begins the other
 abbrev pub is_one_branch : List (List ℕ) → Bool
@@ -44,7 +44,3 @@ class_trees coding rank = length (filter (λ c. has_tree coding.baskets coding.m
 -- and for all
 abbrev pub trees_of : Coding → ℕ
 trees_of coding = length (filter (λ c. has_tree coding.baskets coding.minimum c.set) (frequent_of coding.baskets coding.minimum))
-
--- the trees of all classes add up to those of the coded baskets
-abbrev pub ClassTreesAddUp : Type 0
-ClassTreesAddUp = (coding : Coding) → IsCoding coding → sum_by (class_trees coding) (range_with_len 0 (length coding.items)) ≡ trees_of coding

@@ -10,9 +10,6 @@ ghost use Rattle.mine_fp.specs.Trees.{class_trees};
 use crate::pattern_base::{PatternBase, Trees};
 use basket_core::{Coded, CountedSets};
 use mine_baskets::ListBaskets;
-use mine_classes::laws::{
-    classes_are_listed, conditional_supports, lists_have_class_size, rare_ranks_have_no_class,
-};
 use mine_conditional::{ClassScratch, Paths};
 use mine_limit::{MineFault, Tally};
 use mine_pairs::Runs;
@@ -120,10 +117,6 @@ pub fn fp_class_with<T: Tally>(
     ensures few { IfOk result (λ mined. mined.1 ≤ class_size forest.now rank) }
     ensures scratch { OnOk result (IsScratchOf (length forest.now.items) scratch.new) }
 {
-    classes_are_listed();
-    conditional_supports();
-    lists_have_class_size();
-    rare_ranks_have_no_class();
     let all = &forest.all;
     let support = all.ranks[rank as usize].1;
     if support < all.least {

@@ -1,9 +1,13 @@
 //! FP-growth (Han, Pei and Yin 2000): the classes of coded baskets, each grown within conditional
 //! databases, and read off if one is a single branch.
+//!
+//! ```
+//! let forest = Forest::of(alloc, coded)?;
+//! fp_class(alloc, &forest, rank, tally)
+//! ```
 #![tactic(auto)]
 
 mod forest;
-pub mod laws;
 mod pattern_base;
 mod tree;
 pub mod worked;

@@ -7,7 +7,6 @@ ghost use Rattle.mine_conditional.specs.Paths.{is_branch};
 ghost use Rattle.mine_fp.specs.PatternBase.{HaveSlots, IsBase, IsBelow, KeepSlots, ranks_of};
 
 use basket_core::Coded;
-use mine_classes::laws::conditional_supports;
 use mine_conditional::{ClassScratch, Paths};
 use mine_search::Projected;
 use std::alloc::{AllocError, Global};
@@ -104,14 +103,13 @@ impl<'a> Projected for PatternBase<'a> {
         self.ranks[at].1
     }
 
-    fn narrowed(
+    fn projected(
         &self,
         alloc: Global,
         at: usize,
         scratch: &mut ClassScratch,
         trees: &mut Trees,
     ) -> Result<Option<Self>, AllocError> {
-        conditional_supports();
         let below = self.below(alloc, at as u32, scratch, trees)?;
         Ok(below)
     }
@@ -142,7 +140,7 @@ fn rename(pairs: &mut [(u32, u64)], ranks: &[(u32, u64)])
     requires { AllBelow (length ranks.now) (map (λ pair. pair.0) pairs.old) }
     ensures { pairs.new ≡ map (named_pair (map (λ rank. rank.0) ranks.now)) pairs.old }
 {
-    for place in 0..pairs.len() {
-        pairs[place].0 = ranks[pairs[place].0 as usize].0;
+    for at in 0..pairs.len() {
+        pairs[at].0 = ranks[pairs[at].0 as usize].0;
     }
 }

@@ -53,8 +53,8 @@ impl FpTree {
         }
     }
 
-    /// Adds a path of some weight. All paths together weigh at most 2^40. The older nodes keep
-    /// their places.
+    /// Adds a path of some weight. All paths together weigh at most 2^40. The older nodes stay
+    /// where they are.
     #[tactic(auto, using(crate::proofs::BranchLemmas::longest_within))]
     pub fn insert(&mut self, path: &[u32], weight: u64) -> Result<(), AllocError>
         requires rises { IsRising path.now }
@@ -82,7 +82,7 @@ impl FpTree {
     /// For each node of the rank, in the order in which the nodes were made, the path above it and its
     /// count.
     pub fn base(&self, alloc: Global, rank: u32) -> Result<Vec<(Vec<u32>, u64)>, AllocError>
-        ensures { IfOk result (λ base. map (λ place. (place.0.items, place.1)) base.items ≡ base_of self.now rank) }
+        ensures { IfOk result (λ base. map (λ entry. (entry.0.items, entry.1)) base.items ≡ base_of self.now rank) }
     {
         let mut base = Vec::new(alloc);
         for node in &self.nodes {
@@ -96,7 +96,7 @@ impl FpTree {
 }
 
 /// A path without its last rank, if that is the given one.
-#[tactic(auto, using(crate::proofs::BaseLemmas::ends_push, crate::proofs::BaseLemmas::front_push))]
+#[tactic(auto, using(mine_classes::proofs::theory::Greatest::ends_push, crate::proofs::BaseLemmas::front_push))]
 fn above(path: &[u32], rank: u32) -> Option<&[u32]>
     ensures { MatchOption result (ends_in rank path.now ≡ false) (λ above. (ends_in rank path.now ≡ true) × (above.now ≡ front path.now)) }
 {
@@ -130,7 +130,7 @@ fn add_weight(ranks: &[u32], nodes: &mut [Node], path: &[u32], weight: u64) -> u
     known
 }
 
-/// The length of the common prefix of a path and the ranks from a place on.
+/// The length of the common prefix of a path and the ranks from an index on.
 fn shared_ranks(ranks: &[u32], start: usize, path: &[u32]) -> usize
     requires { start ≤ length ranks.now }
     ensures { result ≡ common_prefix_len nat_eq (drop start ranks.now) path.now }

@@ -1,34 +1,28 @@
 //! The runs of some ranks in baskets that follow one another.
-ghost use Rattle.std.specs.Prelude.{◌≡◌, ◌≤◌, ◌<◌, ◌+◌, ◌-◌, ℕ, [], All, IfOk, IsTrue, OnOk, length, replicate, slice_index, slice_index_or, sum_by, take};
-ghost use Rattle.std.specs.List.{slice_range};
+ghost use Rattle.std.specs.Prelude.{◌≡◌, ◌≤◌, ◌<◌, ◌+◌, ℕ, [], IfOk, IsTrue, OnOk, length, replicate, slice_index, slice_index_or, sum_by, take};
 ghost use Rattle.basket_sets.specs.Database.{MOST_WEIGHT};
 ghost use Rattle.basket_sets.specs.Itemset.{IsRising};
 ghost use Rattle.mine_baskets.specs.declared.span.Span.{Span as Run};
-ghost use Rattle.mine_baskets.specs.ListBaskets.{AreRankBaskets};
-ghost use Rattle.mine_baskets.specs.Span.{IsWithin, baskets_at};
+ghost use Rattle.mine_baskets.specs.Baskets.{baskets_in};
 ghost use Rattle.mine_pairs.specs.Runs.{HaveRuns, HaveRunsFrom, lists_in, with_run};
 
 use crate::rank_range::RankRange;
-use mine_baskets::span::Span;
+use mine_baskets::{Baskets, Span};
 use std::alloc::{AllocError, Global};
 
-/// The runs of each rank of a range in baskets that follow one another, which are parts of a list of
-/// ranks.
+/// The runs of each rank of a range in baskets that follow one another.
 pub fn runs_of_range(
     alloc: Global,
-    ranks: &[u32],
-    baskets: &[Span],
+    baskets: Baskets<'_>,
     range: RankRange,
 ) -> Result<Vec<Vec<Span>>, AllocError>
-    requires within { All (IsWithin (length ranks.now)) baskets.now }
-    requires ranked { (count : ℕ) × AreRankBaskets (record { ranks = count; baskets = baskets_at ranks.now baskets.now }) }
-    ensures { IfOk result (λ of. HaveRunsFrom range.first range.count ranks.now (baskets_at ranks.now baskets.now) (lists_in of.items)) }
+    ensures { IfOk result (λ of. HaveRunsFrom range.first range.count baskets.entry.ranks.now (baskets_in baskets.entry) (lists_in of.items)) }
 {
     let mut of = no_runs(alloc, range.count)?;
-    let mut last = &ranks[..0];
-    for basket in baskets {
-        let path = basket.of(ranks);
-        add_runs(&mut of, range, ranks, *basket, shared(last, path))?;
+    let mut last = &baskets.ranks[..0];
+    for basket in baskets.spans {
+        let path = basket.of(baskets.ranks);
+        add_runs(&mut of, range, path, *basket, shared(last, path))?;
         last = path;
     }
     Ok(of)
@@ -60,24 +54,23 @@ fn shared(a: &[u32], b: &[u32]) -> usize
     most
 }
 
-/// Adds the runs that ranks of the range have in a basket, which shares its first ranks with the basket
-/// before.
+/// Adds the runs that ranks of the range have in a basket with this path, which shares its first ranks
+/// with the basket before.
 fn add_runs(
     of: &mut [Vec<Span>],
     range: RankRange,
-    ranks: &[u32],
+    path: &[u32],
     basket: Span,
     shared: usize,
 ) -> Result<(), AllocError>
-    requires within { IsWithin (length ranks.now) basket }
-    requires rises { IsRising (slice_range ranks.now basket.start basket.end) }
+    requires whole { basket.start + length path.now ≡ basket.end }
+    requires rises { IsRising path.now }
     requires long { length of.old ≡ range.count }
-    requires there { (k n : ℕ) → k < shared → k < basket.end - basket.start → n < length of.old
-        → slice_index (slice_range ranks.now basket.start basket.end) k ≡ range.first + n → 0 < length (slice_index_or (lists_in of.old) n []) }
+    requires there { (k n : ℕ) → k < shared → k < length path.now → n < length of.old
+        → slice_index path.now k ≡ range.first + n → 0 < length (slice_index_or (lists_in of.old) n []) }
     requires light { (n : ℕ) → n < length of.old → sum_by (λ (other : Run). other.weight) (slice_index_or (lists_in of.old) n []) + basket.weight ≤ MOST_WEIGHT }
-    ensures { OnOk result (HaveRuns (slice_range ranks.now basket.start basket.end) basket shared (basket.end - basket.start) range.first (lists_in of.old) (lists_in of.new)) }
+    ensures { OnOk result (HaveRuns path.now basket shared (length path.now) range.first (lists_in of.old) (lists_in of.new)) }
 {
-    let path = basket.of(ranks);
     for (depth, rank) in path.iter().enumerate() {
         if let Some(number) = range.number(*rank) {
             let run = basket.first(depth as u32);

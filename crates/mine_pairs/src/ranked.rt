@@ -44,6 +44,6 @@ impl RankedBaskets for ListBaskets {
     }
 
     fn basket_at(&self, index: usize) -> (&[u32], u64) {
-        self.basket(index)
+        self.view().at(index)
     }
 }

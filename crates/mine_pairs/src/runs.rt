@@ -1,21 +1,16 @@
 //! The indexes of each rank in baskets that follow one another.
-ghost use Rattle.std.specs.Prelude.{◌≡◌, ◌≤◌, ◌<◌, ◌+◌, ◌-◌, ℕ, [], ◌∷◌, All, IfOk, IsTrue, OnOk, length, replicate, take, slice_index, slice_index_or, sum_by};
-ghost use Rattle.std.specs.List.{slice_range};
-ghost use Rattle.basket_sets.specs.Counts.{AllBelow};
-ghost use Rattle.basket_sets.specs.Database.{MOST_WEIGHT};
-ghost use Rattle.basket_sets.specs.Itemset.{IsRising};
+ghost use Rattle.std.specs.Prelude.{◌≡◌, ◌≤◌, ◌<◌, [], ◌∷◌, IfOk};
 ghost use Rattle.basket_sets.specs.Support.{support_of};
-ghost use Rattle.mine_baskets.specs.declared.span.Span.{Span as Run};
-ghost use Rattle.mine_baskets.specs.ListBaskets.{AreRankBaskets};
+ghost use Rattle.mine_baskets.specs.Baskets.{baskets_in};
+ghost use Rattle.mine_baskets.specs.ListBaskets.{AreRankBaskets, HaveSameWeights};
+ghost use Rattle.mine_baskets.specs.Span.{baskets_at};
 ghost use Rattle.mine_pairs.specs.Pairs.{pairs_of};
-ghost use Rattle.mine_pairs.specs.Runs.{ArePairsOf, AreRunsOf, HaveRunsFrom, HaveRuns, lists_in, with_run};
-ghost use Rattle.mine_baskets.specs.Span.{IsWithin, baskets_at};
+ghost use Rattle.mine_pairs.specs.Runs.{ArePairsOf, HaveRunsFrom, below, lists_in};
 
 use crate::rank_range::RankRange;
 use crate::rank_runs::runs_of_range;
 use crate::sums::Sums;
-use mine_baskets::ListBaskets;
-use mine_baskets::span::Span;
+use mine_baskets::{Baskets, ListBaskets, Span};
 use std::alloc::{AllocError, Global};
 use std::marker::Model;
 
@@ -37,7 +32,7 @@ pub struct Runs {
 
 impl Model for Runs {
     ghost use Rattle.mine_baskets.specs.ListBaskets.{RankBaskets, AreRankBaskets};
-    ghost use Rattle.mine_pairs.specs.Runs.{ArePairsOf, AreRunsOf, HaveRunsFrom, lists_in};
+    ghost use Rattle.mine_pairs.specs.Runs.{ArePairsOf, HaveRunsFrom, lists_in};
     ghost use Rattle.mine_baskets.specs.Span.{baskets_at};
 
     ghost Value = { RankBaskets };
@@ -55,8 +50,12 @@ impl Runs {
         ensures { IfOk result (λ runs. runs ≡ lists) }
     {
         let (count, ranks, baskets) = lists.into_parts();
-        let range = RankRange { first: 0, count };
-        let of = runs_of_range(alloc, &ranks, &baskets, range)?;
+        let all = Baskets {
+            count,
+            ranks: &ranks,
+            spans: &baskets,
+        };
+        let of = runs_of_range(alloc, all, RankRange { first: 0, count })?;
         Ok(Runs::with(alloc, count, ranks, baskets, of))
     }
 
@@ -100,13 +99,18 @@ impl Runs {
         self.count
     }
 
-    /// The ranks of all baskets, and the indexes of the runs of a rank among them.
-    pub fn of_rank(&self, rank: u32) -> (&[u32], &[Span])
+    /// The baskets that have a rank, kept to the ranks below it: the paths of its runs.
+    pub fn of_rank(&self, rank: u32) -> Baskets<'_>
         requires { rank < self.now.ranks }
-        ensures runs { AreRunsOf result.0.now self.now.baskets rank result.1.now }
+        ensures count { result.count ≡ rank }
+        ensures weights { HaveSameWeights (below rank self.now.baskets) (baskets_in result) }
         ensures ranked { AreRankBaskets self.now }
     {
-        (&self.ranks, &self.of[rank as usize])
+        Baskets {
+            count: rank,
+            ranks: &self.ranks,
+            spans: &self.of[rank as usize],
+        }
     }
 
     /// The support of a rank, which is the weight of its runs.
@@ -114,9 +118,9 @@ impl Runs {
         requires { rank < self.now.ranks }
         ensures { result ≡ support_of self.now.baskets (rank ∷ []) }
     {
-        let (_ranks, runs) = self.of_rank(rank);
+        let paths = self.of_rank(rank);
         let mut support = 0;
-        for run in runs {
+        for run in paths.spans {
             support += run.weight;
         }
         support
@@ -138,10 +142,7 @@ impl Runs {
     {
         match self.pairs.get(rank as usize) {
             Some(pairs) if self.least == least => pairs.to_vec(alloc),
-            _ => {
-                let (ranks, runs) = self.of_rank(rank);
-                sums.of_spans(alloc, ranks, runs, least)
-            }
+            _ => sums.of_baskets(alloc, self.of_rank(rank), least),
         }
     }
 }

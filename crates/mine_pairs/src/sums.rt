@@ -1,15 +1,14 @@
 //! Supports of pairs of ranks.
-ghost use Rattle.std.specs.Prelude.{◌≡◌, ◌≤◌, ◌<◌, ℕ, [], All, IfOk, OnOk, filter, length, map, replicate, slice_index};
+ghost use Rattle.std.specs.Prelude.{◌≡◌, ◌≤◌, ◌<◌, ℕ, [], IfOk, OnOk, filter, length, map, replicate, slice_index};
 ghost use Rattle.std.specs.List.{range_with_len};
 ghost use Rattle.basket_sets.specs.Counts.{AllBelow};
 ghost use Rattle.basket_sets.specs.Itemset.{rising};
-ghost use Rattle.mine_baskets.specs.ListBaskets.{AreRankBaskets};
+ghost use Rattle.mine_baskets.specs.Baskets.{baskets_in};
 ghost use Rattle.mine_pairs.specs.Sums.{AreSums, is_met, ranks_met, weight_with};
-ghost use Rattle.mine_baskets.specs.Span.{IsWithin, baskets_at};
 
 use crate::rank_list::RankList;
 use basket_sets::Itemset;
-use mine_baskets::span::{BASKETS_AHEAD, Span, read_ahead};
+use mine_baskets::{BASKETS_AHEAD, Baskets};
 use std::alloc::{AllocError, Global};
 use std::marker::Model;
 
@@ -43,20 +42,17 @@ impl Sums {
     }
 
     /// The ranks that occur in baskets of at least this much weight, rising, each with that weight.
-    /// The baskets are parts of the list of ranks.
-    pub fn of_spans(
+    pub fn of_baskets(
         &mut self,
         alloc: Global,
-        ranks: &[u32],
-        baskets: &[Span],
+        baskets: Baskets<'_>,
         least: u64,
     ) -> Result<Vec<(u32, u64)>, AllocError>
-        requires within { All (IsWithin (length ranks.now)) baskets.now }
-        requires ranked { AreRankBaskets (record { ranks = self.old; baskets = baskets_at ranks.now baskets.now }) }
-        ensures met { IfOk result (λ met. met.items ≡ ranks_met self.old least (baskets_at ranks.now baskets.now)) }
+        requires { baskets.count ≤ self.old }
+        ensures met { IfOk result (λ met. met.items ≡ ranks_met self.old least (baskets_in baskets.entry)) }
         ensures sums { self.new ≡ self.old }
     {
-        let summed = add_up(&mut self.sums, &mut self.found, ranks, baskets);
+        let summed = add_up(&mut self.sums, &mut self.found, baskets);
         let met = match summed {
             Ok(()) => met(alloc, &self.sums, self.found.items(), least),
             Err(error) => Err(error),
@@ -67,26 +63,20 @@ impl Sums {
 }
 
 /// Adds the weights of baskets to the sums of their ranks.
-fn add_up(
-    sums: &mut [u64],
-    found: &mut RankList,
-    ranks: &[u32],
-    baskets: &[Span],
-) -> Result<(), AllocError>
+fn add_up(sums: &mut [u64], found: &mut RankList, baskets: Baskets<'_>) -> Result<(), AllocError>
     requires zero { sums.old ≡ replicate (length sums.old) 0 }
     requires none { found.old ≡ [] }
-    requires within { All (IsWithin (length ranks.now)) baskets.now }
-    requires ranked { AreRankBaskets (record { ranks = length sums.old; baskets = baskets_at ranks.now baskets.now }) }
+    requires few { baskets.count ≤ length sums.old }
     ensures sums { AreSums (length sums.old) sums.new found.new }
-    ensures added { OnOk result ((rank : ℕ) → rank < length sums.old → slice_index sums.new rank ≡ weight_with rank (baskets_at ranks.now baskets.now)) }
+    ensures added { OnOk result ((rank : ℕ) → rank < length sums.old → slice_index sums.new rank ≡ weight_with rank (baskets_in baskets.entry)) }
 {
     let mut end_ranks = [0u32; BASKETS_AHEAD];
-    for (number, basket) in baskets.iter().enumerate() {
-        if number % BASKETS_AHEAD == 0 {
-            end_ranks = read_ahead(ranks, &baskets[number..]);
+    for index in 0..baskets.len() {
+        if index % BASKETS_AHEAD == 0 {
+            end_ranks = baskets.read_ahead(index);
         }
-        let end_rank = end_ranks[number % BASKETS_AHEAD];
-        found.add_basket(sums, basket.of(ranks), basket.weight, end_rank)?;
+        let (basket, weight) = baskets.at(index);
+        found.add_basket(sums, basket, weight, end_ranks[index % BASKETS_AHEAD])?;
     }
     Ok(())
 }

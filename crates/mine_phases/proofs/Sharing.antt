@@ -4,20 +4,24 @@ use Rattle.std.specs.Prelude.{◌==◌, All, IsPermutation, Vec, slice_index}
 use Rattle.std.specs.Global.{Global}
 use Rattle.std.specs.List.{flat_map, range_with_len, sum, sum_by}
 use Rattle.std.proofs.lemmas.List.{get_or-map, length-map}
+use Rattle.std.proofs.lemmas.List.FromFn.{fill_by_all}
 use Rattle.std.proofs.lemmas.List.Elements.{All-head, All-map, All-same, All-tail}
 use Rattle.std.proofs.lemmas.List.Sorted.{IsPermutation-refl, sum_by-IsPermutation}
-use Rattle.std.proofs.lemmas.List.Sums.{sum_by-cons}
+use Rattle.std.proofs.lemmas.List.Sums.{sum-map, sum_by-cons}
 use Rattle.basket_ranks.specs.Codes.{Coding, IsCoding, baskets_of, frequent_of_coding}
+use Rattle.basket_ranks.proofs.theory.Decoding.{decoding_keeps_frequent}
 use Rattle.mine_limit.specs.declared.fault.MineFault.{MineFault}
 use Rattle.mine_limit.specs.declared.fault.MineFault.TheVariants.{Memory, TooMany}
 use Rattle.basket_sets.specs.declared.counted.Counted.{Counted}
 use Rattle.basket_sets.specs.Frequent.{ListsOnce}
-use Rattle.mine_classes.specs.Mined.{ClassItemsAreAll, ClassSizesAddUp, ListsClassItems, MOST_SET_WORK, class_size}
+use Rattle.mine_classes.specs.Mined.{ListsClassItems, MOST_SET_WORK, class_size}
+use Rattle.mine_classes.proofs.theory.Classes.{class_sizes_add_up}
+use Rattle.mine_classes.proofs.theory.Listed.{class_items_are_all}
 use Rattle.mine_round.specs.RoundView.{RoundView}
 use Rattle.mine_round.specs.SeatView.{SeatView}
 use Rattle.mine_round.specs.Totals.{HoldsNumbersBelow, added_by, claimed_by, seen_by}
 use Rattle.mine_pieces.specs.declared.worker_result.WorkerResult.{WorkerResult}
-use Rattle.mine_phases.specs.Classes.{HasLargeClass, IsClassShare, IsMined, IsWorkOfAll, ToldAll, claimed_size, ranks_of}
+use Rattle.mine_phases.specs.Classes.{HasLargeClass, IsClassShare, IsMined, ToldAll, claimed_size, ranks_of}
 use Rattle.mine_pieces.specs.Pieces.{HasEach}
 use Rattle.mine_pieces.specs.WorkerResult.{fault_after, fault_of}
 use Rattle.mine_pieces.proofs.theory.Numbers.{sum_fits, sum_more}
@@ -63,9 +67,9 @@ module _ (coding : Coding) (pieces : ℕ) (some : 1 ≤ pieces) where
   pub ranks_once : (claimed : List ℕ) → IsPermutation claimed (range_with_len 0 pieces) → HoldsNumbersBelow (length coding.items) (flat_map (ranks_of coding pieces) claimed)
   ranks_once claimed same x = sum_of_ranks (λ rank. cond (rank == x) 1 0) coding pieces claimed some same ∙ times_all (length coding.items) x
 
-  module _ (is : IsCoding coding) (sizes : ClassSizesAddUp) where
+  module _ (is : IsCoding coding) where
     all_claimed_have : (claimed : List ℕ) → IsPermutation claimed (range_with_len 0 pieces) → sum_by (claimed_size coding pieces) claimed ≡ length (frequent_of_coding coding)
-    all_claimed_have claimed same = sym (sum_by-flat_map (class_size coding) (ranks_of coding pieces) claimed) ∙ sum_of_ranks (class_size coding) coding pieces claimed some same ∙ sizes coding is
+    all_claimed_have claimed same = sym (sum_by-flat_map (class_size coding) (ranks_of coding pieces) claimed) ∙ sum_of_ranks (class_size coding) coding pieces claimed some same ∙ class_sizes_add_up coding is
 
     -- the pieces that are claimed have no more sets than there are
     claimed_have_at_most : (claimed : List ℕ) (count : ℕ) → IsPermutation claimed (range_with_len 0 count) → count ≤ pieces
@@ -79,7 +83,7 @@ module _ (coding : Coding) (pieces : ℕ) (some : 1 ≤ pieces) where
     large_class_is_too_many limit large =
         let f = sum_fits (class_size coding) 0 large.rank (length coding.items) (omega arith) large.within in
         let e : length coding.items - 0 ≡ length coding.items = omega arith in
-        let a = ap (λ n. sum_by (class_size coding) (range_with_len 0 n)) e ∙ sizes coding is in
+        let a = ap (λ n. sum_by (class_size coding) (range_with_len 0 n)) e ∙ class_sizes_add_up coding is in
         let l = large.large in omega (arith, f, a, l)
 
     -- where all workers ended well, there are no more sets than the limit
@@ -92,18 +96,18 @@ module _ (coding : Coding) (pieces : ℕ) (some : 1 ≤ pieces) where
         omega (arith, told, seen, sum_by-flat_map size (λ (s : SeatView). s.held.claimed) seats, all_claimed_have (claimed_by seats) same, sum, greatest)
 
     -- the fault to tell is that there are too many only where there are
-    pub too_many_are : (round : RoundView) (is_work : ℕ → ℕ → Type 0) (limit : ℕ) (shares : List (WorkerResult (Vec (ℕ × (List Counted × ℕ)) Global))) (seats : List SeatView) (most total count : ℕ)
-        → seats ≡ map (λ share. share.seat) shares → All (IsClassShare round coding is_work limit pieces) shares
+    pub too_many_are : (round : RoundView) (exact : Type 0) (work : ℕ → ℕ) (limit : ℕ) (shares : List (WorkerResult (Vec (ℕ × (List Counted × ℕ)) Global))) (seats : List SeatView) (most total count : ℕ)
+        → seats ≡ map (λ share. share.seat) shares → All (IsClassShare round coding exact work limit pieces) shares
         → IsPermutation (claimed_by seats) (range_with_len 0 count) → count ≤ pieces → total ≡ added_by seats 0 → total ≡ seen_by seats 0
         → fault_of (map (λ share. share.values) shares) ≡ Some (TooMany most) → (most ≡ limit) × (limit < length (frequent_of_coding coding))
-    too_many_are round is_work limit shares seats most total count are all same within sum greatest fault =
+    too_many_are round exact work limit shares seats most total count are all same within sum greatest fault =
         let size = claimed_size coding pieces in
         let AtMost : SeatView → Type 0 = λ seat. slice_index seat.held.added 0 ≤ sum_by size seat.held.claimed in
         let told = sums_at_most (λ s. slice_index s.held.added 0) (λ s. sum_by size s.held.claimed) seats (All-same AtMost _ _ are (All-map AtMost (λ share. share.seat) shares (λ k d below. (all k d below).at_most))) in
         let moved = sum_by-flat_map size (λ (s : SeatView). s.held.claimed) seats in
         let claimed = claimed_have_at_most (claimed_by seats) count same within in
         let seen = greatest ∙ ap (λ l. seen_by l 0) are in
-        let Told : WorkerResult (Vec (ℕ × (List Counted × ℕ)) Global) → Type 0 = λ share. IsClassShare round coding is_work limit pieces share × (slice_index share.seat.held.seen 0 ≤ total) in
+        let Told : WorkerResult (Vec (ℕ × (List Counted × ℕ)) Global) → Type 0 = λ share. IsClassShare round coding exact work limit pieces share × (slice_index share.seat.held.seen 0 ≤ total) in
         let Too : Type 0 = (most ≡ limit) × (limit < length (frequent_of_coding coding)) in
         elim (fault_from Told Too most
         (λ share says here.
@@ -121,7 +125,7 @@ module _ (coding : Coding) (pieces : ℕ) (some : 1 ≤ pieces) where
 
 -- ---- the classes of all ranks
 
-module _ (coding : Coding) (is_work : ℕ → ℕ → Type 0) where
+module _ (coding : Coding) (exact : Type 0) (work : ℕ → ℕ) where
   work_is_few : (first : ℕ) (classes : List (List Counted × ℕ)) → ((k : ℕ) → k < length classes → (get_or classes k ([], 0)).1 ≤ class_size coding (first + k) * MOST_SET_WORK)
       → sum (map (λ class. class.1) classes) ≤ sum_by (class_size coding) (range_with_len first (length classes)) * MOST_SET_WORK
   work_is_few first [] each = omega arith
@@ -135,24 +139,22 @@ module _ (coding : Coding) (is_work : ℕ → ℕ → Type 0) where
       let sizes = ap (λ n. n * MOST_SET_WORK) (sum_by-cons (class_size coding) first (range_with_len (first + 1) (length classes))) in
       omega (arith, few, rest, works, sizes)
 
-  module _ (classes : List (List Counted × ℕ)) (has : HasEach (IsMined coding is_work) (length coding.items) classes) where
+  module _ (classes : List (List Counted × ℕ)) (has : HasEach (IsMined coding exact work) (length coding.items) classes) where
     -- the work of all classes fits a number
-    pub work_fits : (limit : ℕ) → IsCoding coding → ClassSizesAddUp → length (frequent_of_coding coding) ≤ limit → limit < 2 ^ 32 → sum (map (λ class. class.1) classes) < 2 ^ 64
-    work_fits limit is sizes within small =
+    pub work_fits : (limit : ℕ) → IsCoding coding → length (frequent_of_coding coding) ≤ limit → limit < 2 ^ 32 → sum (map (λ class. class.1) classes) < 2 ^ 64
+    work_fits limit is within small =
         let few = work_is_few 0 classes (λ k below. subst (λ n. (get_or classes k ([], 0)).1 ≤ class_size coding n * MOST_SET_WORK) (sym (zero-add k)) (has.each k ([], 0) (omega (arith, has.count, below))).few) in
-        let all = ap (λ n. n * MOST_SET_WORK) (ap (λ n. sum_by (class_size coding) (range_with_len 0 n)) has.count ∙ sizes coding is) in
+        let all = ap (λ n. n * MOST_SET_WORK) (ap (λ n. sum_by (class_size coding) (range_with_len 0 n)) has.count ∙ class_sizes_add_up coding is) in
         omega (arith, few, all, within, small)
 
-    pub work_of_all : (total : ℕ) → total ≡ sum (map (λ class. class.1) classes) → IsWorkOfAll is_work (length coding.items) total
-    work_of_all total added = record {
-      each = map (λ class. class.1) classes;
-      long = length-map classes (λ class. class.1) ∙ has.count;
-      works = λ rank below. subst (is_work rank) (sym (get_or-map (λ class. class.1) classes rank ([], 0) 0 (omega (arith, has.count, below)))) (has.each rank ([], 0) below).work;
-      added = added;
-    }
+    pub work_of_all : (total : ℕ) → total ≡ sum (map (λ class. class.1) classes) → exact → total ≡ sum_by work (range_with_len 0 (length coding.items))
+    work_of_all total added known =
+        let all = fill_by_all work (map (λ class. class.1) classes) (length coding.items) 0 (length-map classes (λ class. class.1) ∙ has.count)
+        (λ k below. get_or-map (λ class. class.1) classes k ([], 0) 0 (omega (arith, has.count, below)) ∙ (has.each k ([], 0) below).worked known) in
+        added ∙ ap sum all ∙ sum-map work (range_with_len 0 (length coding.items))
 
-    pub once_of_all : ClassItemsAreAll → IsCoding coding → ListsOnce (baskets_of coding) coding.minimum (flat_map (λ (class : List Counted). class) (map (λ class. class.0) classes))
-    once_of_all law is =
+    pub once_of_all : IsCoding coding → ListsOnce (baskets_of coding) coding.minimum (flat_map (λ (class : List Counted). class) (map (λ class. class.0) classes))
+    once_of_all is =
         let long : length (map (λ class. class.0) classes) ≡ length coding.items = length-map classes (λ class. class.0) ∙ has.count in
-        law coding (map (λ class. class.0) classes) is long
+        class_items_are_all decoding_keeps_frequent coding (map (λ class. class.0) classes) is long
         (λ rank below. subst (ListsClassItems coding rank) (sym (get_or-map (λ class. class.0) classes rank ([], 0) [] (omega (arith, has.count, long, below)))) (has.each rank ([], 0) (omega (arith, long, below))).listed)

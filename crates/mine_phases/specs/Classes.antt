@@ -1,5 +1,5 @@
 -- Mining class by class, shared by workers.
-use Rattle.std.specs.Prelude.{◌≡◌, ◌≤◌, ◌<◌, ◌-◌, ◌*◌, ◌%◌, ◌==◌, ◌⊎◌, ℕ, All, List, Err, IfOk, Vec, filter, length, map, slice_index, sum}
+use Rattle.std.specs.Prelude.{◌≡◌, ◌≤◌, ◌<◌, ◌-◌, ◌*◌, ◌%◌, ◌==◌, ◌⊎◌, ℕ, All, List, Err, IfOk, Vec, filter, length, map, slice_index}
 use Rattle.std.specs.Global.{Global}
 use Rattle.std.specs.List.{range_with_len, sum_by}
 use Rattle.basket_ranks.specs.Codes.{Coding}
@@ -11,38 +11,31 @@ use Rattle.mine_round.specs.SeatView.{SeatView}
 use Rattle.mine_pieces.specs.declared.worker_result.WorkerResult.{WorkerResult}
 use Rattle.mine_pieces.specs.Pieces.{IsPieceShare}
 
--- the work of the classes of the ranks below a number, added up
-pub record IsWorkOfAll (is_work : ℕ → ℕ → Type 0) (ranks total : ℕ) : Type 0 where
-  pub each : List ℕ
-  pub long : length each ≡ ranks
-  pub works : (rank : ℕ) → rank < ranks → is_work rank (slice_index each rank)
-  pub added : total ≡ sum each
-
 -- the rank that has so many ranks after it
 abbrev pub rank_from_end : ℕ → ℕ → ℕ
-rank_from_end ranks place = ranks - 1 - place
+rank_from_end ranks index = ranks - 1 - index
 
 -- the numbers below a count that are a claimed number modulo the number of pieces
-abbrev pub places_of : ℕ → ℕ → ℕ → List ℕ
-places_of pieces claimed count = filter (λ place. place % pieces == claimed) (range_with_len 0 count)
+abbrev pub indexes_of : ℕ → ℕ → ℕ → List ℕ
+indexes_of pieces claimed count = filter (λ index. index % pieces == claimed) (range_with_len 0 count)
 
 -- the ranks that are mined for a claimed number: from the greatest on, the pieces have them in turn
 abbrev pub ranks_of : Coding → ℕ → ℕ → List ℕ
-ranks_of coding pieces claimed = map (rank_from_end (length coding.items)) (places_of pieces claimed (length coding.items))
+ranks_of coding pieces claimed = map (rank_from_end (length coding.items)) (indexes_of pieces claimed (length coding.items))
 
 -- how many sets the classes of these ranks have
 abbrev pub claimed_size : Coding → ℕ → ℕ → ℕ
 claimed_size coding pieces claimed = sum_by (class_size coding) (ranks_of coding pieces claimed)
 
--- the class of a rank, and the work that it took, which is not more than its sets can take
-pub record IsMined (coding : Coding) (is_work : ℕ → ℕ → Type 0) (rank : ℕ) (class : List Counted × ℕ) : Type 0 where
+-- the class of a rank, and the work that it took: that of the rank, if it is exact, and no more than its sets can take
+pub record IsMined (coding : Coding) (exact : Type 0) (work : ℕ → ℕ) (rank : ℕ) (class : List Counted × ℕ) : Type 0 where
   pub listed : ListsClassItems coding rank class.0
-  pub work : is_work rank class.1
+  pub worked : exact → class.1 ≡ work rank
   pub few : class.1 ≤ class_size coding rank * MOST_SET_WORK
 
 -- each of these is a rank with its class
-abbrev pub AreMined : Coding → (ℕ → ℕ → Type 0) → List (ℕ × (List Counted × ℕ)) → Type 0
-AreMined coding is_work values = All (λ value. IsMined coding is_work value.0 value.1) values
+abbrev pub AreMined : Coding → Type 0 → (ℕ → ℕ) → List (ℕ × (List Counted × ℕ)) → Type 0
+AreMined coding exact work values = All (λ value. IsMined coding exact work value.0 value.1) values
 
 -- a class alone has more sets than the limit
 pub record HasLargeClass (coding : Coding) (limit : ℕ) : Type 0 where
@@ -56,8 +49,8 @@ pub record ToldAll (size : ℕ → ℕ) (limit : ℕ) (seat : SeatView) : Type 0
   pub within : slice_index seat.held.seen 0 ≤ limit
 
 -- what a worker hands back: its seat, which told no more sets than the pieces have that it claimed, and the classes of their ranks, of which it told each set, or why it stopped
-pub record IsClassShare (round : RoundView) (coding : Coding) (is_work : ℕ → ℕ → Type 0) (limit pieces : ℕ) (share : WorkerResult (Vec (ℕ × (List Counted × ℕ)) Global)) : Type 0 where
-  pub of_ranks : IsPieceShare (IsMined coding is_work) (ranks_of coding pieces) round share
+pub record IsClassShare (round : RoundView) (coding : Coding) (exact : Type 0) (work : ℕ → ℕ) (limit pieces : ℕ) (share : WorkerResult (Vec (ℕ × (List Counted × ℕ)) Global)) : Type 0 where
+  pub of_ranks : IsPieceShare (IsMined coding exact work) (ranks_of coding pieces) round share
   pub at_most : slice_index share.seat.held.added 0 ≤ sum_by (claimed_size coding pieces) share.seat.held.claimed
   pub told : IfOk share.values (λ _. ToldAll (claimed_size coding pieces) limit share.seat)
   pub too_many : (most : ℕ) → share.values ≡ Err (TooMany most) → (most ≡ limit) × ((limit < slice_index share.seat.held.seen 0) ⊎ HasLargeClass coding limit)

@@ -1,11 +1,12 @@
 //! The phase that mines class by class, with one limit over all workers.
 ghost use Rattle.std.specs.Prelude.{◌≡◌, ◌≤◌, ◌<◌, ◌+◌, ◌++◌, ◌⊎◌, ℕ, Err, IfOk, IsTrue, OnOk, false, length, slice_index};
 ghost use Rattle.mine_limit.specs.declared.fault.MineFault.TheVariants.{TooMany};
+ghost use Rattle.std.specs.List.{range_with_len, sum_by};
 ghost use Rattle.basket_ranks.specs.Codes.{frequent_of_coding};
 ghost use Rattle.basket_core.specs.Listing.{listing_of};
 ghost use Rattle.mine_conditional.specs.ClassScratch.{IsScratchOf};
 ghost use Rattle.mine_round.specs.Record.{unused};
-ghost use Rattle.mine_phases.specs.Classes.{AreMined, HasLargeClass, IsClassShare, IsMined, IsWorkOfAll, claimed_size, ranks_of};
+ghost use Rattle.mine_phases.specs.Classes.{AreMined, HasLargeClass, IsClassShare, IsMined, claimed_size, ranks_of};
 ghost use Rattle.mine_pieces.specs.Pieces.{HasEach};
 ghost use Rattle.mine_phases.specs.RoundTally.{CountsSets, still};
 ghost use Rattle.mine_pieces.specs.WorkerResult.{numbers_of};
@@ -14,7 +15,6 @@ use crate::class_miner::ClassMiner;
 use crate::joined::{Class, joined};
 use crate::round_tally::{RoundTally, Start, are_over};
 use basket_core::{Coded, Frequent};
-use mine_classes::laws::{class_items_are_all, class_sizes_add_up, lists_have_class_size};
 use mine_conditional::ClassScratch;
 use mine_limit::{MineFault, Tally};
 use mine_pieces::{Cutting, Gate, Phase, WorkerResult, by_workers, claim_piece, collected};
@@ -56,7 +56,7 @@ impl<M: ClassMiner, G: Gate> Classes<'_, '_, M, G> {
     fn share(&self, alloc: Global, worker: u32, seat: RoundSeat) -> WorkerResult<Vec<(u32, Class)>>
         requires own { seat.round ≡ self.now.round.now.id }
         requires unused { seat.held ≡ unused 1 1 }
-        ensures { IsClassShare self.now.round.now (M.coding_of self.now.miner.now) (M.is_work self.now.miner.now) self.now.limit self.now.pieces result }
+        ensures { IsClassShare self.now.round.now (M.coding_of self.now.miner.now) (M.exact self.now.miner.now) (M.work_of self.now.miner.now) self.now.limit self.now.pieces result }
     {
         let mut seat = seat;
         let mut values = Vec::new(alloc);
@@ -95,12 +95,12 @@ impl<M: ClassMiner, G: Gate> Classes<'_, '_, M, G> {
         requires few { slice_index seat.held.seen 0 ≤ self.now.limit }
         requires scratch { IsScratchOf self.now.ranks scratch.old }
         requires claimed { claimed < self.now.pieces }
-        requires each { AreMined (M.coding_of self.now.miner.now) (M.is_work self.now.miner.now) values.old.items }
+        requires each { AreMined (M.coding_of self.now.miner.now) (M.exact self.now.miner.now) (M.work_of self.now.miner.now) values.old.items }
         ensures counts { CountsSets self.now.round.now result.0 }
         ensures same { still result.0 ≡ still seat }
         ensures scratch { OnOk result.1 (IsScratchOf self.now.ranks scratch.new) }
         ensures numbers { OnOk result.1 (numbers_of values.new.items ≡ numbers_of values.old.items ++ ranks_of (M.coding_of self.now.miner.now) self.now.pieces claimed) }
-        ensures each { OnOk result.1 (AreMined (M.coding_of self.now.miner.now) (M.is_work self.now.miner.now) values.new.items) }
+        ensures each { OnOk result.1 (AreMined (M.coding_of self.now.miner.now) (M.exact self.now.miner.now) (M.work_of self.now.miner.now) values.new.items) }
         ensures told { OnOk result.1 (slice_index result.0.held.added 0 ≡ slice_index seat.held.added 0 + claimed_size (M.coding_of self.now.miner.now) self.now.pieces claimed) }
         ensures at_most { slice_index result.0.held.added 0 ≤ slice_index seat.held.added 0 + claimed_size (M.coding_of self.now.miner.now) self.now.pieces claimed }
         ensures too_many { (most : ℕ) → result.1 ≡ Err (TooMany most)
@@ -125,9 +125,9 @@ impl<M: ClassMiner, G: Gate> Classes<'_, '_, M, G> {
         requires going { tally.old.over ≡ false }
         requires scratch { IsScratchOf self.now.ranks scratch.old }
         requires claimed { claimed < self.now.pieces }
-        requires each { AreMined (M.coding_of self.now.miner.now) (M.is_work self.now.miner.now) values.old.items }
+        requires each { AreMined (M.coding_of self.now.miner.now) (M.exact self.now.miner.now) (M.work_of self.now.miner.now) values.old.items }
         ensures numbers { OnOk result (numbers_of values.new.items ≡ numbers_of values.old.items ++ ranks_of (M.coding_of self.now.miner.now) self.now.pieces claimed) }
-        ensures each { OnOk result (AreMined (M.coding_of self.now.miner.now) (M.is_work self.now.miner.now) values.new.items) }
+        ensures each { OnOk result (AreMined (M.coding_of self.now.miner.now) (M.exact self.now.miner.now) (M.work_of self.now.miner.now) values.new.items) }
         ensures told { OnOk result (tally.new.told ≡ tally.old.told + claimed_size (M.coding_of self.now.miner.now) self.now.pieces claimed) }
         ensures going_on { OnOk result (tally.new.over ≡ false) }
         ensures too_many { (most : ℕ) → result ≡ Err (TooMany most)
@@ -136,19 +136,18 @@ impl<M: ClassMiner, G: Gate> Classes<'_, '_, M, G> {
         ensures limit { tally.new.limit ≡ tally.old.limit }
         ensures scratch { OnOk result (IsScratchOf self.now.ranks scratch.new) }
     {
-        lists_have_class_size();
         // The classes of the greatest ranks are the largest. So they are mined first, and each piece
         // has some of them.
-        let mut place = claimed as usize;
-        while place < self.ranks as usize {
-            let rank = self.ranks - 1 - place as u32;
+        let mut index = claimed as usize;
+        while index < self.ranks as usize {
+            let rank = self.ranks - 1 - index as u32;
             let class = self.miner.class(alloc, scratch, rank, tally)?;
             values.push((rank, class))?;
             if !tally.look() {
                 let limit = tally.limit();
                 return Err(MineFault::TooMany { limit });
             }
-            place += self.pieces as usize;
+            index += self.pieces as usize;
         }
         Ok(())
     }
@@ -166,11 +165,10 @@ fn mined_classes<'a, 'g, R: Threads + Sync, G: Gate + Sync, M: ClassMiner + Sync
     phase: &Phase<'g, G>,
 ) -> Result<Vec<Class>, MineFault>
     requires coding { M.coding_of miner.now ≡ coded.now }
-    ensures each { IfOk result (λ mined. HasEach (IsMined coded.now (M.is_work miner.now)) (length coded.now.items) mined.items) }
+    ensures each { IfOk result (λ mined. HasEach (IsMined coded.now (M.exact miner.now) (M.work_of miner.now)) (length coded.now.items) mined.items) }
     ensures within { IfOk result (λ _. length (frequent_of_coding coded.now) ≤ limit) }
     ensures too_many { (most : ℕ) → result ≡ Err (TooMany most) → (most ≡ limit) × (limit < length (frequent_of_coding coded.now)) }
 {
-    class_sizes_add_up();
     let _baskets = coded.baskets();
     let ranks = coded.ranks();
     let cutting = phase.for_parts(ranks as usize).cutting;
@@ -190,7 +188,7 @@ fn mined_classes<'a, 'g, R: Threads + Sync, G: Gate + Sync, M: ClassMiner + Sync
         seats,
         &|job: (u32, RoundSeat)| -> WorkerResult<Vec<(u32, Class)>>
             requires { (job.1.round ≡ lent.now.round.now.id) × (job.1.held ≡ unused 1 1) }
-            ensures { IsClassShare lent.entry.now.round.now (M.coding_of lent.entry.now.miner.now) (M.is_work lent.entry.now.miner.now) lent.entry.now.limit lent.entry.now.pieces result }
+            ensures { IsClassShare lent.entry.now.round.now (M.coding_of lent.entry.now.miner.now) (M.exact lent.entry.now.miner.now) (M.work_of lent.entry.now.miner.now) lent.entry.now.limit lent.entry.now.pieces result }
         { lent.share(alloc, job.0, job.1) },
     )?;
     let Ok(_) = round.close(seats) else {
@@ -214,11 +212,9 @@ pub fn mine_shared<R: Threads + Sync, G: Gate + Sync, M: ClassMiner + Sync + Dro
     requires coding { M.coding_of miner ≡ coded.now }
     ensures list { IfOk result (λ mined. mined.0 ≡ listing_of coded.now) }
     ensures within { IfOk result (λ mined. length mined.0.sets ≤ limit) }
-    ensures work { IfOk result (λ mined. IsWorkOfAll (M.is_work miner) (length coded.now.items) mined.1) }
+    ensures work { IfOk result (λ mined. M.exact miner → mined.1 ≡ sum_by (M.work_of miner) (range_with_len 0 (length coded.now.items))) }
     ensures too_many { (most : ℕ) → result ≡ Err (TooMany most) → (most ≡ limit) × (limit < length (frequent_of_coding coded.now)) }
 {
-    class_items_are_all();
-    class_sizes_add_up();
     let _baskets = coded.baskets();
     let classes = mined_classes(rt, alloc, coded, &miner, limit, phase)?;
     drop(miner);

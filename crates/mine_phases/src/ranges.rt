@@ -44,12 +44,12 @@ pub fn ranges_of(
 
 /// Adds the steps that each rank takes in some of the baskets.
 fn add_sample(steps: &mut [u64], baskets: &[Weighted], cost: Cost)
-    requires { All (λ place. AllBelow (length steps.old) place.basket) baskets.now }
+    requires { All (λ basket. AllBelow (length steps.old) basket.basket) baskets.now }
 {
     let apart = baskets.len() / SAMPLE + 1;
     for number in 0..SAMPLE {
-        if let Some(place) = baskets.get(number.saturating_mul(apart)) {
-            add_basket(steps, place.basket.items(), cost);
+        if let Some(basket) = baskets.get(number.saturating_mul(apart)) {
+            add_basket(steps, basket.basket.items(), cost);
         }
     }
 }
@@ -58,10 +58,10 @@ fn add_sample(steps: &mut [u64], baskets: &[Weighted], cost: Cost)
 fn add_basket(steps: &mut [u64], ranks: &[u32], cost: Cost)
     requires { AllBelow (length steps.old) ranks.now }
 {
-    for (place, rank) in ranks.iter().enumerate() {
+    for (index, rank) in ranks.iter().enumerate() {
         let more = match cost {
             Cost::Occurrences => 1,
-            Cost::Pairs => place as u64 + 1,
+            Cost::Pairs => index as u64 + 1,
         };
         let some = &mut steps[*rank as usize];
         *some = some.saturating_add(more);

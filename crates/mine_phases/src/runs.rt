@@ -1,9 +1,8 @@
 //! The runs of coded baskets, before their classes are mined.
-ghost use Rattle.std.specs.Prelude.{◌≡◌, ◌<◌, ◌^◌, ℕ, List, All, IfOk, length, slice_index_or};
-ghost use Rattle.std.proofs.Props.{props};
+ghost use Rattle.std.specs.Prelude.{◌≡◌, ◌<◌, ◌^◌, ℕ, List, IfOk, length, slice_index_or};
 ghost use Rattle.basket_sets.specs.Support.{support_of};
+ghost use Rattle.mine_baskets.specs.Baskets.{baskets_in};
 ghost use Rattle.mine_baskets.specs.ListBaskets.{AreRankBaskets, HaveSameWeights};
-ghost use Rattle.mine_baskets.specs.Span.{IsWithin, baskets_at};
 ghost use Rattle.mine_pairs.specs.Runs.{HaveRunsFrom, lists_in};
 ghost use Rattle.mine_pairs.specs.declared.rank_range.RankRange.{RankRange as Range};
 
@@ -12,7 +11,7 @@ use crate::pairs::PHASE;
 use crate::ranges::{Cost, ranges_of};
 use crate::triangle::triangle_pairs;
 use basket_core::Coded;
-use mine_baskets::{ListBaskets, Span};
+use mine_baskets::{Baskets, ListBaskets, Span};
 use mine_pairs::{RankRange, Runs, pays_for_classes, runs_keeping, runs_of_range};
 use mine_pieces::{Cutting, Open, PartWork, Phase, by_pieces};
 use std::alloc::{AllocError, Global};
@@ -21,13 +20,9 @@ use std::thread::Threads;
 /// Ranks whose runs are found, a range of them at a time.
 #[derive(Drop)]
 struct RankRuns<'a> {
-    count: u32,
-    ranks: &'a [u32],
-    baskets: &'a [Span],
+    baskets: Baskets<'a>,
     ranges: Vec<RankRange>,
     ghost few: { length ranges.items < 2 ^ 32 },
-    ghost within: { All (IsWithin (length ranks.now)) baskets.now },
-    ghost ranked: { AreRankBaskets (record { ranks = count; baskets = baskets_at ranks.now baskets.now }) } by { Prim.hlevel props },
 }
 
 impl PartWork<Vec<Vec<Span>>> for RankRuns<'_> {
@@ -38,7 +33,7 @@ impl PartWork<Vec<Vec<Span>>> for RankRuns<'_> {
     ghost are_tools = { λ work tools. Unit {0} };
 
     ghost is_value = { λ work part of. (range : Range) → slice_index_or work.ranges.items part range ≡ range
-        → HaveRunsFrom range.first range.count work.ranks.now (baskets_at work.ranks.now work.baskets.now) (lists_in of.items) };
+        → HaveRunsFrom range.first range.count work.baskets.ranks.now (baskets_in work.baskets) (lists_in of.items) };
 
     fn parts(&self) -> u32 {
         self.ranges.len() as u32
@@ -54,7 +49,7 @@ impl PartWork<Vec<Vec<Span>>> for RankRuns<'_> {
         _tools: &mut (),
         part: u32,
     ) -> Result<Vec<Vec<Span>>, AllocError> {
-        runs_of_range(alloc, self.ranks, self.baskets, self.ranges[part as usize])
+        runs_of_range(alloc, self.baskets, self.ranges[part as usize])
     }
 }
 
@@ -63,21 +58,13 @@ fn runs_by_ranges<R: Threads + Sync>(
     rt: &R,
     alloc: Global,
     coded: &Coded,
-    ranks: &[u32],
-    baskets: &[Span],
+    baskets: Baskets<'_>,
     cutting: Cutting,
 ) -> Result<Vec<Vec<Span>>, AllocError>
-    requires within { All (IsWithin (length ranks.now)) baskets.now }
-    requires ranked { AreRankBaskets (record { ranks = length coded.now.items; baskets = baskets_at ranks.now baskets.now }) }
-    ensures { IfOk result (λ of. HaveRunsFrom 0 (length coded.now.items) ranks.now (baskets_at ranks.now baskets.now) (lists_in of.items)) }
+    ensures { IfOk result (λ of. HaveRunsFrom 0 (length coded.now.items) baskets.entry.ranks.now (baskets_in baskets.entry) (lists_in of.items)) }
 {
     let ranges = ranges_of(alloc, coded, cutting, Cost::Occurrences)?;
-    let work = RankRuns {
-        count: coded.ranks(),
-        ranks,
-        baskets,
-        ranges,
-    };
+    let work = RankRuns { baskets, ranges };
     let lists = by_pieces(rt, alloc, &work, &Phase::new(PHASE, cutting, &Open))?;
     in_a_row(alloc, lists)
 }
@@ -103,7 +90,12 @@ pub fn runs_shared<R: Threads + Sync>(
         Vec::new(alloc)
     };
     let (count, ranks, baskets) = lists.into_parts();
-    let of = runs_by_ranges(rt, alloc, coded, &ranks, &baskets, cutting)?;
+    let all = Baskets {
+        count,
+        ranks: &ranks,
+        spans: &baskets,
+    };
+    let of = runs_by_ranges(rt, alloc, coded, all, cutting)?;
     let runs = Runs::with(alloc, count, ranks, baskets, of);
     Ok(runs_keeping(coded, runs, pairs))
 }

@@ -1,12 +1,12 @@
 -- Words of bits.
-use Rattle.std.proofs.Common.{◌≡◌, ℕ, zero, suc, ◌+◌, ◌*◌, ◌<◌, ◌≤◌, ◌^◌, List, [], ◌∷◌, ◌++◌, take, drop, length, get_or, map, refl, sym, ap, ◌∙◌, arith}
+use Rattle.std.proofs.Common.{◌≡◌, ℕ, zero, suc, ◌+◌, ◌*◌, ◌/◌, ◌<◌, ◌≤◌, ◌^◌, List, [], ◌∷◌, ◌++◌, take, drop, length, get_or, map, refl, sym, ap, ◌∙◌, arith}
 use Rattle.std.specs.Prelude.{bit_and, count_ones}
 use Rattle.std.specs.Prelude.{All}
 use Rattle.std.specs.List.{AllByRecursion}
 use Rattle.std.specs.Simd.{first_chunks}
 use Rattle.std.specs.Simd.Lanes.{sum_l, zip2}
 use Rattle.std.proofs.Common.{length-drop}
-use Rattle.std.proofs.lemmas.List.{drop_more, length-take-le, take-append-drop}
+use Rattle.std.proofs.lemmas.List.{drop-drop, drop_more, length-take-le, take-append-drop}
 use Rattle.std.proofs.lemmas.List.Elements.{All-from_recursion, All-head, All-tail}
 use Rattle.std.proofs.lemmas.Nat.{and_le_l, and_le_r, ones-le}
 use Rattle.mine_rows.specs.Bits.{shared_bits, shared_in_chunks}
@@ -64,15 +64,6 @@ chunks_end (x ∷ xs) [] (suc i) le = shared_nil (drop i xs)
     shared_nil (z ∷ l) = refl
 chunks_end (x ∷ xs) (y ∷ ys) (suc i) le = chunks_end xs ys i (omega arith)
 
-drop-drop : (n k : ℕ) (xs : List ℕ) → drop k (drop n xs) ≡ drop (n + k) xs
-drop-drop zero k xs = let e : k ≡ 0 + k = omega arith in ap (λ m. drop m xs) e
-drop-drop (suc n) k [] = nothing k ∙ sym (nothing (suc n + k))
-  where
-    nothing : (m : ℕ) → drop {A = ℕ} m [] ≡ []
-    nothing zero = refl
-    nothing (suc m) = refl
-drop-drop (suc n) k (x ∷ xs) = let e : suc (n + k) ≡ suc n + k = omega arith in drop-drop n k xs ∙ ap (λ m. drop m (x ∷ xs)) e
-
 pub in_chunks : (k : ℕ) (xs ys : List ℕ) → length xs ≡ length ys → k * 4 ≤ length xs
     → shared_in_chunks (first_chunks 4 k xs) (first_chunks 4 k ys) + shared_bits (drop (k * 4) xs) (drop (k * 4) ys) ≡ shared_bits xs ys
 in_chunks zero xs ys same le = omega arith
@@ -82,11 +73,19 @@ in_chunks (suc k) xs ys same le =
     let whole : shared_bits xs ys ≡ shared_bits (take 4 xs) (take 4 ys) + shared_bits (drop 4 xs) (drop 4 ys) =
     ap (λ l. shared_bits l ys) (sym (take-append-drop 4 xs)) ∙ ap (shared_bits (take 4 xs ++ drop 4 xs)) (sym (take-append-drop 4 ys)) ∙ halves in
     let e : suc k * 4 ≡ 4 + k * 4 = omega arith in
-    let one : drop (suc k * 4) xs ≡ drop (k * 4) (drop 4 xs) = ap (λ n. drop n xs) e ∙ sym (drop-drop 4 (k * 4) xs) in
-    let two : drop (suc k * 4) ys ≡ drop (k * 4) (drop 4 ys) = ap (λ n. drop n ys) e ∙ sym (drop-drop 4 (k * 4) ys) in
+    let one : drop (suc k * 4) xs ≡ drop (k * 4) (drop 4 xs) = ap (λ n. drop n xs) e ∙ sym (drop-drop (k * 4) 4 xs) in
+    let two : drop (suc k * 4) ys ≡ drop (k * 4) (drop 4 ys) = ap (λ n. drop n ys) e ∙ sym (drop-drop (k * 4) 4 ys) in
     ap (λ l. shared_bits (take 4 xs) (take 4 ys) + shared_in_chunks (first_chunks 4 k (drop 4 xs)) (first_chunks 4 k (drop 4 ys)) + shared_bits l (drop (suc k * 4) ys)) one
     ∙ ap (λ l. shared_bits (take 4 xs) (take 4 ys) + shared_in_chunks (first_chunks 4 k (drop 4 xs)) (first_chunks 4 k (drop 4 ys)) + shared_bits (drop (k * 4) (drop 4 xs)) l) two
     ∙ omega (arith, rest, whole)
+
+-- so the chunks and what is left of them share what the words share
+pub parts_share : (xs ys : List ℕ) {fronts others : List (List ℕ)} {backs rests : List ℕ} → length xs ≡ length ys → fronts ≡ first_chunks 4 (length xs / 4) xs → backs ≡ drop (length xs / 4 * 4) xs
+    → others ≡ first_chunks 4 (length ys / 4) ys → rests ≡ drop (length ys / 4 * 4) ys → shared_in_chunks fronts others + shared_bits backs rests ≡ shared_bits xs ys
+parts_share xs ys same fronts backs others rests =
+    let n = ap (λ n. n / 4) (sym same) in
+    (λ i. shared_in_chunks (fronts i) ((others ∙ ap (λ k. first_chunks 4 k ys) n) i) + shared_bits (backs i) ((rests ∙ ap (λ k. drop (k * 4) ys) n) i))
+    ∙ in_chunks (length xs / 4) xs ys same (omega arith)
 
 chunks_are : (k : ℕ) (xs : List ℕ) → k * 4 ≤ length xs → AllByRecursion (λ (words : List ℕ). length words ≡ 4) (first_chunks 4 k xs)
 chunks_are zero xs le = tt
@@ -119,14 +118,3 @@ both_more (a ∷ x) (b ∷ y) zero same here = refl
 both_more (a ∷ x) (b ∷ y) (suc i) same here =
     let e : suc i + 1 ≡ suc (i + 1) = omega arith in
     ap (λ n. zip2 bit_and (take n (a ∷ x)) (take n (b ∷ y))) e ∙ ap (λ l. bit_and a b ∷ l) (both_more x y i (omega arith) (omega arith))
-
--- ---- words that are changed one after another
-
-pub shared_most_of : (xs ys : List ℕ) → ((k : ℕ) → get_or ys k 0 < 2 ^ 64) → shared_bits xs ys ≤ length xs * 64
-shared_most_of [] ys fit = omega arith
-shared_most_of (x ∷ xs) [] fit = omega arith
-shared_most_of (x ∷ xs) (y ∷ ys) fit =
-    let rest = shared_most_of xs ys (λ k. fit (suc k)) in
-    let first : y < 2 ^ 64 = fit 0 in
-    let below = and_le_r x y in
-    let ones = ones-le 64 (bit_and x y) (omega arith) in omega (arith, ones)

@@ -4,31 +4,34 @@ use Rattle.std.specs.Prelude.{All, bit_and, bit_or}
 use Rattle.std.specs.Simd.Lanes.{zip2}
 use Rattle.mine_rows.specs.declared.bit_rows.BitRow.{BitRow}
 use Rattle.mine_rows.specs.Rows.{IsBitRow}
-use Rattle.std.specs.List.{AllByRecursion, filter, list_any, range_with_len, sum_by}
-use Rattle.std.proofs.lemmas.Bool.{cases_eq, cases_lt, eqb-true, le-ltb, lt-ltb}
+use Rattle.std.specs.List.{filter, list_any, range_with_len, sum_by}
+use Rattle.std.proofs.lemmas.Bool.{and_from, and_parts, cases_eq, cases_lt, eqb-true, false_from_ne_true, le-ltb, lt-ltb, true≢false}
+use Rattle.std.proofs.lemmas.Bool.Decides.{nat_tests}
+use Rattle.std.proofs.lemmas.List.{get_or_past}
+use Rattle.std.proofs.lemmas.List.Folds.{list_any_at}
 use Rattle.std.proofs.lemmas.Nat.{div_below, mod-pow-add, or_mod, or_shr, shr_le}
 use Rattle.std.proofs.lemmas.Grind.{div_ceil_times}
 use Rattle.mine_rows.specs.Weights.{KeepsWeights}
 use Rattle.mine_rows.specs.Bits.{MOST_WORDS, shared_bits, word_count, words_from, words_of}
-use Rattle.std.proofs.lemmas.List.Elements.{All-from_recursion, All-head, All-tail, All-weaker}
+use Rattle.std.proofs.lemmas.List.Elements.{Contains-get_or, All-head, All-tail, All-weaker}
 use Rattle.std.proofs.lemmas.List.Sums.{get_or-le-sum_by, sum_by-append, sum_by-cons}
-use Rattle.basket_sets.specs.Itemset.{IsRising, has}
+use Rattle.basket_sets.specs.Itemset.{has}
 use Rattle.basket_sets.specs.Database.{MOST_WEIGHT}
-use Rattle.basket_sets.proofs.theory.Members.{Member, Member-filter, Member-from_filter}
-use Rattle.basket_sets.proofs.theory.Rising.{Member-from_has, has-from_Member, same_rising, same_test}
-use Rattle.basket_sets.proofs.theory.Ranges.{Member-into_range, Member-range, filter_rises, range_more, range_rises}
+use Rattle.basket_sets.proofs.theory.Members.{Member, Member-filter, Member-from_Contains, Member-from_filter, Member-map}
+use Rattle.basket_sets.proofs.theory.Merging.{sum_by-add, sum_by-same}
+use Rattle.basket_sets.proofs.theory.Tests.{Member-at, each_of}
+use Rattle.basket_sets.proofs.theory.Rising.{Member-from_has, has-from_Member, same_test}
+use Rattle.basket_sets.proofs.theory.Ranges.{Member-range, range_more}
 use Rattle.mine_rows.specs.declared.plane.Plane.{Plane}
 use Rattle.mine_rows.specs.Cover.{IsCover, common, cover_weight}
 use Rattle.mine_rows.specs.Planes.{ArePlanes, IsPlane, are_ones, bits_of, has_bit, plane_weight}
-use Rattle.mine_rows.proofs.CoverLemmas.{cover_light}
+use Rattle.mine_rows.proofs.CoverLemmas.{cover_in_range, cover_light}
 use Rattle.mine_rows.proofs.WordLemmas.{length-words, words_and, words_same, words_share}
 
 -- ---- the bits of a number
 
 bit_value : (r : ℕ) → r < 2 → cond (eqb r 1) 1 0 ≡ r
-bit_value zero below = refl
-bit_value (suc zero) below = refl
-bit_value (suc (suc r)) below = absurd (omega arith)
+bit_value r below = grind (arith, nat_tests)
 
 -- what a bit of a number stands for
 abbrev part : ℕ → ℕ → ℕ
@@ -61,35 +64,19 @@ sum-kept f keeps (x ∷ xs) none = at (keeps x) refl (sum-kept f keeps xs none)
     at false e rest = let all = sum_by-cons f x xs in let zero_is = none x e in omega arith
 
 -- a weight is the sum of its bits
-pub bits-add : (weights : List ℕ) (place : ℕ) → place < length weights → sum weights ≤ MOST_WEIGHT → sum_by (part (get_or weights place 0)) (bits_of weights) ≡ get_or weights place 0
+pub bits-add : (weights : List ℕ) (tid : ℕ) → tid < length weights → sum weights ≤ MOST_WEIGHT → sum_by (part (get_or weights tid 0)) (bits_of weights) ≡ get_or weights tid 0
 unfolding bits_of
-bits-add weights place here light =
-    let number : ℕ = get_or weights place 0 in
-    let small : number < 2 ^ 40 = (let le = get_or-le-sum_by (λ x. x) weights place 0 here in omega arith) in
-    let all = sum-kept (part number) (λ bit. list_any (has_bit bit) weights) (range_with_len 0 40) (λ bit lost. lacks bit weights place here lost) in
+bits-add weights tid here light =
+    let number : ℕ = get_or weights tid 0 in
+    let small : number < 2 ^ 40 = (let le = get_or-le-sum_by (λ x. x) weights tid 0 here in omega arith) in
+    let all = sum-kept (part number) (λ bit. list_any (has_bit bit) weights) (range_with_len 0 40) (λ bit lost. lacks bit weights tid here lost) in
     all ∙ parts-add number 40 ∙ whole number small
   where
     whole : (n : ℕ) → n < 2 ^ 40 → n % 2 ^ 40 ≡ n
     whole n below = omega arith
 
-    none_at : (bit : ℕ) (ws : List ℕ) (i : ℕ) → i < length ws → list_any (has_bit bit) ws ≡ false → has_bit bit (get_or ws i 0) ≡ false
-    none_at bit [] i inside lost = absurd (omega arith)
-    none_at bit (w ∷ ws) zero inside lost = left (has_bit bit w) (list_any (has_bit bit) ws) lost
-      where
-        left : (a b : Bool) → (a || b) ≡ false → a ≡ false
-        left true b e = e
-        left false b e = refl
-    none_at bit (w ∷ ws) (suc i) inside lost = none_at bit ws i (omega arith) (right (has_bit bit w) (list_any (has_bit bit) ws) lost)
-      where
-        right : (a b : Bool) → (a || b) ≡ false → b ≡ false
-        right true b e = absurd (both e)
-          where
-            both : true ≡ false → ⊥
-            both h = cc
-        right false b e = e
-
     lacks : (bit : ℕ) (ws : List ℕ) (i : ℕ) → i < length ws → list_any (has_bit bit) ws ≡ false → part (get_or ws i 0) bit ≡ 0
-    lacks bit ws i inside lost = ap (λ b. cond b 1 0 * 2 ^ bit) (none_at bit ws i inside lost) ∙ omega arith
+    lacks bit ws i inside lost = ap (λ b. cond b 1 0 * 2 ^ bit) (false_from_ne_true _ (λ h. true≢false (sym (list_any_at (has_bit bit) ws i 0 inside h) ∙ lost))) ∙ omega arith
 
 -- the bits of two numbers together
 pub either_bit : (bit a b : ℕ) → has_bit bit (bit_or a b) ≡ (has_bit bit a || has_bit bit b)
@@ -107,35 +94,26 @@ either_bit bit a b =
     low (suc zero) (suc (suc y)) p q = absurd (omega arith)
     low (suc (suc x)) y p q = absurd (omega arith)
 
--- ---- planes place by place
+-- ---- planes tid by tid
 
-pub place_in : (test : ℕ → Bool) (i : ℕ) → test i ≡ true → (ltb i (i + 1) && test i) ≡ true
-place_in test i h = ap (λ b. b && test i) (lt-ltb i (i + 1) (omega arith)) ∙ h
+pub tid_in : (test : ℕ → Bool) (i : ℕ) → test i ≡ true → (ltb i (i + 1) && test i) ≡ true
+tid_in test i h = ap (λ b. b && test i) (lt-ltb i (i + 1) (omega arith)) ∙ h
 
-pub place_apart : (test : ℕ → Bool) (i t : ℕ) → t ≢ i → (ltb t (i + 1) && test t) ≡ (ltb t i && test t)
-place_apart test i t differ = elim (cases_lt t i) [
-  | inl below ↦ (ap (λ b. b && test t) (lt-ltb t (i + 1) (omega arith)) ∙ sym (ap (λ b. b && test t) (lt-ltb t i below)))
-  | inr above ↦ (ap (λ b. b && test t) (le-ltb t (i + 1) (beyond above)) ∙ sym (ap (λ b. b && test t) (le-ltb t i above)))
+pub tid_apart : (test : ℕ → Bool) (i t : ℕ) → t ≢ i → (ltb t (i + 1) && test t) ≡ (ltb t i && test t)
+tid_apart test i t differ = ap (λ b. b && test t) (same t i differ)
+  where
+    same : (t i : ℕ) → t ≢ i → ltb t (i + 1) ≡ ltb t i
+    same t i differ = grind (arith, nat_tests)
+
+pub tid_out : (test : ℕ → Bool) (i : ℕ) → test i ≡ false → (t : ℕ) → (ltb t (i + 1) && test t) ≡ (ltb t i && test t)
+tid_out test i h t = elim (cases_eq t i) [
+  | inl e ↦ (ap (λ b. ltb t (i + 1) && b) (ap test e ∙ h) ∙ and_none (ltb t (i + 1)) ∙ sym (ap (λ b. ltb t i && b) (ap test e ∙ h) ∙ and_none (ltb t i)))
+  | inr differ ↦ tid_apart test i t differ
 ]
   where
-    beyond : i ≤ t → i + 1 ≤ t
-    beyond above = elim (cases_eq t i) [ inl e ↦ absurd (differ e) | inr d ↦ omega arith ]
-
-pub place_out : (test : ℕ → Bool) (i : ℕ) → test i ≡ false → (t : ℕ) → (ltb t (i + 1) && test t) ≡ (ltb t i && test t)
-place_out test i h t = elim (cases_eq t i) [
-  | inl e ↦ (out t (ap test e ∙ h) (ltb t (i + 1)) ∙ sym (out t (ap test e ∙ h) (ltb t i)))
-  | inr differ ↦ place_apart test i t differ
-]
-  where
-    out : (t : ℕ) → test t ≡ false → (b : Bool) → (b && test t) ≡ false
-    out t lost true = lost
-    out t lost false = refl
-
-get_or-beyond : (xs : List ℕ) (i : ℕ) → length xs ≤ i → get_or xs i 0 ≡ 0
-get_or-beyond [] zero le = refl
-get_or-beyond [] (suc i) le = refl
-get_or-beyond (x ∷ xs) zero le = absurd (omega arith)
-get_or-beyond (x ∷ xs) (suc i) le = get_or-beyond xs i (omega arith)
+    and_none : (b : Bool) → (b && false) ≡ false
+    and_none true = refl
+    and_none false = refl
 
 zero_has : (bit : ℕ) → has_bit bit 0 ≡ false
 zero_has bit = let le = shr_le 0 bit in let e : 0 / 2 ^ bit ≡ 0 = omega arith in ap (λ n. eqb (n % 2) 1) e
@@ -145,7 +123,7 @@ plane_end weights bit n t most = elim (cases_lt t n) [
   | inl below ↦ ap (λ b. b && has_bit bit (get_or weights t 0)) (lt-ltb t n below)
   | inr above ↦
       (ap (λ b. b && has_bit bit (get_or weights t 0)) (le-ltb t n above)
-      ∙ sym (ap (has_bit bit) (get_or-beyond weights t (omega arith)) ∙ zero_has bit))
+      ∙ sym (ap (has_bit bit) (get_or_past weights t 0 (omega arith)) ∙ zero_has bit))
 ]
 
 -- ---- rows of bits
@@ -158,27 +136,19 @@ filter_both p q (x ∷ xs) = at (p x) (filter_both p q xs)
     at true rest = ap (λ l. cond (q x) (x ∷ l) l) rest
     at false rest = rest
 
--- the places of a cover among all places
-pub cover_in_range : (cover : List ℕ) (n : ℕ) → IsRising cover → ((place : ℕ) → Member place cover → place < n) → filter (has cover) (range_with_len 0 n) ≡ cover
-cover_in_range cover n up below = same_rising (filter (has cover) (range_with_len 0 n)) cover
-    (filter_rises (has cover) (range_with_len 0 n) (range_rises 0 n)) up
-    (λ place m. Member-from_has cover place (Member-filter (has cover) place (range_with_len 0 n) m).1)
-    (λ place m. let low = below place m in
-    Member-from_filter (has cover) place (range_with_len 0 n) (Member-into_range 0 n place (omega arith) (omega arith)) (has-from_Member cover place m))
-
 pub room : (n : ℕ) → n ≤ word_count n * 64
 room n = let most = (div_ceil_times n 64 (omega arith)).0 in omega arith
 
--- the word of a place is there
-pub word_is_there : (place n : ℕ) → place < n → place / 64 < word_count n
-word_is_there place n below = let most = room n in div_below place 64 (word_count n) (omega arith) (omega arith)
+-- the word of a tid is there
+pub word_is_there : (tid n : ℕ) → tid < n → tid / 64 < word_count n
+word_is_there tid n below = let most = room n in div_below tid 64 (word_count n) (omega arith) (omega arith)
 
 module _ (weights cover : List ℕ) (is : IsCover weights cover) where
   in_words : filter (has cover) (range_with_len 0 (word_count (length weights) * 64)) ≡ cover
   in_words = cover_in_range cover (word_count (length weights) * 64) is.rises
-      (λ place m. let low = is.below place (has-from_Member cover place m) in let wide = room (length weights) in omega arith)
+      (λ tid m. let low = is.below tid (has-from_Member cover tid m) in let wide = room (length weights) in omega arith)
 
-  -- how many places of a cover pass a test
+  -- how many tids of a cover pass a test
   pub row_shares : (q : ℕ → Bool) → shared_bits (words_of (length weights) cover) (words_from q 0 (word_count (length weights))) ≡ length (filter q cover)
   row_shares q = words_share (has cover) q 0 (word_count (length weights))
       ∙ ap length (filter_both (has cover) q (range_with_len 0 (word_count (length weights) * 64)) ∙ ap (filter q) in_words)
@@ -187,72 +157,38 @@ module _ (weights cover : List ℕ) (is : IsCover weights cover) where
 pub share_is_common : (n : ℕ) (first second : List ℕ) → words_from (λ t. has first t && has second t) 0 (word_count n) ≡ words_of n (common first second)
 share_is_common n first second = words_same (λ t. has first t && has second t) (has (common first second)) 0 (word_count n) (λ t low.
     same_test (has first t && has second t) (has (common first second) t)
-    (λ h. let p = both (has first t) (has second t) h in has-from_Member (common first second) t (Member-from_filter (has second) t first (Member-from_has first t p.0) p.1))
-    (λ h. let m = Member-filter (has second) t first (Member-from_has (common first second) t h) in and (has first t) (has second t) (has-from_Member first t m.0) m.1))
-  where
-    both : (a b : Bool) → (a && b) ≡ true → (a ≡ true) × (b ≡ true)
-    both true b e = (refl, e)
-    both false b e = absurd (never e)
-      where
-        never : false ≡ true → ⊥
-        never h = cc
+    (λ h. let p = and_parts (has first t) (has second t) h in has-from_Member (common first second) t (Member-from_filter (has second) t first (Member-from_has first t p.0) p.1))
+    (λ h. let m = Member-filter (has second) t first (Member-from_has (common first second) t h) in and_from (has first t) (has second t) (has-from_Member first t m.0) m.1))
 
-    and : (a b : Bool) → a ≡ true → b ≡ true → (a && b) ≡ true
-    and a b e f = ap (λ x. x && b) e ∙ f
+-- ---- what the tids of a row weigh
 
--- ---- what the places of a row weigh
-
-ones-weigh : (weights cover : List ℕ) → are_ones weights ≡ true → ((place : ℕ) → Member place cover → place < length weights) → cover_weight weights cover ≡ length cover
+ones-weigh : (weights cover : List ℕ) → are_ones weights ≡ true → ((tid : ℕ) → Member tid cover → tid < length weights) → cover_weight weights cover ≡ length cover
 ones-weigh weights [] ones below = refl
 ones-weigh weights (x ∷ cover) ones below =
-    let rest = ones-weigh weights cover ones (λ place m. below place (inr m)) in
-    let one : get_or weights x 0 ≡ 1 = at weights x (below x (inl refl)) ones in
-    let all = sum_by-cons (λ place. get_or weights place 0) x cover in omega arith
-  where
-    at : (ws : List ℕ) (i : ℕ) → i < length ws → are_ones ws ≡ true → get_or ws i 0 ≡ 1
-    at [] i here all = absurd (omega arith)
-    at (w ∷ ws) zero here all = eqb-true w 1 (first (eqb w 1) (are_ones ws) all)
-      where
-        first : (a b : Bool) → (a && b) ≡ true → a ≡ true
-        first true b e = refl
-        first false b e = e
-    at (w ∷ ws) (suc i) here all = at ws i (omega arith) (second (eqb w 1) (are_ones ws) all)
-      where
-        second : (a b : Bool) → (a && b) ≡ true → b ≡ true
-        second true b e = e
-        second false b e = absurd (never e)
-          where
-            never : false ≡ true → ⊥
-            never h = cc
+    let rest = ones-weigh weights cover ones (λ tid m. below tid (inr m)) in
+    let one = eqb-true (get_or weights x 0) 1 (each_of (λ weight. eqb weight 1) weights ones (get_or weights x 0) (Member-at weights x (below x (inl refl)))) in
+    let all = sum_by-cons (λ tid. get_or weights tid 0) x cover in omega arith
 
 pub ones_weigh : (weights cover : List ℕ) → are_ones weights ≡ true → IsCover weights cover → length cover ≡ cover_weight weights cover
-ones_weigh weights cover ones is = sym (ones-weigh weights cover ones (λ place m. is.below place (has-from_Member cover place m)))
+ones_weigh weights cover ones is = sym (ones-weigh weights cover ones (λ tid m. is.below tid (has-from_Member cover tid m)))
 
 sum-of_none : (xs : List ℕ) → sum_by (λ x. 0 * 2 ^ x) xs ≡ 0
 sum-of_none [] = refl
 sum-of_none (x ∷ xs) = let rest = sum-of_none xs in let all = sum_by-cons (λ y. 0 * 2 ^ y) x xs in omega arith
 
-sum-added : (f g h : ℕ → ℕ) (xs : List ℕ) → ((x : ℕ) → h x ≡ f x + g x) → sum_by h xs ≡ sum_by f xs + sum_by g xs
-sum-added f g h [] e = refl
-sum-added f g h (x ∷ xs) e =
-    let rest = sum-added f g h xs e in
-    let a = sum_by-cons f x xs in
-    let b = sum_by-cons g x xs in
-    let c = sum_by-cons h x xs in
-    let here = e x in omega arith
-
 -- the weights of a cover, bit by bit
-by_bits : (weights cover : List ℕ) → sum weights ≤ MOST_WEIGHT → ((place : ℕ) → Member place cover → place < length weights)
-    → sum_by (λ bit. length (filter (λ place. has_bit bit (get_or weights place 0)) cover) * 2 ^ bit) (bits_of weights) ≡ cover_weight weights cover
+by_bits : (weights cover : List ℕ) → sum weights ≤ MOST_WEIGHT → ((tid : ℕ) → Member tid cover → tid < length weights)
+    → sum_by (λ bit. length (filter (λ tid. has_bit bit (get_or weights tid 0)) cover) * 2 ^ bit) (bits_of weights) ≡ cover_weight weights cover
 by_bits weights [] light below = sum-of_none (bits_of weights)
 by_bits weights (x ∷ cover) light below =
     let number : ℕ = get_or weights x 0 in
-    let many : ℕ → ℕ = λ bit. length (filter (λ place. has_bit bit (get_or weights place 0)) cover) * 2 ^ bit in
-    let rest = by_bits weights cover light (λ place m. below place (inr m)) in
+    let many : ℕ → ℕ = λ bit. length (filter (λ tid. has_bit bit (get_or weights tid 0)) cover) * 2 ^ bit in
+    let rest = by_bits weights cover light (λ tid m. below tid (inr m)) in
     let one = bits-add weights x (below x (inl refl)) light in
-    let all = sum_by-cons (λ place. get_or weights place 0) x cover in
-    sum-added (part number) many (λ bit. length (filter (λ place. has_bit bit (get_or weights place 0)) (x ∷ cover)) * 2 ^ bit) (bits_of weights)
-    (λ bit. at (has_bit bit number) (filter (λ place. has_bit bit (get_or weights place 0)) cover) (2 ^ bit))
+    let all = sum_by-cons (λ tid. get_or weights tid 0) x cover in
+    sum_by-same (λ bit. length (filter (λ tid. has_bit bit (get_or weights tid 0)) (x ∷ cover)) * 2 ^ bit) (λ bit. part number bit + many bit) (bits_of weights)
+    (λ bit. at (has_bit bit number) (filter (λ tid. has_bit bit (get_or weights tid 0)) cover) (2 ^ bit))
+    ∙ sym (sum_by-add (part number) many (bits_of weights))
     ∙ ap (λ n. n + sum_by many (bits_of weights)) one ∙ ap (λ n. number + n) rest ∙ sym all
   where
     at : (b : Bool) (l : List ℕ) (power : ℕ) → length (cond b (x ∷ l) l) * power ≡ cond b 1 0 * power + length l * power
@@ -275,17 +211,13 @@ pub planes_weigh : (weights cover : List ℕ) (planes : List Plane) → IsCover 
     → map (λ plane. plane.bit) planes ≡ bits_of weights → All (IsPlane weights) planes
     → sum_by (plane_weight (words_of (length weights) cover)) planes ≡ cover_weight weights cover
 planes_weigh weights cover planes is light bits are =
-    let many : ℕ → ℕ = λ bit. length (filter (λ place. has_bit bit (get_or weights place 0)) cover) * 2 ^ bit in
+    let many : ℕ → ℕ = λ bit. length (filter (λ tid. has_bit bit (get_or weights tid 0)) cover) * 2 ^ bit in
     sum-planes many (plane_weight (words_of (length weights) cover)) planes
     (λ i d here. let plane = get_or planes i d in
     ap (λ l. shared_bits (words_of (length weights) cover) l * 2 ^ plane.bit) (are i d here)
-    ∙ ap (λ n. n * 2 ^ plane.bit) (row_shares weights cover is (λ place. has_bit plane.bit (get_or weights place 0))))
+    ∙ ap (λ n. n * 2 ^ plane.bit) (row_shares weights cover is (λ tid. has_bit plane.bit (get_or weights tid 0))))
     ∙ ap (sum_by many) bits
-    ∙ by_bits weights cover light (λ place m. is.below place (has-from_Member cover place m))
-
-narrow_from : (planes : List Plane) → ((bit : ℕ) → Member bit (map (λ plane. plane.bit) planes) → bit < 40) → AllByRecursion (λ plane. plane.bit < 40) planes
-narrow_from [] low = tt
-narrow_from (p ∷ planes) low = (low p.bit (inl refl), narrow_from planes (λ bit m. low bit (inr m)))
+    ∙ by_bits weights cover light (λ tid m. is.below tid (has-from_Member cover tid m))
 
 low_bits : (weights : List ℕ) (bit : ℕ) → Member bit (bits_of weights) → bit < 40
 unfolding bits_of
@@ -294,12 +226,13 @@ low_bits weights bit m =
     let high = r.1 in omega arith
 
 pub planes_narrow : (weights : List ℕ) (planes : List Plane) → map (λ plane. plane.bit) planes ≡ bits_of weights → All (λ plane. plane.bit < 40) planes
-planes_narrow weights planes bits = All-from_recursion (λ (plane : Plane). plane.bit < 40) planes
-    (narrow_from planes (λ bit m. low_bits weights bit (subst (Member bit) bits m)))
+planes_narrow weights planes bits k d here =
+    let plane = get_or planes k d in
+    low_bits weights plane.bit (subst (Member plane.bit) bits (Member-map (λ (p : Plane). p.bit) plane planes (Member-from_Contains plane planes (Contains-get_or planes k d here))))
 
 pub planes_wide : (weights : List ℕ) (planes : List Plane) → All (IsPlane weights) planes → All (λ plane. length plane.words.items ≡ word_count (length weights)) planes
 planes_wide weights planes are = All-weaker (IsPlane weights) (λ (plane : Plane). length plane.words.items ≡ word_count (length weights))
-    (λ plane e. ap length e ∙ length-words (λ place. has_bit plane.bit (get_or weights place 0)) 0 (word_count (length weights))) planes are
+    (λ plane e. ap length e ∙ length-words (λ tid. has_bit plane.bit (get_or weights tid 0)) 0 (word_count (length weights))) planes are
 
 -- ---- two rows of bits
 

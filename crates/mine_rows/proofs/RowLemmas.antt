@@ -11,18 +11,18 @@ use Rattle.mine_rows.proofs.CoverLemmas.{lacking_joined, part_covers, parts_weig
 
 -- what a cover lacks of what it shares with another is what the other lacks
 lacking_common : (first second : List ℕ) → lacking first (common first second) ≡ lacking first second
-lacking_common first second = filter_members (λ place. not (has (common first second) place)) (λ place. not (has second place)) first (λ place m.
-    ap not (same_test (has (common first second) place) (has second place)
-    (λ h. (Member-filter (has second) place first (Member-from_has (common first second) place h)).1)
-    (λ h. has-from_Member (common first second) place (Member-from_filter (has second) place first m h))))
+lacking_common first second = filter_members (λ tid. not (has (common first second) tid)) (λ tid. not (has second tid)) first (λ tid m.
+    ap not (same_test (has (common first second) tid) (has second tid)
+    (λ h. (Member-filter (has second) tid first (Member-from_has (common first second) tid h)).1)
+    (λ h. has-from_Member (common first second) tid (Member-from_filter (has second) tid first m h))))
 
 -- the weights of what two covers share, and of the rest of the first
 pub rest_weighs : (weights first second : List ℕ) → cover_weight weights (common first second) + cover_weight weights (lacking first (common first second)) ≡ cover_weight weights first
 rest_weighs weights first second =
-    ap (λ l. cover_weight weights (common first second) + cover_weight weights l) (lacking_common first second) ∙ parts_weigh (λ place. get_or weights place 0) (has second) first
+    ap (λ l. cover_weight weights (common first second) + cover_weight weights l) (lacking_common first second) ∙ parts_weigh (λ tid. get_or weights tid 0) (has second) first
 
 pub missing_covers : (weights parent cover : List ℕ) (row : DiffList) → IsDiffList weights parent cover row → IsCover weights row.missing.items
-missing_covers weights parent cover row is = subst (IsCover weights) (sym is.missing) (part_covers weights parent (λ place. not (has cover place)) is.above)
+missing_covers weights parent cover row is = subst (IsCover weights) (sym is.missing) (part_covers weights parent (λ tid. not (has cover tid)) is.above)
 
 module _ (weights parent first second : List ℕ) where
   pub common_covers : IsCover weights first → IsCover weights (common first second)
@@ -34,7 +34,7 @@ module _ (weights parent first second : List ℕ) where
       ∙ lacking_joined parent first second p.above.rises p.covers.rises p.inside
 
   pub rest_covers : IsCover weights first → IsCover weights (lacking first (common first second))
-  rest_covers is = part_covers weights first (λ place. not (has (common first second) place)) is
+  rest_covers is = part_covers weights first (λ tid. not (has (common first second) tid)) is
 
   pub common_inside : contains first (common first second) ≡ true
-  common_inside = contains_each first (common first second) (λ place m. (Member-filter (has second) place first m).0)
+  common_inside = contains_each first (common first second) (λ tid m. (Member-filter (has second) tid first m).0)

@@ -1,4 +1,4 @@
--- Words of the places that pass a test.
+-- Words of the tids that pass a test.
 use Rattle.std.proofs.Common.{◌≡◌, ◌≢◌, ℕ, zero, suc, ◌+◌, ◌*◌, ◌<◌, ◌≤◌, ◌^◌, Bool, true, false, ◌&&◌, List, [], ◌∷◌, ◌++◌, length, get_or, map, cond, eqb, refl, sym, ap, ◌∙◌, arith, length-append}
 use Rattle.std.specs.Prelude.{bit_and, bit_or, count_ones, replicate}
 use Rattle.std.specs.Int.Bits.{or_zero_r}
@@ -13,14 +13,15 @@ use Rattle.std.proofs.lemmas.List.Sums.{length-filter}
 use Rattle.mine_rows.specs.Bits.{shared_bits, word_at, words_from}
 use Rattle.mine_rows.specs.Planes.{has_bit}
 
--- the word of n places from one on
+-- the word of n tids from one on
 abbrev word : (ℕ → Bool) → ℕ → ℕ → ℕ
 word p a n = mask_l (map p (range_with_len a n))
 
-word_same : (p q : ℕ → Bool) (a n : ℕ) → ((t : ℕ) → a ≤ t → p t ≡ q t) → word p a n ≡ word q a n
-word_same p q a zero same = refl
-word_same p q a (suc n) same =
-    ap (λ b. cond b 1 0 + 2 * word p (a + 1) n) (same a (omega arith)) ∙ ap (λ m. cond (q a) 1 0 + 2 * m) (word_same p q (a + 1) n (λ t low. same t (omega arith)))
+within_same : (x y : ℕ → Bool) (b m : ℕ) → ((t : ℕ) → b ≤ t → t < b + m → x t ≡ y t) → word x b m ≡ word y b m
+within_same x y b zero alike = refl
+within_same x y b (suc m) alike =
+    ap (λ c. cond c 1 0 + 2 * word x (b + 1) m) (alike b (omega arith) (omega arith))
+    ∙ ap (λ k. cond (y b) 1 0 + 2 * k) (within_same x y (b + 1) m (λ t low high. alike t (omega arith) (omega arith)))
 
 word_none : (a n : ℕ) → word (λ t. false) a n ≡ 0
 word_none a zero = refl
@@ -30,11 +31,11 @@ bit_below : (b : Bool) → cond b 1 0 < 2 ^ 1
 bit_below true = omega arith
 bit_below false = omega arith
 
--- a word with one more place
+-- a word with one more tid
 word_set : (p q : ℕ → Bool) (a n j : ℕ) → j < n → q (a + j) ≡ true → ((t : ℕ) → t ≢ a + j → q t ≡ p t) → bit_or (word p a n) (2 ^ j) ≡ word q a n
 word_set p q a zero j below one same = absurd (omega arith)
 word_set p q a (suc n) zero below one same =
-    let rest : word p (a + 1) n ≡ word q (a + 1) n = word_same p q (a + 1) n (λ t low. sym (same t (λ e. absurd (omega arith)))) in
+    let rest : word p (a + 1) n ≡ word q (a + 1) n = within_same p q (a + 1) n (λ t low high. sym (same t (λ e. absurd (omega arith)))) in
     let P : ℕ = word p (a + 1) n in
     let left : cond (p a) 1 0 + 2 * P ≡ P * 2 ^ 1 + cond (p a) 1 0 = omega arith in
     let joined = or_block 1 P 0 (cond (p a) 1 0) 1 (bit_below (p a)) (omega arith) in
@@ -87,11 +88,7 @@ word_and p q (x ∷ l) =
     turned : (y c : ℕ) → y * 2 ^ 1 + c ≡ c + 2 * y
     turned y c = omega arith
 
--- ---- words of 64 places
-
-at_same : (p q : ℕ → Bool) (a : ℕ) → ((t : ℕ) → a ≤ t → p t ≡ q t) → word_at p a ≡ word_at q a
-unfolding word_at
-at_same p q a same = word_same p q a 64 same
+-- ---- words of 64 tids
 
 at_none : (a : ℕ) → word_at (λ t. false) a ≡ 0
 unfolding word_at
@@ -109,12 +106,6 @@ at_ones : (p : ℕ → Bool) (a : ℕ) → count_ones (word_at p a) ≡ length (
 unfolding word_at
 at_ones p a = ones-mask_l p (range_with_len a 64) ∙ sym (length-filter p (range_with_len a 64))
 
-within_same : (x y : ℕ → Bool) (b m : ℕ) → ((t : ℕ) → b ≤ t → t < b + m → x t ≡ y t) → word x b m ≡ word y b m
-within_same x y b zero alike = refl
-within_same x y b (suc m) alike =
-    ap (λ c. cond c 1 0 + 2 * word x (b + 1) m) (alike b (omega arith) (omega arith))
-    ∙ ap (λ k. cond (y b) 1 0 + 2 * k) (within_same x y (b + 1) m (λ t low high. alike t (omega arith) (omega arith)))
-
 at_within : (x y : ℕ → Bool) (b : ℕ) → ((t : ℕ) → b ≤ t → t < b + 64 → x t ≡ y t) → word_at x b ≡ word_at y b
 unfolding word_at
 at_within x y b alike = within_same x y b 64 alike
@@ -122,7 +113,7 @@ at_within x y b alike = within_same x y b 64 alike
 pub words_same : (p q : ℕ → Bool) (a n : ℕ) → ((t : ℕ) → a ≤ t → p t ≡ q t) → words_from p a n ≡ words_from q a n
 words_same p q a zero same = refl
 words_same p q a (suc n) same =
-    ap (λ w. w ∷ words_from p (a + 64) n) (at_same p q a same) ∙ ap (λ l. word_at q a ∷ l) (words_same p q (a + 64) n (λ t low. same t (omega arith)))
+    ap (λ w. w ∷ words_from p (a + 64) n) (at_within p q a (λ t low high. same t low)) ∙ ap (λ l. word_at q a ∷ l) (words_same p q (a + 64) n (λ t low. same t (omega arith)))
 
 pub words_none : (a n : ℕ) → words_from (λ t. false) a n ≡ replicate n 0
 words_none a zero = refl
@@ -132,7 +123,7 @@ pub length-words : (p : ℕ → Bool) (a n : ℕ) → length (words_from p a n) 
 length-words p a zero = refl
 length-words p a (suc n) = ap suc (length-words p (a + 64) n)
 
--- one more place
+-- one more tid
 pub words_set : (p q : ℕ → Bool) (a n i j : ℕ) → i < n → j < 64 → q (a + (i * 64 + j)) ≡ true → ((t : ℕ) → t ≢ a + (i * 64 + j) → q t ≡ p t)
     → set (words_from p a n) i (bit_or (get_or (words_from p a n) i 0) (2 ^ j)) ≡ words_from q a n
 words_set p q a zero i j here below one same = absurd (omega arith)
@@ -181,7 +172,7 @@ at_bit p a j below =
     ap (λ n. eqb n 1) (bit_mask_l (map p (range_with_len a 64)) j) ∙ one_is (get_or (map p (range_with_len a 64)) j false)
     ∙ get_or-map-range_with_len p a 64 j (a + j) false below refl
 
--- the bit of a place is one where the place passes the test
+-- the bit of a tid is one where the tid passes the test
 pub words_bit : (p : ℕ → Bool) (a n i j : ℕ) → i < n → j < 64 → has_bit j (get_or (words_from p a n) i 0) ≡ p (a + (i * 64 + j))
 words_bit p a zero i j here below = absurd (omega arith)
 words_bit p a (suc n) zero j here below = let e : a + j ≡ a + (0 * 64 + j) = omega arith in at_bit p a j below ∙ ap p e

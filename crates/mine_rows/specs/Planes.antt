@@ -1,4 +1,4 @@
--- Weights of places bit by bit.
+-- Weights of tids bit by bit.
 use Rattle.std.specs.Prelude.{◌≡◌, ℕ, Bool, ◌*◌, ◌/◌, ◌%◌, ◌^◌, ◌==◌, List, [], All, filter, length, map, slice_index, if◌then◌else◌}
 use Rattle.std.specs.List.{list_all, list_any, range_with_len}
 use Rattle.mine_rows.specs.declared.plane.Plane.{Plane}
@@ -16,15 +16,15 @@ are_ones weights = list_all (λ weight. weight == 1) weights
 unfoldable pub bits_of : List ℕ → List ℕ
 bits_of weights = filter (λ bit. list_any (has_bit bit) weights) (range_with_len 0 40)
 
--- a plane has the bit of each place whose weight has the plane's bit
+-- a plane has the bit of each tid whose weight has the plane's bit
 abbrev pub IsPlane : List ℕ → Plane → Type 0
-IsPlane weights plane = plane.words.items ≡ words_from (λ place. has_bit plane.bit (slice_index weights place)) 0 (word_count (length weights))
+IsPlane weights plane = plane.words.items ≡ words_from (λ tid. has_bit plane.bit (slice_index weights tid)) 0 (word_count (length weights))
 
 -- a plane for each bit that some weight has; none where all weights are 1
 pub record ArePlanes (weights : List ℕ) (ones : Bool) (planes : List Plane) : Type 0 where
   pub bits : map (λ plane. plane.bit) planes ≡ (if ones then [] else bits_of weights)
   pub words : All (IsPlane weights) planes
 
--- what a row's places in a plane add to its weight
+-- what a row's tids in a plane add to its weight
 abbrev pub plane_weight : List ℕ → Plane → ℕ
 plane_weight words plane = shared_bits words plane.words.items * 2 ^ plane.bit

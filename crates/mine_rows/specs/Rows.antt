@@ -10,7 +10,7 @@ use Rattle.mine_rows.specs.Cover.{IsCover, lacking, cover_weight}
 -- the cover itself, and what it weighs
 pub record IsTidList (weights parent cover : List ℕ) (row : TidList) : Type 0 where
   pub covers : IsCover weights cover
-  pub places : row.places.items ≡ cover
+  pub tids : row.tids.items ≡ cover
   pub count : row.count ≡ cover_weight weights cover
 
 -- what the cover lacks of its parent's, and what the cover weighs
@@ -21,7 +21,7 @@ pub record IsDiffList (weights parent cover : List ℕ) (row : DiffList) : Type 
   pub missing : row.missing.items ≡ lacking parent cover
   pub count : row.count ≡ cover_weight weights cover
 
--- a bit for each place, which is one where the place is in the cover, and what the cover weighs
+-- a bit for each tid, which is one where the tid is in the cover, and what the cover weighs
 pub record IsBitRow (weights parent cover : List ℕ) (row : BitRow) : Type 0 where
   pub covers : IsCover weights cover
   pub words : row.words.items ≡ words_of (length weights) cover

@@ -5,30 +5,27 @@ ghost use Rattle.mine_rows.specs.Planes.{ArePlanes, are_ones};
 ghost use Rattle.mine_rows.specs.Rows.{IsBitRow};
 
 use crate::marks::Marks;
-use crate::row::Row;
-use crate::row_words::{RowWords, has_place, set, share, zeros};
+use crate::row::{Row, may_pay};
+use crate::row_words::{RowWords, has_tid, set, share, zeros};
 use crate::weights::Weights;
 use smallvec::SmallVec;
 use std::alloc::{AllocError, Global};
 
-/// At least this many rows must be kept for a database of more than one word to be made anew.
-const LEAST_KEPT: usize = 6;
-
-/// A row with a bit for each place, which is one if the place is in its cover.
+/// A row with a bit for each tid, which is one if the tid is in its cover.
 #[derive(Debug, Drop)]
 pub struct BitRow {
     words: RowWords,
     count: u64,
 }
 
-/// A bit for each place below a number, which is one if the place is in a cover.
-fn bits_of_cover(alloc: Global, cover: &[u32], places: u32) -> Result<RowWords, AllocError>
-    requires { AllBelow places cover.now }
-    ensures { IfOk result (λ words. words.items ≡ words_of places cover.now) }
+/// A bit for each tid below a number, which is one if the tid is in a cover.
+fn bits_of_cover(alloc: Global, cover: &[u32], tids: u32) -> Result<RowWords, AllocError>
+    requires { AllBelow tids cover.now }
+    ensures { IfOk result (λ words. words.items ≡ words_of tids cover.now) }
 {
-    let mut words = zeros(alloc, places as usize)?;
-    for place in cover {
-        set(&mut words, *place as usize);
+    let mut words = zeros(alloc, tids as usize)?;
+    for tid in cover {
+        set(&mut words, *tid as usize);
     }
     Ok(words)
 }
@@ -42,7 +39,7 @@ impl Row for BitRow {
 
     fn first(alloc: Global, cover: &[u32], weights: &Weights) -> Result<Self, AllocError> {
         Ok(BitRow {
-            words: bits_of_cover(alloc, cover, weights.places())?,
+            words: bits_of_cover(alloc, cover, weights.count())?,
             count: weights.weight(cover),
         })
     }
@@ -81,20 +78,20 @@ impl Row for BitRow {
     }
 
     fn pays_to_reproject(&self, kept: usize, joined: usize, weights: &Weights) -> bool {
-        kept >= LEAST_KEPT && kept >= joined / 2 && weights.places() > 64 && weights.is_halved()
+        may_pay(kept) && kept >= joined / 2 && weights.count() > 64 && weights.is_halved()
     }
 
     fn cover<'a>(
         &'a self,
         weights: &Weights,
-        places: &'a mut Vec<u32>,
+        tids: &'a mut Vec<u32>,
     ) -> Result<Option<&'a [u32]>, AllocError> {
-        places.clear();
-        for place in 0..weights.places() {
-            if has_place(&self.words, place) {
-                places.push(place)?;
+        tids.clear();
+        for tid in 0..weights.count() {
+            if has_tid(&self.words, tid) {
+                tids.push(tid)?;
             }
         }
-        Ok(Some(places.as_slice()))
+        Ok(Some(tids.as_slice()))
     }
 }

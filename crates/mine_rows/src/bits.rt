@@ -34,7 +34,7 @@ fn shared_by_words(first: &[u64], second: &[u64]) -> u64
     count
 }
 
-/// At how many bit places two rows of words both have a one.
+/// At how many bits two rows of words both have a one.
 pub fn and_count(a: &[u64], b: &[u64]) -> u64
     requires same { length a.now ≡ length b.now }
     requires few { length a.now ≤ MOST_WORDS }

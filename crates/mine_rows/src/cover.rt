@@ -1,4 +1,4 @@
-//! Places that a cover lacks.
+//! Tids that a cover lacks.
 ghost use Rattle.std.specs.Prelude.{◌≡◌, IfOk};
 ghost use Rattle.std.specs.List.{range_with_len};
 ghost use Rattle.basket_sets.specs.Itemset.{IsRising};
@@ -6,20 +6,20 @@ ghost use Rattle.mine_rows.specs.Cover.{lacking};
 
 use std::alloc::{AllocError, Global};
 
-/// The places below a number that are not in a cover.
-pub fn missing_places(alloc: Global, cover: &[u32], count: u32) -> Result<Vec<u32>, AllocError>
+/// The tids below a number that are not in a cover.
+pub fn missing_tids(alloc: Global, cover: &[u32], count: u32) -> Result<Vec<u32>, AllocError>
     requires { IsRising cover.now }
-    ensures { IfOk result (λ places. places.items ≡ lacking (range_with_len 0 count) cover.now) }
+    ensures { IfOk result (λ tids. tids.items ≡ lacking (range_with_len 0 count) cover.now) }
 {
     let missing = (count as usize).saturating_sub(cover.len());
-    let mut places = Vec::with_capacity(alloc, missing)?;
+    let mut tids = Vec::with_capacity(alloc, missing)?;
     let mut at = 0;
-    for place in 0..count {
-        if at < cover.len() && cover[at] == place {
+    for tid in 0..count {
+        if at < cover.len() && cover[at] == tid {
             at += 1;
         } else {
-            places.push(place)?;
+            tids.push(tid)?;
         }
     }
-    Ok(places)
+    Ok(tids)
 }

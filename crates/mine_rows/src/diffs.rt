@@ -3,13 +3,13 @@ ghost use Rattle.basket_sets.specs.Itemset.{has};
 ghost use Rattle.mine_rows.specs.Marks.{IsMarked};
 ghost use Rattle.mine_rows.specs.Rows.{IsDiffList};
 
-use crate::cover::missing_places;
+use crate::cover::missing_tids;
 use crate::marks::Marks;
 use crate::row::Row;
 use crate::weights::Weights;
 use std::alloc::{AllocError, Global};
 
-/// A row that lists the places that its cover lacks of its parent's (Zaki and Gouda 2003).
+/// A row that lists the tids that its cover lacks of its parent's (Zaki and Gouda 2003).
 #[derive(Debug, Drop)]
 pub struct DiffList {
     missing: Vec<u32>,
@@ -19,13 +19,13 @@ pub struct DiffList {
 impl Row for DiffList {
     ghost stands = { IsDiffList };
 
-    ghost at_rest = { λ weights marks. IsMarked weights (λ place. true) marks };
+    ghost at_rest = { λ weights marks. IsMarked weights (λ tid. true) marks };
 
-    ghost marked = { λ row weights marks. IsMarked weights (λ place. not (has row.missing.items place)) marks };
+    ghost marked = { λ row weights marks. IsMarked weights (λ tid. not (has row.missing.items tid)) marks };
 
     fn first(alloc: Global, cover: &[u32], weights: &Weights) -> Result<Self, AllocError> {
         Ok(DiffList {
-            missing: missing_places(alloc, cover, weights.places())?,
+            missing: missing_tids(alloc, cover, weights.count())?,
             count: weights.weight(cover),
         })
     }
@@ -77,11 +77,11 @@ impl Row for DiffList {
         false
     }
 
-    // Its places are those of its parent's cover that it lacks.
+    // Its tids are those of its parent's cover that it lacks.
     fn cover<'a>(
         &'a self,
         _weights: &Weights,
-        _places: &'a mut Vec<u32>,
+        _tids: &'a mut Vec<u32>,
     ) -> Result<Option<&'a [u32]>, AllocError> {
         Ok(None)
     }

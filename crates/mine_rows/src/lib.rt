@@ -1,6 +1,6 @@
-//! Rows that represent covers, the places whose baskets contain a set: `tids` lists them, `diffs`
-//! lists what they lack, and `bit_rows` has a bit for each place. Two rows are joined to the row of
-//! what their covers share.
+//! Rows that represent covers. A tid is the number of a basket, and the cover of a set has the tids
+//! of the baskets that contain it: `tids` lists them, `diffs` lists what they lack, and `bit_rows` has
+//! a bit for each tid. Two rows are joined to the row of what their covers share.
 #![tactic(auto)]
 
 mod bit_rows;

@@ -1,4 +1,4 @@
-//! A bit of the weights of places.
+//! A bit of the weights of tids.
 ghost use Rattle.std.specs.Prelude.{◌≡◌, ◌≤◌, All, drop, length};
 ghost use Rattle.std.proofs.Props.{props};
 ghost use Rattle.mine_rows.specs.Bits.{MOST_WORDS, shared_bits};
@@ -6,12 +6,12 @@ ghost use Rattle.mine_rows.specs.Bits.{MOST_WORDS, shared_bits};
 use crate::bits::and_count;
 use crate::row_words::RowWords;
 
-/// The places whose weights have a bit, as a row of bits.
+/// The tids whose weights have a bit, as a row of bits.
 #[derive(Debug, Drop)]
 pub struct Plane {
     pub bit: u32,
     pub words: RowWords,
-    /// How many words there are up to the last that has a one: few if heavy places come first.
+    /// How many words there are up to the last that has a one: few if heavy tids come first.
     used: usize,
     ghost within: { used ≤ length words.items },
     ghost ended: { All (λ word. word ≡ 0) (drop used words.items) } by { Prim.hlevel props },
@@ -27,7 +27,7 @@ impl Plane {
         Plane { bit, words, used }
     }
 
-    /// At how many places a row of as many words has a one, as the plane has.
+    /// At how many tids a row of as many words has a one, as the plane has.
     pub fn count(&self, words: &RowWords) -> u64
         requires same { length self.now.words.items ≡ length words.now.items }
         requires few { length words.now.items ≤ MOST_WORDS }

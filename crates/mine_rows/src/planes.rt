@@ -1,10 +1,10 @@
-//! Weights of places bit by bit.
+//! Weights of tids bit by bit.
 ghost use Rattle.std.specs.Prelude.{◌≡◌, ◌≤◌, ◌<◌, ℕ, All, IfOk, length};
 ghost use Rattle.std.specs.List.{list_any, sum_by};
 ghost use Rattle.basket_sets.specs.Database.{MOST_WEIGHT};
 ghost use Rattle.mine_rows.specs.Bits.{MOST_WORDS};
 ghost use Rattle.mine_rows.specs.Planes.{ArePlanes, IsPlane, has_bit, plane_weight};
-ghost use Rattle.mine_rows.specs.Weights.{MOST_PLACES};
+ghost use Rattle.mine_rows.specs.Weights.{MOST_TIDS};
 
 use crate::bits::and_count;
 use crate::plane::Plane;
@@ -16,15 +16,15 @@ const WEIGHT_BITS: u32 = 40;
 
 /// The plane of a bit.
 fn plane_of(alloc: Global, weights: &[u64], bit: u32) -> Result<Plane, AllocError>
-    requires few { length weights.now ≤ MOST_PLACES }
+    requires few { length weights.now ≤ MOST_TIDS }
     requires narrow { bit < 64 }
     ensures bit { IfOk result (λ plane. plane.bit ≡ bit) }
     ensures words { IfOk result (λ plane. IsPlane weights.now plane) }
 {
     let mut words = zeros(alloc, weights.len())?;
-    for (place, weight) in weights.iter().enumerate() {
+    for (tid, weight) in weights.iter().enumerate() {
         if (*weight >> bit) % 2 == 1 {
-            set(&mut words, place);
+            set(&mut words, tid);
         }
     }
     Ok(Plane::of(bit, words))
@@ -43,7 +43,7 @@ fn bits_in(weights: &[u64]) -> u64
 
 /// A plane for each bit that some weight has, or none if all weights are 1.
 pub fn planes_of(alloc: Global, weights: &[u64], are_ones: bool) -> Result<Vec<Plane>, AllocError>
-    requires few { length weights.now ≤ MOST_PLACES }
+    requires few { length weights.now ≤ MOST_TIDS }
     ensures { IfOk result (λ planes. ArePlanes weights.now are_ones planes.items) }
 {
     let mut planes = Vec::new(alloc);
@@ -59,7 +59,7 @@ pub fn planes_of(alloc: Global, weights: &[u64], are_ones: bool) -> Result<Vec<P
     Ok(planes)
 }
 
-/// The weight of the places of a row of bits, by the planes of the weights.
+/// The weight of the tids of a row of bits, by the planes of the weights.
 pub fn weight_by_planes(words: &RowWords, planes: &[Plane]) -> u64
     requires few { length words.now.items ≤ MOST_WORDS }
     requires wide { All (λ plane. length plane.words.items ≡ length words.now.items) planes.now }

@@ -1,31 +1,37 @@
 ghost use Rattle.std.specs.Prelude.{◌≡◌, ℕ, List, IfOk, IfSome, IsTrue, length, nat_le};
 ghost use Rattle.basket_sets.specs.Itemset.{AllBelow, IsRising};
-ghost use Rattle.mine_rows.specs.Cover.{all_places, common, cover_weight};
+ghost use Rattle.mine_rows.specs.Cover.{all_tids, common, cover_weight};
 
 use crate::marks::Marks;
 use crate::weights::Weights;
 use std::alloc::{AllocError, Global};
 
-/// A row represents a cover beside its parent's: the places whose baskets contain a set, beside
-/// those that contain the set that it extends (Zaki 2000).
+/// Whether it may pay to make a database anew for so many rows that are kept: fewer are joined sooner,
+/// and only the baskets of at most 64 are merged as words.
+pub(crate) fn may_pay(kept: usize) -> bool {
+    kept >= 6 && kept <= 64
+}
+
+/// A row represents a cover beside its parent's: the tids of the baskets that contain a set, beside
+/// the tids of those that contain the set that it extends (Zaki 2000).
 pub trait Row: Drop {
     ghost use Rattle.mine_rows.specs.declared.marks.Marks.{Marks};
 
     /// Whether a row over weights represents a cover, beside a parent's cover.
     ghost stands: { List ℕ → List ℕ → List ℕ → Self → Type 0 };
 
-    /// What is marked while no row is joined with others, of the places of weights.
+    /// What is marked while no row is joined with others, of the tids of weights.
     ghost at_rest: { List ℕ → Marks → Type 0 };
 
-    /// What is marked while a row is joined with others: of the places of the other rows those that
+    /// What is marked while a row is joined with others: of the tids of the other rows those that
     /// are to be kept.
     ghost marked: { Self → List ℕ → Marks → Type 0 };
 
-    /// The row of a cover beside all places.
+    /// The row of a cover beside all tids.
     fn first(alloc: Global, cover: &[u32], weights: &Weights) -> Result<Self, AllocError>
         requires rises { IsRising cover.now }
         requires below { AllBelow (length weights.now) cover.now }
-        ensures { IfOk result (λ row. stands weights.now (all_places weights.now) cover.now row) };
+        ensures { IfOk result (λ row. stands weights.now (all_tids weights.now) cover.now row) };
 
     /// A row that represents nothing yet, for `join` to make another of.
     fn empty(alloc: Global) -> Self;
@@ -48,7 +54,7 @@ pub trait Row: Drop {
         requires marks { marked self.now weights.now marks.old }
         ensures { at_rest weights.now marks.new };
 
-    /// Becomes the row of what two covers share, beside the first of them, for which places are
+    /// Becomes the row of what two covers share, beside the first of them, for which tids are
     /// marked, and returns whether that weighs enough. If it doesn't, the row represents nothing.
     /// Both rows are beside one parent.
     fn join(
@@ -94,12 +100,12 @@ pub trait Row: Drop {
     /// with it are kept.
     fn pays_to_reproject(&self, kept: usize, joined: usize, weights: &Weights) -> bool;
 
-    /// The places of its cover, or nothing if it doesn't list them. A row that has no list of them
-    /// writes one over other places.
+    /// The tids of its cover, or nothing if it doesn't list them. A row that has no list of them
+    /// writes one over other tids.
     fn cover<'a>(
         &'a self,
         weights: &Weights,
-        places: &'a mut Vec<u32>,
+        tids: &'a mut Vec<u32>,
     ) -> Result<Option<&'a [u32]>, AllocError>
         ensures { IfOk result (λ found. IfSome found (λ listed. (parent cover : List ℕ)
             → stands weights.now parent cover self.now → listed.now ≡ cover)) };

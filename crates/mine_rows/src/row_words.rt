@@ -7,35 +7,35 @@ use crate::bits::put_shared;
 use smallvec::SmallVec;
 use std::alloc::{AllocError, Global};
 
-/// One or more words. One word is kept in place, so that up to 64 places take no memory of their
+/// One or more words. One word is kept in place, so that up to 64 tids take no memory of their
 /// own.
 pub type RowWords = SmallVec<u64, { 1 }>;
 
-/// How many words have a bit for each of this many places, of which there is always one.
-fn words_for(places: usize) -> usize
-    ensures { result ≡ word_count places }
+/// How many words have a bit for each of this many tids: one or more.
+fn words_for(tids: usize) -> usize
+    ensures { result ≡ word_count tids }
 {
-    places.div_ceil(64).max(1)
+    tids.div_ceil(64).max(1)
 }
 
-/// Words without ones, with a bit for each of this many places.
-pub fn zeros(alloc: Global, places: usize) -> Result<RowWords, AllocError>
-    ensures { IfOk result (λ words. words.items ≡ replicate (word_count places) 0) }
+/// Words without ones, with a bit for each of this many tids.
+pub fn zeros(alloc: Global, tids: usize) -> Result<RowWords, AllocError>
+    ensures { IfOk result (λ words. words.items ≡ replicate (word_count tids) 0) }
 {
-    SmallVec::from_elem(alloc, 0, words_for(places))
+    SmallVec::from_elem(alloc, 0, words_for(tids))
 }
 
-/// Sets the bit of a place.
+/// Sets the bit of a tid.
 #[inline]
-pub fn set(words: &mut RowWords, place: usize)
-    requires { place / 64 < length words.old.items }
+pub fn set(words: &mut RowWords, tid: usize)
+    requires { tid / 64 < length words.old.items }
     ensures long { length words.new.items ≡ length words.old.items }
-    ensures set { (test with_place : ℕ → Bool) → words.old.items ≡ words_from test 0 (length words.old.items)
-        → with_place place ≡ true → ((other : ℕ) → other ≢ place → with_place other ≡ test other)
-        → words.new.items ≡ words_from with_place 0 (length words.old.items) }
+    ensures set { (test with_tid : ℕ → Bool) → words.old.items ≡ words_from test 0 (length words.old.items)
+        → with_tid tid ≡ true → ((other : ℕ) → other ≢ tid → with_tid other ≡ test other)
+        → words.new.items ≡ words_from with_tid 0 (length words.old.items) }
 {
     let words = words.as_mut_slice();
-    words[place / 64] |= 1 << (place % 64);
+    words[tid / 64] |= 1 << (tid % 64);
 }
 
 /// Becomes the words that two rows share. Returns how many ones they have.
@@ -53,16 +53,16 @@ pub fn share(words: &mut RowWords, x: &RowWords, y: &RowWords) -> Result<u64, Al
     Ok(put_shared(words.as_mut_slice(), x.as_slice(), y.as_slice()))
 }
 
-/// The word at a place among them, or 0 if there is none.
+/// The word at an index, or 0 if there is none.
 fn word(words: &RowWords, at: usize) -> u64
     ensures { result ≡ slice_index words.now.items at }
 {
     words.as_slice().get(at).copied().unwrap_or(0)
 }
 
-/// Whether the bit of a place is one.
-pub fn has_place(words: &RowWords, place: u32) -> bool
-    ensures { (test : ℕ → Bool) (count : ℕ) → words.now.items ≡ words_from test 0 count → place / 64 < count → result ≡ test place }
+/// Whether the bit of a tid is one.
+pub fn has_tid(words: &RowWords, tid: u32) -> bool
+    ensures { (test : ℕ → Bool) (count : ℕ) → words.now.items ≡ words_from test 0 count → tid / 64 < count → result ≡ test tid }
 {
-    (word(words, place as usize / 64) >> (place % 64)) % 2 == 1
+    (word(words, tid as usize / 64) >> (tid % 64)) % 2 == 1
 }

@@ -4,54 +4,51 @@ ghost use Rattle.mine_rows.specs.Marks.{IsMarked};
 ghost use Rattle.mine_rows.specs.Rows.{IsTidList};
 
 use crate::marks::Marks;
-use crate::row::Row;
+use crate::row::{Row, may_pay};
 use crate::weights::Weights;
 use std::alloc::{AllocError, Global};
 
-/// At least this many rows must be kept for a database to be made anew.
-const LEAST_KEPT: usize = 6;
+/// At least this many tids must be in the cover for a database to be made anew.
+const LEAST_TIDS: usize = 16;
 
-/// At least this many places must be in the cover for a database to be made anew.
-const LEAST_PLACES: usize = 16;
-
-/// A row that lists the places of its cover (Zaki 2000).
+/// A row that lists the tids of its cover (Zaki 2000).
 #[derive(Debug, Drop)]
 pub struct TidList {
-    places: Vec<u32>,
+    tids: Vec<u32>,
     count: u64,
 }
 
 impl Row for TidList {
     ghost stands = { IsTidList };
 
-    ghost at_rest = { λ weights marks. IsMarked weights (λ place. false) marks };
+    ghost at_rest = { λ weights marks. IsMarked weights (λ tid. false) marks };
 
-    ghost marked = { λ row weights marks. IsMarked weights (has row.places.items) marks };
+    ghost marked = { λ row weights marks. IsMarked weights (has row.tids.items) marks };
 
     fn first(alloc: Global, cover: &[u32], weights: &Weights) -> Result<Self, AllocError> {
         Ok(TidList {
-            places: cover.to_vec(alloc)?,
+            tids: cover.to_vec(alloc)?,
             count: weights.weight(cover),
         })
     }
 
     fn empty(alloc: Global) -> Self {
         TidList {
-            places: Vec::new(alloc),
+            tids: Vec::new(alloc),
             count: 0,
         }
     }
 
     fn new_marks(alloc: Global, weights: &Weights) -> Result<Marks, AllocError> {
-        Marks::new(alloc, weights.places())
+        Marks::new(alloc, weights.count())
     }
 
     fn mark(&self, marks: &mut Marks, weights: &Weights) {
-        marks.mark(&self.places, weights);
+        marks.mark(&self.tids, weights);
     }
 
     fn unmark(&self, marks: &mut Marks, _weights: &Weights) {
-        marks.clear(&self.places);
+        marks.clear(&self.tids);
     }
 
     fn join(
@@ -63,7 +60,7 @@ impl Row for TidList {
         least: u64,
     ) -> Result<bool, AllocError> {
         weights.bounds();
-        let Some(count) = marks.keep(&y.places, &mut self.places, u64::MAX)? else {
+        let Some(count) = marks.keep(&y.tids, &mut self.tids, u64::MAX)? else {
             unreachable!()
         };
         self.count = count;
@@ -75,16 +72,16 @@ impl Row for TidList {
     }
 
     fn pays_to_reproject(&self, kept: usize, _joined: usize, weights: &Weights) -> bool {
-        // A small part of the places is joined as soon as its database is made anew.
-        let places = self.places.len();
-        kept >= LEAST_KEPT && places >= LEAST_PLACES && places >= weights.places() as usize / 8
+        // A small part of the tids is joined sooner than its database is made anew.
+        let tids = self.tids.len();
+        may_pay(kept) && tids >= LEAST_TIDS && tids >= weights.count() as usize / 8
     }
 
     fn cover<'a>(
         &'a self,
         _weights: &Weights,
-        _places: &'a mut Vec<u32>,
+        _tids: &'a mut Vec<u32>,
     ) -> Result<Option<&'a [u32]>, AllocError> {
-        Ok(Some(&self.places))
+        Ok(Some(&self.tids))
     }
 }

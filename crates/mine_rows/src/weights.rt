@@ -1,11 +1,11 @@
-//! Weights of places.
+//! Weights of tids.
 ghost use Rattle.std.specs.Prelude.{◌≡◌, ◌≤◌, ◌<◌, ℕ, List, All, IfOk, length, slice_index, sum};
 ghost use Rattle.basket_sets.specs.Database.{MOST_WEIGHT};
 ghost use Rattle.basket_sets.specs.Itemset.{AllBelow, IsRising};
 ghost use Rattle.mine_rows.specs.Cover.{IsCover, cover_weight};
 ghost use Rattle.mine_rows.specs.Bits.{words_of};
 ghost use Rattle.mine_rows.specs.Planes.{ArePlanes, are_ones};
-ghost use Rattle.mine_rows.specs.Weights.{MOST_PLACES};
+ghost use Rattle.mine_rows.specs.Weights.{MOST_TIDS};
 
 use crate::plane::Plane;
 use crate::planes::{planes_of, weight_by_planes};
@@ -20,12 +20,12 @@ fn all_are_ones(weights: &[u64]) -> bool
     weights.iter().all(|weight| *weight == 1)
 }
 
-/// The weight of each place, by the place's number.
+/// The weight of each tid.
 #[derive(Debug, Drop)]
 pub struct Weights {
     weights: Vec<u64>,
     are_ones: bool,
-    /// Whether the places were at least twice as many before equal ones were merged.
+    /// Whether the baskets were at least twice as many before equal ones were merged.
     is_halved: bool,
 }
 
@@ -41,9 +41,9 @@ impl Model for Weights {
 }
 
 impl Weights {
-    /// The weights of the places, as many as there are.
+    /// The weights of the tids, as many as there are.
     pub fn of(alloc: Global, weights: &[u64]) -> Result<Self, AllocError>
-        requires few { length weights.now ≤ MOST_PLACES }
+        requires few { length weights.now ≤ MOST_TIDS }
         requires some { All (λ weight. 1 ≤ weight) weights.now }
         requires light { sum weights.now ≤ MOST_WEIGHT }
         ensures { IfOk result (λ copy. copy ≡ weights.now) }
@@ -51,10 +51,10 @@ impl Weights {
         Ok(Weights::of_vec(weights.to_vec(alloc)?, false))
     }
 
-    /// The weights of places, in their own vector, and whether there were at least twice as many
-    /// places before equal ones were merged.
+    /// The weights of tids, in their own vector, and whether there were at least twice as many
+    /// baskets before equal ones were merged.
     pub fn of_vec(weights: Vec<u64>, is_halved: bool) -> Self
-        requires few { length weights.items ≤ MOST_PLACES }
+        requires few { length weights.items ≤ MOST_TIDS }
         requires some { All (λ weight. 1 ≤ weight) weights.items }
         requires light { sum weights.items ≤ MOST_WEIGHT }
         ensures { result ≡ weights.items }
@@ -67,36 +67,36 @@ impl Weights {
         }
     }
 
-    /// How many places there are.
-    pub fn places(&self) -> u32
+    /// How many tids there are.
+    pub fn count(&self) -> u32
         ensures { result ≡ length self.now }
     {
         self.weights.len() as u32
     }
 
-    /// Whether merging equal places left at most half of them, so that it may do so again below.
+    /// Whether merging equal baskets left at most half of them, so that it may do so again below.
     pub(crate) fn is_halved(&self) -> bool {
         self.is_halved
     }
 
-    /// The weights by the places' numbers.
+    /// The weights, that of tid 0 first.
     pub(crate) fn to_vec(&self, alloc: Global) -> Result<Vec<u64>, AllocError>
         ensures { IfOk result (λ copy. copy.items ≡ self.now) }
     {
         self.weights.to_vec(alloc)
     }
 
-    /// The weight of a place.
-    pub fn of_place(&self, place: u32) -> u64
-        requires { place < length self.now }
-        ensures { result ≡ slice_index self.now place }
+    /// The weight of a tid.
+    pub fn of_tid(&self, tid: u32) -> u64
+        requires { tid < length self.now }
+        ensures { result ≡ slice_index self.now tid }
     {
-        self.weights[place as usize]
+        self.weights[tid as usize]
     }
 
     /// What holds of all weights: they are few, none is 0, and no cover is heavy.
     pub fn bounds(&self)
-        ensures few { length self.now ≤ MOST_PLACES }
+        ensures few { length self.now ≤ MOST_TIDS }
         ensures some { All (λ weight. 1 ≤ weight) self.now }
         ensures total { sum self.now ≤ MOST_WEIGHT }
         ensures light { (cover : List ℕ) → IsCover self.now cover → cover_weight self.now cover ≤ MOST_WEIGHT }
@@ -104,16 +104,16 @@ impl Weights {
         let _ = self.weights.len();
     }
 
-    /// The weight of some places together.
-    pub fn weight(&self, places: &[u32]) -> u64
-        requires rises { IsRising places.now }
-        requires below { AllBelow (length self.now) places.now }
-        ensures sum { result ≡ cover_weight self.now places.now }
+    /// The weight of some tids together.
+    pub fn weight(&self, tids: &[u32]) -> u64
+        requires rises { IsRising tids.now }
+        requires below { AllBelow (length self.now) tids.now }
+        ensures sum { result ≡ cover_weight self.now tids.now }
         ensures within { result ≤ MOST_WEIGHT }
     {
         let mut weight = 0;
-        for place in places {
-            weight += self.weights[*place as usize];
+        for tid in tids {
+            weight += self.weights[*tid as usize];
         }
         weight
     }
@@ -125,7 +125,7 @@ impl Weights {
         planes_of(alloc, &self.weights, self.are_ones)
     }
 
-    /// The weight of the places of a row of bits, if the row has this many ones.
+    /// The weight of the tids of a row of bits, if the row has this many ones.
     pub(crate) fn weight_of_bits(&self, words: &RowWords, ones: u64, planes: &[Plane]) -> u64
         requires planes { ArePlanes self.now (are_ones self.now) planes.now }
         requires cover { (cover : List ℕ) × IsCover self.now cover × (words.now.items ≡ words_of (length self.now) cover) × (ones ≡ length cover) }

@@ -14,14 +14,14 @@ pub fn words_share_bits()
     ensures ones { (count : ℕ) → shared_bits (replicate count 18446744073709551615) (replicate count 18446744073709551615) ≡ count * 64 }
 {}
 
-/// A row of bits: among 70 places the cover of the places 0, 2, 63 and 64. The weights 1, 2 and 3
+/// A row of bits: among 70 tids the cover of the tids 0, 2, 63 and 64. The weights 1, 2 and 3
 /// have two planes.
 pub fn rows_have_bits()
     ensures row { words_of 70 (0 ∷ 2 ∷ 63 ∷ 64 ∷ []) ≡ 9223372036854775813 ∷ 1 ∷ [] }
     ensures planes { bits_of (1 ∷ 2 ∷ 3 ∷ []) ≡ 0 ∷ 1 ∷ [] }
 {}
 
-/// Beside all of nine places, a cover of seven lacks 4 and 6. So does what it has in common with
+/// Beside all of nine tids, a cover of seven lacks 4 and 6. So does what it has in common with
 /// another, beside that one; and beside the cover of seven this lacks 1, 2 and 5.
 pub fn differences_of_covers()
     ensures first { lacking (0 ∷ 1 ∷ 2 ∷ 3 ∷ 4 ∷ 5 ∷ 6 ∷ 7 ∷ 8 ∷ []) (0 ∷ 1 ∷ 2 ∷ 3 ∷ 5 ∷ 7 ∷ 8 ∷ []) ≡ 4 ∷ 6 ∷ [] }
@@ -29,8 +29,8 @@ pub fn differences_of_covers()
     ensures swapped { lacking (0 ∷ 1 ∷ 2 ∷ 3 ∷ 5 ∷ 7 ∷ 8 ∷ []) (0 ∷ 3 ∷ 7 ∷ 8 ∷ []) ≡ 1 ∷ 2 ∷ 5 ∷ [] }
 {}
 
-/// Over the weights 1, 2 and 3 the cover of all places counts 6, and that of the first and the last
-/// place 4, by each kind of row.
+/// Over the weights 1, 2 and 3 the cover of all tids counts 6, and that of the first and the last
+/// tid 4, by each kind of row.
 pub fn covers_of_three_weights<R: Row>(alloc: Global) -> Result<(u64, u64), AllocError>
     ensures { IfOk result (λ counts. (counts.0 ≡ 6) × (counts.1 ≡ 4)) }
 {

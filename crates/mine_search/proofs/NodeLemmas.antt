@@ -33,13 +33,12 @@ adds_one one work before after sets worked told over few going = record {
 
 -- a search that fails
 pub fails : {P A : Type 0} (gives : P → Node → Type 0) (base : P) (set : List ℕ) (before after : Reached) (result : Result A MineFault) (fault : MineFault) → result ≡ Err fault
-    → ((limit : ℕ) → fault ≡ TooMany limit → (node : Node) → IsOf gives base set node → AreTooMany limit before after node)
-    → ((node : Node) → IsOf gives base set node → TellsAtMost before after node) → after.limit ≡ before.limit
-    → IsDone gives base set before after result
-fails gives base set before after result fault is many most limit = record {
+    → ((node : Node) → IsOf gives base set node → ((limit : ℕ) → fault ≡ TooMany limit → AreTooMany limit before after node) × TellsAtMost before after node)
+    → after.limit ≡ before.limit → IsDone gives base set before after result
+fails gives base set before after result fault is at limit = record {
   found = subst (λ r. OnOk r ((node : Node) → IsOf gives base set node → FindsAll before after node)) (sym is) tt;
-  too_many = λ n e. many n (let both = sym is ∙ e in cc);
-  at_most = most;
+  too_many = λ n e node of. (at node of).0 n (let both = sym is ∙ e in cc);
+  at_most = λ node of. (at node of).1;
   limit = limit;
 }
 

@@ -1,10 +1,10 @@
 -- The frequent sets that extend a set downward, depth first, and the work that finds them.
-use Rattle.std.specs.Prelude.{◌+◌, ◌++◌, ℕ, zero, suc, Bool, List, [], ◌∷◌, if◌then◌else◌}
+use Rattle.std.specs.Prelude.{◌+◌, ◌++◌, ℕ, zero, suc, Bool, List, [], ◌∷◌, filter, if◌then◌else◌}
+use Rattle.std.specs.List.{range_with_len}
 
 -- the ranks below a number with which a set passes a test, rising
 abbrev pub kept_below : (List ℕ → Bool) → ℕ → List ℕ → List ℕ
-kept_below test zero set = []
-kept_below test (suc rank) set = kept_below test rank set ++ (if test (rank ∷ set) then rank ∷ [] else [])
+kept_below test below set = filter (λ rank. test (rank ∷ set)) (range_with_len 0 below)
 
 -- the sets that pass a test, where each set so far does, and have one or more ranks below a number and then the ranks of a set: depth first, each set before those that extend it
 abbrev pub sets_below : (List ℕ → Bool) → ℕ → List ℕ → List (List ℕ)

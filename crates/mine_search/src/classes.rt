@@ -8,7 +8,6 @@ use crate::mined::Mined;
 use crate::projected::Projected;
 use crate::search::extend;
 use basket_core::{Coded, CountedSets, Itemset};
-use mine_classes::laws::lists_have_class_size;
 use mine_limit::{MineFault, Tally};
 use std::alloc::Global;
 
@@ -46,7 +45,6 @@ impl<P: Projected> Class<P> {
         ensures lent { OnOk result ((inner : P) → self.below ≡ Some inner → P.keeps inner scratch.old scratch.new) }
         ensures alone { self.below ≡ None → scratch.new ≡ scratch.old }
     {
-        lists_have_class_size();
         let Class {
             rank,
             support,

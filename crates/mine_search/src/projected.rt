@@ -50,7 +50,7 @@ pub trait Projected: Drop + Sized {
             → result ≡ node.over.support (slice_index_or (ranks self.now) at 0 ∷ node.set) };
 
     /// The conditional database of the set with the rank at an index, unless it has no frequent rank.
-    fn narrowed(
+    fn projected(
         &self,
         alloc: Global,
         at: usize,

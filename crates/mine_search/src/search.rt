@@ -36,7 +36,7 @@ pub fn extend<P: Projected, T: Tally>(
         let item = base.item(at);
         let support = base.support(at);
         let longer = mined.add_longer(alloc, index, item, support, tally)?;
-        let below = base.narrowed(alloc, at, scratch, &mut mined.steps)?;
+        let below = base.projected(alloc, at, scratch, &mut mined.steps)?;
         if let Some(inner) = below {
             extend(alloc, &inner, longer, scratch, mined, tally)?;
             inner.give_back(scratch);

@@ -8,7 +8,7 @@ use Rattle.basket_sets.specs.declared.counted.Counted.{Counted}
 abbrev pub with_set : List (List ℕ) → List ℕ → List (List ℕ)
 with_set sets set = if list_any (pointwise nat_eq set) sets then sets else sets ++ set ∷ []
 
--- the empty set, and then each of the others once, at its first place
+-- the empty set, and then each of the others once, where it first comes
 abbrev pub asked_of : List (List ℕ) → List (List ℕ)
 asked_of sets = fold with_set [] ([] ∷ sets)
 

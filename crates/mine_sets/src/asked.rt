@@ -8,8 +8,8 @@ use std::alloc::{AllocError, Global};
 use std::hash::{BuildHasher, BuildHasherDefault, FoldHasher, RandomState};
 use std::random::RandomSource;
 
-/// The sets that are asked for: the empty set, and then each of the others once, at its first
-/// place. Equal sets are found by random keys, or by a fixed seed.
+/// The sets that are asked for: the empty set, and then each of the others once, where it first
+/// comes. Equal sets are found by random keys, or by a fixed seed.
 pub fn asked_for<R: RandomSource>(
     rt: &R,
     alloc: Global,
@@ -24,7 +24,7 @@ pub fn asked_for<R: RandomSource>(
     }
 }
 
-/// The empty set, and then each of the others once, at its first place.
+/// The empty set, and then each of the others once, where it first comes.
 fn distinct_sets<S: BuildHasher + Drop>(
     alloc: Global,
     hasher: S,

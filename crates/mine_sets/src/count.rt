@@ -13,7 +13,7 @@ use std::random::RandomSource;
 use std::thread::Threads;
 
 /// The sets that are asked for with their supports: the empty set first, then each of the others once,
-/// at its first place. Sets that share a prefix are counted faster where they stand in a row.
+/// where it first comes. Sets that share a prefix are counted faster where they stand in a row.
 #[tactic(auto, using(crate::proofs::AskedLemmas::asked_counted))]
 pub fn count_sets<R: RandomSource + Threads + Sync, G: Gate + Sync>(
     rt: &R,

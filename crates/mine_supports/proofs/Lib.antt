@@ -2,6 +2,6 @@ pub mod theory
 mod CounterLemmas
 mod NeededLemmas
 mod OnesLemmas
-mod PlaceLemmas
+mod TidLemmas
 mod PrefixLemmas
 mod RowLemmas

@@ -1,11 +1,12 @@
 -- Baskets that can contain a set of so many items.
-use Rattle.std.proofs.Common.{◌≡◌, ℕ, suc, ◌+◌, ◌<◌, ◌≤◌, ◌||◌, Bool, true, false, List, [], ◌∷◌, ◌++◌, length, filter, take, get_or, cond, Some, refl, sym, ap, ◌∙◌, subst, inl, inr, arith}
+use Rattle.std.proofs.Common.{◌≡◌, ℕ, suc, ◌+◌, ◌<◌, ◌≤◌, ◌||◌, true, false, not, List, [], ◌∷◌, ◌++◌, length, filter, take, get_or, cond, Some, refl, sym, ap, ◌∙◌, subst, inl, inr, arith}
 use Rattle.std.specs.Prelude.{nat_eq}
 use Rattle.std.specs.Cmp.{nat_eq_equiv}
 use Rattle.std.specs.List.{All, list_any, slice_get}
-use Rattle.std.proofs.lemmas.Bool.{cases_Bool, le-leb, true≢false}
+use Rattle.std.proofs.lemmas.Bool.{cases_Bool, cond_both, le-leb, true≢false}
 use Rattle.std.proofs.lemmas.List.{length_push, take_more}
 use Rattle.std.proofs.lemmas.List.Elements.{All-append, All-from_recursion, All-map}
+use Rattle.std.proofs.lemmas.List.Filters.{sum_by-filter_both}
 use Rattle.std.proofs.lemmas.Map.Made.{length-le_from_is_member}
 use Rattle.basket_sets.specs.declared.weighted.Weighted.{Weighted}
 use Rattle.basket_sets.specs.Itemset.{IsRising, contains, has}
@@ -111,24 +112,18 @@ module _ (used : List ℕ) (least : ℕ) where
       let enough = is.enough in
       le-leb least (length (filter (has used) first.basket)) (omega arith)
 
-  one_needed : (set : List ℕ) → contains used set ≡ true → IsAtLeast least set → (first : Weighted) (baskets rest : List Weighted) → support_of rest set ≡ support_of baskets set
-      → (b : Bool) → is_needed used least first ≡ b → support_of (cond b (first ∷ rest) rest) set ≡ support_of (first ∷ baskets) set
-  one_needed set uses is first baskets rest same true e = support-cons first rest set ∙ ap (λ n. weight_at set first + n) same ∙ sym (support-cons first baskets set)
-  one_needed set uses is first baskets rest same false e = elim (cases_Bool (contains first.basket set)) [
-    | inl holds ↦ absurd (true≢false (sym (has_enough first set uses is holds) ∙ e))
-    | inr none ↦ (let zero = ap (λ b. cond b first.weight 0) none in omega (arith, same, zero, support-cons first baskets set))
-  ]
-
   -- a set of used items has the support among those that are needed that it has among all
   pub needed_support : (set : List ℕ) → contains used set ≡ true → IsAtLeast least set → (baskets : List Weighted) → support_of (needed used least baskets) set ≡ support_of baskets set
   needed_support set uses is [] = refl
   needed_support set uses is (first ∷ baskets) =
-      one_needed set uses is first baskets (needed used least baskets) (needed_support set uses is baskets) (is_needed used least first) refl
-
-  one_weighs : (first : Weighted) (baskets rest : List Weighted) → total_of rest ≤ total_of baskets → (b : Bool) → total_of (cond b (first ∷ rest) rest) ≤ total_of (first ∷ baskets)
-  one_weighs first baskets rest le true = omega (arith, le, support-cons first rest [], support-cons first baskets [])
-  one_weighs first baskets rest le false = omega (arith, le, support-cons first baskets [])
+      let rest = needed used least baskets in
+      let same = needed_support set uses is baskets in
+      cond_both (is_needed used least first) (first ∷ rest) rest (λ l. support_of l set ≡ support_of (first ∷ baskets) set)
+      (λ e. omega (arith, same, support-cons first rest set, support-cons first baskets set))
+      (λ e. elim (cases_Bool (contains first.basket set)) [
+        | inl holds ↦ absurd (true≢false (sym (has_enough first set uses is holds) ∙ e))
+        | inr none ↦ (let zero = ap (λ b. cond b first.weight 0) none in omega (arith, same, zero, support-cons first baskets set))
+      ])
 
   pub needed_total : (baskets : List Weighted) → total_of (needed used least baskets) ≤ total_of baskets
-  needed_total [] = omega arith
-  needed_total (first ∷ baskets) = one_weighs first baskets (needed used least baskets) (needed_total baskets) (is_needed used least first)
+  needed_total baskets = omega (arith, sum_by-filter_both (is_needed used least) (λ b. not (is_needed used least b)) (λ b. refl) (weight_at []) baskets)

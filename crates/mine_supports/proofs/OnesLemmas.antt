@@ -66,7 +66,7 @@ ones_shared a b x none =
     ap count_ones (and_or a b x)
     ∙ ones_or (a + b) (bit_and a x) (bit_and b x) (omega (arith, and_le_l a x)) (omega (arith, and_le_l b x)) (apart a b x none)
 
--- what a word shares with the word of one place
+-- what a word shares with the word of one tid
 pub one_shared : (j x : ℕ) → count_ones (bit_and (2 ^ j) x) ≡ bit_at x j
 unfolding lib.Count.ones
 one_shared j x = ap count_ones (and_comm (2 ^ j) x ∙ and_pow x j) ∙ one (bit_at x j) (bit_at-lt x j)

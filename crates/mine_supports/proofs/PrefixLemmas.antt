@@ -1,4 +1,4 @@
--- The places of the prefixes of sets.
+-- The tids of the prefixes of sets.
 use Rattle.std.specs.declared.alloc.Global.{Global}
 use Rattle.std.specs.declared.vec.Vec.{Vec}
 use Rattle.std.proofs.Common.{◌≡◌, ℕ, ◌+◌, ◌-◌, ◌<◌, ◌≤◌, List, [], ◌∷◌, ◌++◌, length, drop, take, get_or, refl, sym, ap, ◌∙◌, subst, inl, inr, arith}
@@ -10,29 +10,29 @@ use Rattle.mine_supports.specs.declared.tid_words.TidWord.{TidWord}
 use Rattle.mine_supports.specs.Prefixes.{ArePrefixes, AreLast, IsNext}
 use Rattle.mine_supports.specs.Counter.{AreAdded, IsShared}
 use Rattle.mine_supports.specs.Extensions.{extend}
-use Rattle.mine_supports.specs.TidWord.{ArePlacesOf, IsRowOf}
-use Rattle.mine_supports.proofs.PlaceLemmas.{are_kept}
+use Rattle.mine_supports.specs.TidWord.{AreTidsOf, IsRowOf}
+use Rattle.mine_supports.proofs.TidLemmas.{are_kept}
 
--- the places of one more prefix
-prefix_added : (baskets : List Weighted) (items : List ℕ) (prefixes : List (Vec TidWord Global)) (new : Vec TidWord Global) (depth : ℕ) → length prefixes ≡ depth → ArePlacesOf baskets (take depth items) new.items
+-- the tids of one more prefix
+prefix_added : (baskets : List Weighted) (items : List ℕ) (prefixes : List (Vec TidWord Global)) (new : Vec TidWord Global) (depth : ℕ) → length prefixes ≡ depth → AreTidsOf baskets (take depth items) new.items
     → ArePrefixes baskets items prefixes → ArePrefixes baskets items (prefixes ++ new ∷ [])
 prefix_added baskets items prefixes new depth long are before = record {
   some = omega (arith, length_push prefixes new);
   each = λ k d below. elim (cases_lt k (length prefixes)) [
-    | inl less ↦ subst (λ (v : Vec TidWord Global). ArePlacesOf baskets (take k items) v.items) (sym (get_or_append_left prefixes (new ∷ []) d k less)) (before.each k d less)
+    | inl less ↦ subst (λ (v : Vec TidWord Global). AreTidsOf baskets (take k items) v.items) (sym (get_or_append_left prefixes (new ∷ []) d k less)) (before.each k d less)
     | inr past ↦
         (let same : depth ≡ k = omega (arith, length_push prefixes new) in
-        subst (λ (v : Vec TidWord Global). ArePlacesOf baskets (take k items) v.items) (sym (get_or_push prefixes new d k (long ∙ same)))
-        (subst (λ n. ArePlacesOf baskets (take n items) new.items) same are))
+        subst (λ (v : Vec TidWord Global). AreTidsOf baskets (take k items) v.items) (sym (get_or_push prefixes new d k (long ∙ same)))
+        (subst (λ n. AreTidsOf baskets (take n items) new.items) same are))
   ];
 }
 
--- the places of the last prefix
-pub last_prefix : (baskets : List Weighted) (items : List ℕ) (prefixes : List (Vec TidWord Global)) (places : List TidWord) → ArePrefixes baskets items prefixes → AreLast prefixes places
-    → ArePlacesOf baskets (take (length prefixes - 1) items) places
-last_prefix baskets items [] places are last = absurd (let some = are.some in omega (arith, some))
-last_prefix baskets items (first ∷ prefixes) places are last =
-    subst (ArePlacesOf baskets (take (length (first ∷ prefixes) - 1) items)) (sym (last first)) (are.each (length (first ∷ prefixes) - 1) first (omega arith))
+-- the tids of the last prefix
+pub last_prefix : (baskets : List Weighted) (items : List ℕ) (prefixes : List (Vec TidWord Global)) (tids : List TidWord) → ArePrefixes baskets items prefixes → AreLast prefixes tids
+    → AreTidsOf baskets (take (length prefixes - 1) items) tids
+last_prefix baskets items [] tids are last = absurd (let some = are.some in omega (arith, some))
+last_prefix baskets items (first ∷ prefixes) tids are last =
+    subst (AreTidsOf baskets (take (length (first ∷ prefixes) - 1) items)) (sym (last first)) (are.each (length (first ∷ prefixes) - 1) first (omega arith))
 
 -- the next prefix, whose last item has a row
 pub next_prefix : (baskets : List Weighted) (items : List ℕ) (prefixes new : List (Vec TidWord Global)) (row : List ℕ) (depth : ℕ) → length prefixes ≡ depth + 1 → depth < length items
@@ -40,12 +40,12 @@ pub next_prefix : (baskets : List Weighted) (items : List ℕ) (prefixes new : L
 next_prefix baskets items [] new row depth long within is next are = absurd (omega (arith, long))
 next_prefix baskets items (first ∷ prefixes) new row depth long within is next are =
     let all = first ∷ prefixes in
-    let place : ℕ = length all - 1 in
-    let here : place < length all = omega arith in
-    let last : Vec TidWord Global = get_or all place first in
-    let kept = next.keeps last.items (λ d. ap (λ (v : Vec TidWord Global). v.items) (get_or_default all place first d here)) in
-    let at = subst (λ n. ArePlacesOf baskets (take n items) last.items) (let e : place ≡ depth = omega (arith, long) in e) (are.each place first here) in
-    let more = subst (λ l. ArePlacesOf baskets l next.kept.items) (sym (take_more items depth 0 within))
+    let index : ℕ = length all - 1 in
+    let here : index < length all = omega arith in
+    let last : Vec TidWord Global = get_or all index first in
+    let kept = next.keeps last.items (λ d. ap (λ (v : Vec TidWord Global). v.items) (get_or_default all index first d here)) in
+    let at = subst (λ n. AreTidsOf baskets (take n items) last.items) (let e : index ≡ depth = omega (arith, long) in e) (are.each index first here) in
+    let more = subst (λ l. AreTidsOf baskets l next.kept.items) (sym (take_more items depth 0 within))
     (are_kept baskets (take depth items) (get_or items depth 0) row last.items next.kept.items at is kept) in
     subst (ArePrefixes baskets items) (sym next.pushed) (prefix_added baskets items all next.kept (depth + 1) long more are)
 
@@ -60,16 +60,16 @@ prefixes_shared baskets before items count prefixes shared are = record {
       let low : k < 1 + count = omega arith in
       let within : k ≤ count = omega arith in
       let same : take k before ≡ take k items = sym (take-take k count before within) ∙ ap (take k) shared.same ∙ take-take k count items within in
-      subst (λ (v : Vec TidWord Global). ArePlacesOf baskets (take k items) v.items) (sym (get_or-take (1 + count) prefixes k d low))
-      (subst (λ l. ArePlacesOf baskets l (get_or prefixes k d).items) same (are.each k d less));
+      subst (λ (v : Vec TidWord Global). AreTidsOf baskets (take k items) v.items) (sym (get_or-take (1 + count) prefixes k d low))
+      (subst (λ l. AreTidsOf baskets l (get_or prefixes k d).items) same (are.each k d less));
 }
 
--- the places of a set's prefixes are those of a longer set's
+-- the tids of a set's prefixes are those of a longer set's
 prefixes_longer : (baskets : List Weighted) (items : List ℕ) (item : ℕ) (prefixes : List (Vec TidWord Global)) → length prefixes ≤ 1 + length items → ArePrefixes baskets items prefixes → ArePrefixes baskets (items ++ item ∷ []) prefixes
 prefixes_longer baskets items item prefixes short are = record {
   some = are.some;
   each = λ depth d below.
-      subst (λ l. ArePlacesOf baskets l (get_or prefixes depth d).items) (sym (take-append-le depth items (item ∷ []) (omega arith))) (are.each depth d below);
+      subst (λ l. AreTidsOf baskets l (get_or prefixes depth d).items) (sym (take-append-le depth items (item ∷ []) (omega arith))) (are.each depth d below);
 }
 
 -- if no basket contains a prefix, none contains the sets that extend it

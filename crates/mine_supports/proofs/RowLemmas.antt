@@ -19,26 +19,26 @@ use Rattle.mine_supports.specs.Rows.{AreRows, bit_in}
 use Rattle.mine_supports.specs.UsedItems.{AreNumbers}
 use Rattle.mine_supports.proofs.theory.UsedItems.{has_number}
 
--- the bits of rows once that of a place is set in the rows of some numbers
+-- the bits of rows once that of a tid is set in the rows of some numbers
 abbrev pub AreMarkedAt : ℕ → ℕ → List ℕ → List ℕ → List ℕ → Type 0
-AreMarkedAt words place numbers old new = (number other : ℕ) → other < words * 64
-    → bit_in new words number other ≡ (bit_in old words number other || (eqb other place && has numbers number))
+AreMarkedAt words tid numbers old new = (number other : ℕ) → other < words * 64
+    → bit_in new words number other ≡ (bit_in old words number other || (eqb other tid && has numbers number))
 
 or_grow : (a b c d : Bool) → ((a || (b && c)) || (b && d)) ≡ (a || (b && (c || d)))
 or_grow a b c d = grind arith
 
--- the bits of rows once that of a place is set in the row of a number
+-- the bits of rows once that of a tid is set in the row of a number
 abbrev pub IsSetAt : ℕ → ℕ → ℕ → List ℕ → List ℕ → Type 0
-IsSetAt words place at old new = (number other : ℕ) → other < words * 64
-    → bit_in new words number other ≡ (bit_in old words number other || (eqb other place && eqb at number))
+IsSetAt words tid at old new = (number other : ℕ) → other < words * 64
+    → bit_in new words number other ≡ (bit_in old words number other || (eqb other tid && eqb at number))
 
 -- a number more
-pub marked_more : (words place : ℕ) (numbers : List ℕ) (i : ℕ) (old bits new : List ℕ) → i < length numbers → AreMarkedAt words place (take i numbers) old bits
-    → IsSetAt words place (get_or numbers i 0) bits new → AreMarkedAt words place (take (i + 1) numbers) old new
-marked_more words place numbers i old bits new below marked sets number other inside =
-    sets number other inside ∙ ap (λ b. b || (eqb other place && eqb (get_or numbers i 0) number)) (marked number other inside)
-    ∙ or_grow (bit_in old words number other) (eqb other place) (has (take i numbers) number) (eqb (get_or numbers i 0) number)
-    ∙ ap (λ b. bit_in old words number other || (eqb other place && b)) (sym (has_more numbers i number below))
+pub marked_more : (words tid : ℕ) (numbers : List ℕ) (i : ℕ) (old bits new : List ℕ) → i < length numbers → AreMarkedAt words tid (take i numbers) old bits
+    → IsSetAt words tid (get_or numbers i 0) bits new → AreMarkedAt words tid (take (i + 1) numbers) old new
+marked_more words tid numbers i old bits new below marked sets number other inside =
+    sets number other inside ∙ ap (λ b. b || (eqb other tid && eqb (get_or numbers i 0) number)) (marked number other inside)
+    ∙ or_grow (bit_in old words number other) (eqb other tid) (has (take i numbers) number) (eqb (get_or numbers i 0) number)
+    ∙ ap (λ b. bit_in old words number other || (eqb other tid && b)) (sym (has_more numbers i number below))
 
 -- a word with one bit more
 one_bit : (v k i : ℕ) → k < 64 → eqb (bit_at (bit_or v (1 * 2 ^ k % 2 ^ 64)) i) 1 ≡ (eqb (bit_at v i) 1 || eqb i k)
@@ -47,24 +47,24 @@ one_bit v k i low = elim (cases_eq i k) [
   | inr differ ↦ (let other = bit_at_set_other w64 v k low i differ in grind (arith, nat_tests))
 ]
 
--- the bit of a place in the row of a number
-pub set_bit : (words place k at v : ℕ) (bits : List ℕ) → k * words + words ≤ length bits → place < words * 64
-    → at ≡ k * words + place / 64 → v ≡ bit_or (get_or bits at 0) (1 * 2 ^ (place % 64) % 2 ^ 64) → IsSetAt words place k bits (set bits at v)
-set_bit words place k at v bits long low stands value number other inside =
+-- the bit of a tid in the row of a number
+pub set_bit : (words tid k at v : ℕ) (bits : List ℕ) → k * words + words ≤ length bits → tid < words * 64
+    → at ≡ k * words + tid / 64 → v ≡ bit_or (get_or bits at 0) (1 * 2 ^ (tid % 64) % 2 ^ 64) → IsSetAt words tid k bits (set bits at v)
+set_bit words tid k at v bits long low stands value number other inside =
     let index : ℕ = number * words + other / 64 in
-    let col : place / 64 < words = omega arith in
+    let col : tid / 64 < words = omega arith in
     let column : other / 64 < words = omega arith in
     let all : at < length bits = omega (arith, long, col, stands) in
     elim (cases_eq index at) [
       | inl same ↦
-          (let row : number ≡ k = sym (div-mul-add number words (other / 64) column) ∙ ap (λ n. n / words) (same ∙ stands) ∙ div-mul-add k words (place / 64) col in
-          let word : other / 64 ≡ place / 64 = let e = ap (λ n. n * words) row in omega arith in
-          let there : eqb (other % 64) (place % 64) ≡ (eqb other place && eqb k number) = grind (arith, nat_tests) in
-          ap (λ n. eqb (bit_at n (other % 64)) 1) (get_or-set_at bits at index v 0 same all ∙ value) ∙ one_bit (get_or bits at 0) (place % 64) (other % 64) (omega arith)
+          (let row : number ≡ k = sym (div-mul-add number words (other / 64) column) ∙ ap (λ n. n / words) (same ∙ stands) ∙ div-mul-add k words (tid / 64) col in
+          let word : other / 64 ≡ tid / 64 = let e = ap (λ n. n * words) row in omega arith in
+          let there : eqb (other % 64) (tid % 64) ≡ (eqb other tid && eqb k number) = grind (arith, nat_tests) in
+          ap (λ n. eqb (bit_at n (other % 64)) 1) (get_or-set_at bits at index v 0 same all ∙ value) ∙ one_bit (get_or bits at 0) (tid % 64) (other % 64) (omega arith)
           ∙ (λ i. eqb (bit_at (get_or bits (sym same i) 0) (other % 64)) 1 || there i))
       | inr differ ↦
-          (let apart : (eqb other place && eqb k number) ≡ false = false_from_ne_true (eqb other place && eqb k number)
-          (λ e. let both = and_parts (eqb other place) (eqb k number) e in let p = eqb-true other place both.0 in let q = eqb-true k number both.1 in
+          (let apart : (eqb other tid && eqb k number) ≡ false = false_from_ne_true (eqb other tid && eqb k number)
+          (λ e. let both = and_parts (eqb other tid) (eqb k number) e in let p = eqb-true other tid both.0 in let q = eqb-true k number both.1 in
           differ (let row = ap (λ n. n * words) q in omega arith)) in
           ap (λ n. eqb (bit_at n (other % 64)) 1) (get_or-set_other bits at index v 0 differ)
           ∙ sym (ap (λ b. bit_in bits words number other || b) apart ∙ or_false (bit_in bits words number other)))
@@ -72,22 +72,22 @@ set_bit words place k at v bits long low stands value number other inside =
 
 -- ---- the rows of some baskets
 
-past_basket : (baskets : List Weighted) (place : ℕ) → length baskets ≤ place → basket_at baskets place ≡ []
-past_basket baskets place past = get_or_past (map (λ (b : Weighted). b.basket) baskets) place [] (omega (arith, length-map baskets (λ (b : Weighted). b.basket)))
+past_basket : (baskets : List Weighted) (tid : ℕ) → length baskets ≤ tid → basket_at baskets tid ≡ []
+past_basket baskets tid past = get_or_past (map (λ (b : Weighted). b.basket) baskets) tid [] (omega (arith, length-map baskets (λ (b : Weighted). b.basket)))
 
-set_more : (sets : List (List ℕ)) (set : List ℕ) (place u : ℕ) → (has (get_or sets place []) u || (eqb place (length sets) && has set u)) ≡ has (get_or (sets ++ set ∷ []) place []) u
+set_more : (sets : List (List ℕ)) (set : List ℕ) (tid u : ℕ) → (has (get_or sets tid []) u || (eqb tid (length sets) && has set u)) ≡ has (get_or (sets ++ set ∷ []) tid []) u
 set_more [] set zero u = refl
-set_more [] set (suc place) u = grind (arith, nat_tests)
+set_more [] set (suc tid) u = grind (arith, nat_tests)
 set_more (first ∷ sets) set zero u = grind (arith, nat_tests)
-set_more (first ∷ sets) set (suc place) u = let rest = set_more sets set place u in grind (arith, nat_tests)
+set_more (first ∷ sets) set (suc tid) u = let rest = set_more sets set tid u in grind (arith, nat_tests)
 
 -- a basket more
-basket_more : (baskets : List Weighted) (basket : Weighted) (place u : ℕ)
-    → (has (basket_at baskets place) u || (eqb place (length baskets) && has basket.basket u)) ≡ has (basket_at (baskets ++ basket ∷ []) place) u
-basket_more baskets basket place u =
+basket_more : (baskets : List Weighted) (basket : Weighted) (tid u : ℕ)
+    → (has (basket_at baskets tid) u || (eqb tid (length baskets) && has basket.basket u)) ≡ has (basket_at (baskets ++ basket ∷ []) tid) u
+basket_more baskets basket tid u =
     let items = λ (b : Weighted). b.basket in
-    (λ i. has (basket_at baskets place) u || (eqb place (sym (length-map baskets items) i) && has basket.basket u)) ∙ set_more (map items baskets) basket.basket place u
-    ∙ ap (λ l. has (get_or l place []) u) (sym (map-append items baskets (basket ∷ [])))
+    (λ i. has (basket_at baskets tid) u || (eqb tid (sym (length-map baskets items) i) && has basket.basket u)) ∙ set_more (map items baskets) basket.basket tid u
+    ∙ ap (λ l. has (get_or l tid []) u) (sym (map-append items baskets (basket ∷ [])))
 
 -- the rows of one basket more
 pub rows_more : (used : List ℕ) (before : List Weighted) (basket : Weighted) (numbers bits : List ℕ) (old new : Rows) → IsRising used → AreRows used before old → AreNumbers used basket.basket numbers
@@ -96,29 +96,29 @@ pub rows_more : (used : List ℕ) (before : List Weighted) (basket : Weighted) (
 rows_more used before basket numbers bits old new up are named room words is long marked = record {
   long = ap length is ∙ long ∙ are.long ∙ ap (λ w. length used * w) (sym words);
   enough = omega (arith, length_push before basket, room, words);
-  each = λ number place within inside.
+  each = λ number tid within inside.
       let u : ℕ = get_or used number 0 in
-      (λ i. bit_in (is i) (words i) number place) ∙ marked number place (omega (arith, inside, words))
-      ∙ ap (λ b. b || (eqb place (length before) && has numbers number)) (are.each number place within (omega (arith, inside, words)))
-      ∙ ap (λ b. has (basket_at before place) u || (eqb place (length before) && b)) (has_number used basket.basket numbers number up named within)
-      ∙ basket_more before basket place u;
+      (λ i. bit_in (is i) (words i) number tid) ∙ marked number tid (omega (arith, inside, words))
+      ∙ ap (λ b. b || (eqb tid (length before) && has numbers number)) (are.each number tid within (omega (arith, inside, words)))
+      ∙ ap (λ b. has (basket_at before tid) u || (eqb tid (length before) && b)) (has_number used basket.basket numbers number up named within)
+      ∙ basket_more before basket tid u;
 }
 
 -- the row of an item among all rows
 pub row_is : (items : List ℕ) (baskets : List Weighted) (rows : Rows) (number : ℕ) (row : List ℕ) → number < length items → AreRows items baskets rows
     → row ≡ take rows.words (drop (number * rows.words) rows.bits.items) → IsRowOf baskets (get_or items number 0) row
 row_is items baskets rows number row within are is = record {
-  each = λ place. elim (cases_lt place (rows.words * 64)) [
+  each = λ tid. elim (cases_lt tid (rows.words * 64)) [
     | inl inside ↦
-        (let word : place / 64 < rows.words = omega arith in
-        ap (λ n. eqb (bit_at n (place % 64)) 1)
-        (ap (λ l. get_or l (place / 64) 0) is ∙ get_or-take rows.words (drop (number * rows.words) rows.bits.items) (place / 64) 0 word
-        ∙ get_or-drop (number * rows.words) rows.bits.items (place / 64) 0)
-        ∙ are.each number place within inside)
+        (let word : tid / 64 < rows.words = omega arith in
+        ap (λ n. eqb (bit_at n (tid % 64)) 1)
+        (ap (λ l. get_or l (tid / 64) 0) is ∙ get_or-take rows.words (drop (number * rows.words) rows.bits.items) (tid / 64) 0 word
+        ∙ get_or-drop (number * rows.words) rows.bits.items (tid / 64) 0)
+        ∙ are.each number tid within inside)
     | inr past ↦
         (let enough = are.enough in
-        let short : length row ≤ place / 64 = omega (arith, ap length is, length-take rows.words (drop (number * rows.words) rows.bits.items)) in
-        let none = past_basket baskets place (omega arith) in
-        ap (λ n. eqb (bit_at n (place % 64)) 1) (get_or_past row (place / 64) 0 short) ∙ ap (λ n. eqb n 1) (bit_at-zero (place % 64)) ∙ sym (ap (λ l. has l (get_or items number 0)) none))
+        let short : length row ≤ tid / 64 = omega (arith, ap length is, length-take rows.words (drop (number * rows.words) rows.bits.items)) in
+        let none = past_basket baskets tid (omega arith) in
+        ap (λ n. eqb (bit_at n (tid % 64)) 1) (get_or_past row (tid / 64) 0 short) ∙ ap (λ n. eqb n 1) (bit_at-zero (tid % 64)) ∙ sym (ap (λ l. has l (get_or items number 0)) none))
   ];
 }

@@ -7,7 +7,7 @@ pub record IsShared (before items : List ℕ) (count : ℕ) : Type 0 where
   pub short : count ≤ length items
   pub same : take count before ≡ take count items
 
--- the supports of some sets in some baskets are added to the counts from a place on, and the other counts stay
+-- the supports of some sets in some baskets are added to the counts from an index on, and the other counts stay
 pub record AreAdded (sets : List (List ℕ)) (baskets : List Weighted) (start : ℕ) (old new : List ℕ) : Type 0 where
   pub added : (k : ℕ) → k < length sets → slice_index new (start + k) ≡ slice_index old (start + k) + support_of baskets (slice_index_or sets k [])
   pub before : (k : ℕ) → k < start → slice_index new k ≡ slice_index old k

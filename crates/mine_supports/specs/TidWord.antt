@@ -7,40 +7,40 @@ use Rattle.basket_sets.specs.Itemset.{has}
 use Rattle.basket_sets.specs.Support.{weight_at}
 use Rattle.mine_supports.specs.declared.tid_words.TidWord.{TidWord}
 
--- whether a row has a place
-abbrev pub has_place : (ℕ → ℕ) → ℕ → Bool
-has_place row place = bit_at (row (place / 64)) (place % 64) == 1
+-- whether a row has a tid
+abbrev pub has_tid : (ℕ → ℕ) → ℕ → Bool
+has_tid row tid = bit_at (row (tid / 64)) (tid % 64) == 1
 
--- what those places of one word and weight weigh together that a row has
+-- what those tids of one word and weight weigh together that a row has
 abbrev pub part_weight : (ℕ → ℕ) → TidWord → ℕ
 part_weight row part = count_ones (bit_and part.bits (row part.word)) * part.weight
 
--- what those places weigh together that a row has
+-- what those tids weigh together that a row has
 abbrev pub shared_weight : (ℕ → ℕ) → List TidWord → ℕ
-shared_weight row places = sum_by (part_weight row) places
+shared_weight row tids = sum_by (part_weight row) tids
 
--- of some places those that a row has: whatever another row has of them, it has of the places that both rows have
-pub record AreKept (row : List ℕ) (places kept : List TidWord) : Type 0 where
-  pub weighs : (other : ℕ → ℕ) → shared_weight other kept ≡ shared_weight (λ word. bit_and (slice_index row word) (other word)) places
+-- of some tids those that a row has: whatever another row has of them, it has of the tids that both rows have
+pub record AreKept (row : List ℕ) (tids kept : List TidWord) : Type 0 where
+  pub weighs : (other : ℕ → ℕ) → shared_weight other kept ≡ shared_weight (λ word. bit_and (slice_index row word) (other word)) tids
 
--- what the baskets weigh together that contain a set, and whose places a row has, the first at a place
+-- what the baskets weigh together that contain a set, and whose tids a row has, the first at a tid
 abbrev pub weight_from : ℕ → (ℕ → ℕ) → List ℕ → List Weighted → ℕ
-weight_from place row set [] = 0
-weight_from place row set (first ∷ others) = (if has_place row place then weight_at set first else 0) + weight_from (place + 1) row set others
+weight_from tid row set [] = 0
+weight_from tid row set (first ∷ others) = (if has_tid row tid then weight_at set first else 0) + weight_from (tid + 1) row set others
 
--- the places of the baskets that contain a set: what any row has of them weighs as much as those baskets whose places it has
-pub record ArePlacesOf (baskets : List Weighted) (set : List ℕ) (places : List TidWord) : Type 0 where
-  pub weighs : (row : ℕ → ℕ) → shared_weight row places ≡ weight_from 0 row set baskets
+-- the tids of the baskets that contain a set: what any row has of them weighs as much as those baskets whose tids it has
+pub record AreTidsOf (baskets : List Weighted) (set : List ℕ) (tids : List TidWord) : Type 0 where
+  pub weighs : (row : ℕ → ℕ) → shared_weight row tids ≡ weight_from 0 row set baskets
 
--- the basket at a place, or an empty one after the last
+-- the basket at a tid, or an empty one after the last
 abbrev pub basket_at : List Weighted → ℕ → List ℕ
-basket_at baskets place = slice_index_or (map (λ basket. basket.basket) baskets) place []
+basket_at baskets tid = slice_index_or (map (λ basket. basket.basket) baskets) tid []
 
--- the row of an item: it has the places of the baskets that have the item
+-- the row of an item: it has the tids of the baskets that have the item
 pub record IsRowOf (baskets : List Weighted) (item : ℕ) (row : List ℕ) : Type 0 where
-  pub each : (place : ℕ) → has_place (λ word. slice_index row word) place ≡ has (basket_at baskets place) item
+  pub each : (tid : ℕ) → has_tid (λ word. slice_index row word) tid ≡ has (basket_at baskets tid) item
 
--- places to which some more can be added: those of the same word and weight that have none of them
+-- tids to which some more can be added: those of the same word and weight that have none of them
 pub record IsJoinable (part more : TidWord) : Type 0 where
   pub word : part.word ≡ more.word
   pub weight : part.weight ≡ more.weight

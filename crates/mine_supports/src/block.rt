@@ -1,21 +1,21 @@
-//! A block of baskets, of which those that sets can be in have places.
+//! A block of baskets, of which those that sets can be in have tids.
 ghost use Rattle.std.specs.Prelude.{◌≡◌, ◌≤◌, [], ℕ, List, IfOk, IsTrue, length, take};
 ghost use Rattle.basket_sets.specs.Database.{MOST_WEIGHT};
 ghost use Rattle.basket_sets.specs.Itemset.{has};
 ghost use Rattle.basket_sets.specs.Support.{total_of};
 ghost use Rattle.mine_supports.specs.Needed.{needed};
-ghost use Rattle.mine_supports.specs.TidWord.{ArePlacesOf, IsRowOf};
+ghost use Rattle.mine_supports.specs.TidWord.{AreTidsOf, IsRowOf};
 ghost use Rattle.mine_supports.specs.Prefixes.{ArePrefixes};
 ghost use Rattle.mine_supports.specs.Rows.{AreRows};
 
 use crate::prefixes::Prefixes;
 use crate::rows::Rows;
-use crate::tid_words::{TidWord, WORD, add_place};
+use crate::tid_words::{TidWord, WORD, add_tid};
 use crate::used_items::UsedItems;
 use basket_sets::Weighted;
 use std::alloc::{AllocError, Global};
 
-/// Baskets, of which those with enough used items have a place, and the row of each item that is used.
+/// Baskets, of which those with enough used items have a tid, and the row of each item that is used.
 #[derive(Drop)]
 pub struct Block<'a> {
     pub alloc: Global,
@@ -23,14 +23,14 @@ pub struct Block<'a> {
     pub used: &'a UsedItems,
     pub least: usize,
     rows: Rows,
-    places: Vec<TidWord>,
+    tids: Vec<TidWord>,
     ghost rows_of: { AreRows used.now (needed used.now least baskets.now) rows },
-    ghost places_of: { ArePlacesOf (needed used.now least baskets.now) [] places.items },
+    ghost tids_of: { AreTidsOf (needed used.now least baskets.now) [] tids.items },
     ghost light: { total_of (needed used.now least baskets.now) ≤ MOST_WEIGHT },
 }
 
 impl<'a> Block<'a> {
-    /// The block of the first of some baskets: it has this many places at most. A basket with fewer used items than
+    /// The block of the first of some baskets: it has this many tids at most. A basket with fewer used items than
     /// `least` has none, since it contains no set of so many.
     pub fn of(
         alloc: Global,
@@ -46,17 +46,17 @@ impl<'a> Block<'a> {
         ensures used { IfOk result (λ block. (block.used.now ≡ used.now) × (block.least ≡ least)) }
     {
         let mut rows = Rows::with_room(alloc, used, most.min(baskets.len()))?;
-        let (mut places, mut numbers) = (Vec::new(alloc), Vec::new(alloc));
+        let (mut tids, mut numbers) = (Vec::new(alloc), Vec::new(alloc));
         let (mut read, mut len, mut start) = (0, 0, 0);
         while read < baskets.len() && len < most {
             let basket = &baskets[read];
             used.put_numbers(basket.basket.items(), &mut numbers)?;
             if numbers.len() >= least {
                 if len % WORD == 0 {
-                    start = places.len();
+                    start = tids.len();
                 }
                 rows.push(len, &numbers);
-                add_place(&mut places, start, len, basket.weight)?;
+                add_tid(&mut tids, start, len, basket.weight)?;
                 len += 1;
             }
             read += 1;
@@ -67,7 +67,7 @@ impl<'a> Block<'a> {
             used,
             least,
             rows,
-            places,
+            tids,
         })
     }
 
@@ -75,7 +75,7 @@ impl<'a> Block<'a> {
     pub fn prefixes(&self) -> Result<Prefixes, AllocError>
         ensures { IfOk result (λ prefixes. (items : List ℕ) → ArePrefixes (needed self.now.used.now self.now.least self.now.baskets.now) items prefixes.lists.items) }
     {
-        Prefixes::of(self.alloc, self.places.to_vec(self.alloc)?)
+        Prefixes::of(self.alloc, self.tids.to_vec(self.alloc)?)
     }
 
     /// The row of an item.

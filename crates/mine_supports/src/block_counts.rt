@@ -1,12 +1,12 @@
-//! Sets that are counted in a block by the places of their prefixes.
+//! Sets that are counted in a block by the tids of their prefixes.
 ghost use Rattle.std.specs.Prelude.{◌≡◌, ◌≤◌, ◌<◌, ◌+◌, ◌++◌, ◌∷◌, [], ℕ, List, IfOk, IsTrue, OnOk, length, slice_index};
 ghost use Rattle.basket_sets.specs.Database.{MOST_WEIGHT};
 ghost use Rattle.basket_sets.specs.Itemset.{contains, has};
 ghost use Rattle.basket_sets.specs.Support.{support_of, total_of};
-ghost use Rattle.mine_supports.specs.BlockCounts.{placed};
+ghost use Rattle.mine_supports.specs.BlockCounts.{numbered};
 ghost use Rattle.mine_supports.specs.Counter.{AreAdded};
 ghost use Rattle.mine_supports.specs.Extensions.{extend};
-ghost use Rattle.mine_supports.specs.TidWord.{ArePlacesOf};
+ghost use Rattle.mine_supports.specs.TidWord.{AreTidsOf};
 ghost use Rattle.mine_supports.specs.Prefixes.{ArePrefixes};
 
 use crate::block::Block;
@@ -15,13 +15,13 @@ use crate::tid_words::{TidWord, put_kept, shared_weight};
 use std::alloc::AllocError;
 use std::mem::swap;
 
-/// For so many prefixes of a set the places are kept at most. The candidates that Apriori makes have fewer, since each
+/// For so many prefixes of a set the tids are kept at most. The candidates that Apriori makes have fewer, since each
 /// of their subsets is frequent.
 pub const MOST_PREFIXES: usize = 32;
 
 impl Block<'_> {
-    /// Adds the supports of the sets that extend a prefix by one item each to the counts from a place on. They are found
-    /// from the places of some of the prefix's own prefixes; those of more of them are added.
+    /// Adds the supports of the sets that extend a prefix by one item each to the counts from an index on. They are found
+    /// from the tids of some of the prefix's own prefixes; those of more of them are added.
     pub fn add(
         &self,
         prefix: &[u32],
@@ -32,12 +32,12 @@ impl Block<'_> {
     ) -> Result<(), AllocError>
         requires used { IsTrue (contains self.now.used.now prefix.now) }
         requires items_used { IsTrue (contains self.now.used.now items.now) }
-        requires prefixes { ArePrefixes (placed self.now) prefix.now prefixes.old.lists.items }
+        requires prefixes { ArePrefixes (numbered self.now) prefix.now prefixes.old.lists.items }
         requires short { length prefixes.old.lists.items ≤ 1 + length prefix.now }
         requires within { start + length items.now ≤ length counts.old }
-        requires light { (k : ℕ) → k < length items.now → slice_index counts.old (start + k) + total_of (placed self.now) ≤ MOST_WEIGHT }
-        ensures supports { OnOk result (AreAdded (extend prefix.now items.now) (placed self.now) start counts.old counts.new) }
-        ensures prefixes { OnOk result (ArePrefixes (placed self.now) prefix.now prefixes.new.lists.items) }
+        requires light { (k : ℕ) → k < length items.now → slice_index counts.old (start + k) + total_of (numbered self.now) ≤ MOST_WEIGHT }
+        ensures supports { OnOk result (AreAdded (extend prefix.now items.now) (numbered self.now) start counts.old counts.new) }
+        ensures prefixes { OnOk result (ArePrefixes (numbered self.now) prefix.now prefixes.new.lists.items) }
     {
         self.add_prefixes(prefix, prefixes)?;
         let last = prefixes.last();
@@ -48,18 +48,18 @@ impl Block<'_> {
         if depth == prefix.len() {
             self.add_weights(last, items, start, counts);
         } else {
-            let places = self.kept_by_all(last, &prefix[depth..])?;
-            self.add_weights(&places, items, start, counts);
+            let tids = self.kept_by_all(last, &prefix[depth..])?;
+            self.add_weights(&tids, items, start, counts);
         }
         Ok(())
     }
 
-    /// Adds the places of more prefixes of a set, until there are none or as many as are kept.
+    /// Adds the tids of more prefixes of a set, until there are none or as many as are kept.
     fn add_prefixes(&self, items: &[u32], prefixes: &mut Prefixes) -> Result<(), AllocError>
         requires used { IsTrue (contains self.now.used.now items.now) }
-        requires prefixes { ArePrefixes (placed self.now) items.now prefixes.old.lists.items }
+        requires prefixes { ArePrefixes (numbered self.now) items.now prefixes.old.lists.items }
         requires short { length prefixes.old.lists.items ≤ 1 + length items.now }
-        ensures prefixes { OnOk result (ArePrefixes (placed self.now) items.now prefixes.new.lists.items) }
+        ensures prefixes { OnOk result (ArePrefixes (numbered self.now) items.now prefixes.new.lists.items) }
         ensures short { OnOk result (length prefixes.new.lists.items ≤ 1 + length items.now) }
     {
         for depth in prefixes.lists.len() - 1..MOST_PREFIXES.min(items.len()) {
@@ -71,13 +71,13 @@ impl Block<'_> {
         Ok(())
     }
 
-    /// Those of the places of a set whose baskets have all of the items.
-    fn kept_by_all(&self, places: &[TidWord], items: &[u32]) -> Result<Vec<TidWord>, AllocError>
+    /// Those of the tids of a set whose baskets have all of the items.
+    fn kept_by_all(&self, tids: &[TidWord], items: &[u32]) -> Result<Vec<TidWord>, AllocError>
         requires used { IsTrue (contains self.now.used.now items.now) }
-        ensures { IfOk result (λ kept. (set : List ℕ) → ArePlacesOf (placed self.now) set places.now
-            → ArePlacesOf (placed self.now) (set ++ items.now) kept.items) }
+        ensures { IfOk result (λ kept. (set : List ℕ) → AreTidsOf (numbered self.now) set tids.now
+            → AreTidsOf (numbered self.now) (set ++ items.now) kept.items) }
     {
-        let mut shared = places.to_vec(self.alloc)?;
+        let mut shared = tids.to_vec(self.alloc)?;
         let mut kept = Vec::new(self.alloc);
         for item in items {
             put_kept(&shared, self.row(*item), &mut kept)?;
@@ -86,28 +86,28 @@ impl Block<'_> {
         Ok(shared)
     }
 
-    /// Adds the supports of the sets that have the items of a set whose places are given, and one more each, to the counts
-    /// from a place on.
-    fn add_weights(&self, places: &[TidWord], items: &[u32], start: usize, counts: &mut [u64])
+    /// Adds the supports of the sets that have the items of a set whose tids are given, and one more each, to the counts
+    /// from an index on.
+    fn add_weights(&self, tids: &[TidWord], items: &[u32], start: usize, counts: &mut [u64])
         requires used { IsTrue (contains self.now.used.now items.now) }
-        requires places { (set : List ℕ) × ArePlacesOf (placed self.now) set places.now }
+        requires tids { (set : List ℕ) × AreTidsOf (numbered self.now) set tids.now }
         requires within { start + length items.now ≤ length counts.old }
-        requires light { (k : ℕ) → k < length items.now → slice_index counts.old (start + k) + total_of (placed self.now) ≤ MOST_WEIGHT }
-        ensures { (set : List ℕ) → ArePlacesOf (placed self.now) set places.now → AreAdded (extend set items.now) (placed self.now) start counts.old counts.new }
+        requires light { (k : ℕ) → k < length items.now → slice_index counts.old (start + k) + total_of (numbered self.now) ≤ MOST_WEIGHT }
+        ensures { (set : List ℕ) → AreTidsOf (numbered self.now) set tids.now → AreAdded (extend set items.now) (numbered self.now) start counts.old counts.new }
     {
         for (number, item) in items.iter().enumerate() {
-            counts[start + number] += self.weight(places, *item);
+            counts[start + number] += self.weight(tids, *item);
         }
     }
 
-    /// The support of the set that has the items of a set whose places are given, and one more.
+    /// The support of the set that has the items of a set whose tids are given, and one more.
     #[inline]
-    #[tactic(auto, using(crate::proofs::PlaceLemmas::weighs_light, crate::proofs::PlaceLemmas::weighs_support))]
-    fn weight(&self, places: &[TidWord], item: u32) -> u64
+    #[tactic(auto, using(crate::proofs::TidLemmas::weighs_light, crate::proofs::TidLemmas::weighs_support))]
+    fn weight(&self, tids: &[TidWord], item: u32) -> u64
         requires used { IsTrue (has self.now.used.now item) }
-        requires places { (set : List ℕ) × ArePlacesOf (placed self.now) set places.now }
-        ensures { (set : List ℕ) → ArePlacesOf (placed self.now) set places.now → result ≡ support_of (placed self.now) (set ++ item ∷ []) }
+        requires tids { (set : List ℕ) × AreTidsOf (numbered self.now) set tids.now }
+        ensures { (set : List ℕ) → AreTidsOf (numbered self.now) set tids.now → result ≡ support_of (numbered self.now) (set ++ item ∷ []) }
     {
-        shared_weight(places, self.row(item))
+        shared_weight(tids, self.row(item))
     }
 }

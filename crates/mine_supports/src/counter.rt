@@ -60,7 +60,7 @@ impl<'a> RowCounter<'a> {
         self.sets.len()
     }
 
-    /// How many baskets have a place in a block at most.
+    /// How many baskets have a tid in a block at most.
     fn most_baskets(&self) -> usize
         ensures { 1 ≤ result }
     {
@@ -88,7 +88,7 @@ impl<'a> RowCounter<'a> {
     }
 
     /// Adds the support of each set in the first of some baskets to its count. They are as many as fill a block, and their
-    /// number is returned. The places of the prefixes that two sets in a row share are found once.
+    /// number is returned. The tids of the prefixes that two sets in a row share are found once.
     fn add_block(
         &self,
         alloc: Global,
@@ -123,9 +123,9 @@ fn shared_items(before: &[u32], items: &[u32]) -> usize
     ensures { IsShared before.now items.now result }
 {
     let most = before.len().min(items.len());
-    for place in 0..most {
-        if before[place] != items[place] {
-            return place;
+    for index in 0..most {
+        if before[index] != items[index] {
+            return index;
         }
     }
     most

@@ -197,8 +197,8 @@ impl Extensions {
         // The count is no greater than that of all sets, which fits.
         let _all = self.len;
         let mut count = 0;
-        for place in range.start..range.end {
-            count += self.lists[place].len();
+        for index in range.start..range.end {
+            count += self.lists[index].len();
         }
         count
     }

@@ -1,5 +1,11 @@
 //! The supports of given sets, counted by rows of bits.
 //!
+//! ```
+//! let database = database(alloc, baskets)?;
+//! let sets = sets_of(alloc, lists)?;
+//! Ok(count_shard(alloc, database.baskets(), &sets)?)
+//! ```
+//!
 //! Sets are kept as `extensions`: prefixes, and the items that extend them; a `prefix_range` is some
 //! prefixes in a row. `shard` counts sets by a `counter`: in each `block` of baskets the `used_items`
 //! have `rows` of bits, and the `tid_words` of the baskets that contain a set are found from those of

@@ -1,7 +1,7 @@
 //! Some of the prefixes of sets.
 ghost use Rattle.std.specs.Prelude.{◌≡◌, ◌≤◌};
 
-/// Prefixes in a row, from one place up to another.
+/// Prefixes in a row, from one index up to another.
 #[derive(Clone, Copy, Debug)]
 pub struct PrefixRange {
     pub start: usize,

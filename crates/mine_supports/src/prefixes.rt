@@ -1,11 +1,11 @@
-//! The places of the prefixes of a set.
-ghost use Rattle.std.specs.Prelude.{◌≡◌, ◌≤◌, ◌++◌, ◌∷◌, [], IfOk, OnOk, length, take};
+//! The tids of the prefixes of a set.
+ghost use Rattle.std.specs.Prelude.{◌≡◌, ◌≤◌, ◌∷◌, [], IfOk, OnOk, length, take};
 ghost use Rattle.mine_supports.specs.Prefixes.{AreLast, IsNext};
 
 use crate::tid_words::{TidWord, put_kept};
 use std::alloc::{AllocError, Global};
 
-/// The places of some prefixes of a set, one more item from one to the next, and lists whose memory is used again.
+/// The tids of some prefixes of a set, one more item from one to the next, and lists whose memory is used again.
 #[derive(Drop)]
 pub struct Prefixes {
     alloc: Global,
@@ -14,12 +14,12 @@ pub struct Prefixes {
 }
 
 impl Prefixes {
-    /// The prefix without items, which has all of the places.
-    pub fn of(alloc: Global, places: Vec<TidWord>) -> Result<Self, AllocError>
-        ensures { IfOk result (λ prefixes. prefixes.lists.items ≡ places ∷ []) }
+    /// The prefix without items, which has all of the tids.
+    pub fn of(alloc: Global, tids: Vec<TidWord>) -> Result<Self, AllocError>
+        ensures { IfOk result (λ prefixes. prefixes.lists.items ≡ tids ∷ []) }
     {
         let mut lists = Vec::new(alloc);
-        lists.push(places)?;
+        lists.push(tids)?;
         Ok(Prefixes {
             alloc,
             lists,
@@ -39,7 +39,7 @@ impl Prefixes {
         }
     }
 
-    /// Adds a prefix: it has those places of the last one that a row has too.
+    /// Adds a prefix: it has those tids of the last one that a row has too.
     pub fn push_kept(&mut self, row: &[u64]) -> Result<(), AllocError>
         requires { 1 ≤ length self.old.lists.items }
         ensures { OnOk result (IsNext row.now self.old.lists.items self.new.lists.items) }
@@ -53,7 +53,7 @@ impl Prefixes {
         Ok(())
     }
 
-    /// The places of the last one.
+    /// The tids of the last one.
     #[inline]
     pub fn last(&self) -> &[TidWord]
         requires { 1 ≤ length self.now.lists.items }

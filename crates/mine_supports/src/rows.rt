@@ -34,15 +34,15 @@ impl Rows {
         Ok(Rows { words, bits })
     }
 
-    /// Adds a basket, whose place is the number of those before it, by the numbers of its used items.
-    pub fn push(&mut self, place: usize, numbers: &[usize])
+    /// Adds a basket, whose tid is the number of those before it, by the numbers of its used items.
+    pub fn push(&mut self, tid: usize, numbers: &[usize])
         requires rows { (used : List ℕ) × (before : List Basket) × AreRows used before self.old × All (λ number. number < length used) numbers.now }
-        requires room { place < self.old.words * 64 }
-        ensures rows { (used : List ℕ) (before : List Basket) (basket : Basket) → IsRising used → place ≡ length before → AreRows used before self.old
+        requires room { tid < self.old.words * 64 }
+        ensures rows { (used : List ℕ) (before : List Basket) (basket : Basket) → IsRising used → tid ≡ length before → AreRows used before self.old
             → AreNumbers used basket.basket numbers.now → AreRows used (before ++ basket ∷ []) self.new }
         ensures room { self.new.words ≡ self.old.words }
     {
-        mark(&mut self.bits, self.words, place, numbers);
+        mark(&mut self.bits, self.words, tid, numbers);
     }
 
     /// The row of an item by its number.
@@ -57,14 +57,14 @@ impl Rows {
     }
 }
 
-/// Sets the bit of a place in the rows of some numbers.
-fn mark(bits: &mut [u64], words: usize, place: usize, numbers: &[usize])
+/// Sets the bit of a tid in the rows of some numbers.
+fn mark(bits: &mut [u64], words: usize, tid: usize, numbers: &[usize])
     requires long { All (λ number. number * words + words ≤ length bits.old) numbers.now }
-    requires within { place < words * 64 }
+    requires within { tid < words * 64 }
     ensures { (number other : ℕ) → other < words * 64
-        → bit_in bits.new words number other ≡ (bit_in bits.old words number other || (other == place) && has numbers.now number) }
+        → bit_in bits.new words number other ≡ (bit_in bits.old words number other || (other == tid) && has numbers.now number) }
 {
     for number in numbers {
-        bits[*number * words + place / WORD] |= 1 << (place % WORD);
+        bits[*number * words + tid / WORD] |= 1 << (tid % WORD);
     }
 }

@@ -1,5 +1,5 @@
 //! The items that sets have, each with a number.
-ghost use Rattle.std.specs.Prelude.{◌≡◌, ◌<◌, ◌≤◌, ℕ, false, IfOk, IsTrue, MatchOption, OnOk, length, slice_index};
+ghost use Rattle.std.specs.Prelude.{◌≡◌, ◌<◌, ℕ, false, IfOk, IsTrue, MatchOption, OnOk, length, slice_index};
 ghost use Rattle.basket_sets.specs.Itemset.{IsRising, has};
 ghost use Rattle.mine_supports.specs.UsedItems.{AreNumbers, AreUsed};
 
@@ -13,7 +13,7 @@ const MOST_HINTS: usize = 65_536;
 /// This many items may wait before repeated ones are left out.
 const FEW_ITEMS: usize = 4_096;
 
-/// The items that some sets have. An item's number is its place among them.
+/// The items that some sets have. An item's number is its index among them.
 #[derive(Debug, Drop)]
 pub struct UsedItems {
     items: Itemset,

@@ -1,10 +1,9 @@
 -- The class of a rank, as a search begins it.
-use Rattle.std.proofs.Common.{◌≡◌, ℕ, zero, suc, ◌+◌, ◌<◌, ◌≤◌, Bool, true, false, ◌&&◌, List, [], ◌∷◌, ◌++◌, length, map, cond, leb, refl, sym, ap, ◌∙◌, subst, arith, zero-add}
+use Rattle.std.proofs.Common.{◌≡◌, ℕ, ◌+◌, ◌<◌, ◌≤◌, true, false, ◌&&◌, List, [], ◌∷◌, ◌++◌, length, map, leb, refl, sym, ap, ◌∙◌, subst, arith}
 use Rattle.std.specs.Prelude.{All, Some, nat_le}
-use Rattle.std.specs.List.{filter, range_with_len}
+use Rattle.std.specs.List.{range_with_len}
 use Rattle.std.proofs.lemmas.Bool.{lt-leb, lt-ltb, true≢false}
 use Rattle.std.proofs.lemmas.List.{append-nil, take_all}
-use Rattle.std.proofs.lemmas.List.Elements.{filter-append}
 use Rattle.basket_ranks.specs.Codes.{Coding, IsCoding, MOST_RANKS}
 use Rattle.basket_sets.specs.declared.weighted.Weighted.{Weighted}
 use Rattle.basket_sets.specs.declared.minimum.Minimum.TheVariants.{Count}
@@ -14,18 +13,19 @@ use Rattle.basket_sets.specs.Itemset.{IsRising, contains, has}
 use Rattle.basket_sets.specs.Minimum.{IsLeastSupport}
 use Rattle.basket_sets.specs.Support.{support_of, total_of}
 use Rattle.basket_sets.proofs.theory.Members.{Member}
-use Rattle.basket_sets.proofs.theory.Ranges.{Member-range, filter_members, range_more, range_rises}
+use Rattle.basket_sets.proofs.theory.Ranges.{Member-range, filter_members, range_rises}
 use Rattle.basket_sets.proofs.theory.Rising.{Member-from_has}
 use Rattle.basket_sets.proofs.theory.Support.{support_falls}
 use Rattle.mine_baskets.specs.ListBaskets.{HaveSameWeights}
-use Rattle.mine_classes.specs.Conditional.{ConditionalSupports, is_kept}
+use Rattle.mine_classes.specs.Conditional.{is_kept}
 use Rattle.mine_classes.specs.Mined.{RanksAreFrequent}
-use Rattle.mine_vertical.proofs.NumberLemmas.{named_range, support_below}
+use Rattle.mine_conditional.proofs.theory.Numbers.{support_below}
+use Rattle.mine_vertical.proofs.NumberLemmas.{named_range}
 use Rattle.mine_classes.proofs.theory.Conditional.{support_with}
 use Rattle.mine_pairs.proofs.theory.Kept.{met_alone}
 use Rattle.mine_search.specs.Class.{IsClass, of_rank}
 use Rattle.mine_search.specs.Node.{Node, Supports, is_met, kept, work_at}
-use Rattle.mine_search.specs.Walk.{kept_below, work_below}
+use Rattle.mine_search.specs.Walk.{work_below}
 use Rattle.mine_vertical.specs.declared.siblings.Siblings.{Siblings}
 use Rattle.mine_vertical.specs.declared.joins.Sibling.{Sibling}
 use Rattle.mine_vertical.specs.declared.local_baskets.LocalBaskets.{LocalBaskets}
@@ -34,13 +34,6 @@ use Rattle.mine_vertical.specs.Projected.{Extend, numbers_in, siblings_in}
 use Rattle.mine_vertical.specs.Joins.{class_joins}
 use Rattle.mine_vertical.specs.Siblings.{AreClassSiblings, AreSiblings, IsSibling}
 use Rattle.mine_vertical.proofs.JoinLemmas.{class_joins_are, set_joins}
-
--- the ranks that extend a set are those of a range that pass
-kept_is_filter : (test : List ℕ → Bool) (below : ℕ) (set : List ℕ) → kept_below test below set ≡ filter (λ rank. test (rank ∷ set)) (range_with_len 0 below)
-kept_is_filter test zero set = refl
-kept_is_filter test (suc rank) set =
-    ap (λ l. l ++ cond (test (rank ∷ set)) (rank ∷ []) []) (kept_is_filter test rank set)
-    ∙ sym (ap (filter (λ other. test (other ∷ set))) (range_more 0 rank ∙ ap (λ k. range_with_len 0 rank ++ k ∷ []) (zero-add rank)) ∙ filter-append (λ other. test (other ∷ set)) (range_with_len 0 rank) (rank ∷ []))
 
 -- the supports in a coding, by its least support, with the joins as work
 abbrev pub over : Coding → ℕ → Supports
@@ -71,7 +64,7 @@ module _ (coding : Coding) (least : ℕ) (all : List Weighted) (is : IsLeastSupp
   joins_are rank each here = class_joins_are coding rank each here ∙ (λ k. rank + work_below (set_joins (λ set. met set k)) (λ set. met set k) rank (rank ∷ []))
 
   module _ {R : Type 0} (stands : List ℕ → List ℕ → List ℕ → R → Type 0) (base : Siblings R) (rank : ℕ) (local : LocalBaskets)
-      (law : ConditionalSupports) (known : IsCoding coding) (are : AreClassSiblings stands all least rank local base.list.items) where
+      (known : IsCoding coding) (are : AreClassSiblings stands all least rank local base.list.items) where
     abbrev node : Node
     node = of_rank (over coding least) rank
 
@@ -83,12 +76,11 @@ module _ (coding : Coding) (least : ℕ) (all : List Weighted) (is : IsLeastSupp
         are.ranks
         ∙ filter_members (is_kept all least rank) (λ other. is_met (over coding least) (other ∷ rank ∷ [])) (range_with_len 0 rank)
         (λ other m. ap (λ b. b && is_frequent all (Count least) (other ∷ rank ∷ [])) (lt-ltb other rank (lower other m)) ∙ tests (other ∷ rank ∷ []))
-        ∙ sym (kept_is_filter (is_met (over coding least)) rank (rank ∷ []))
 
     gives : (numbers : List ℕ) → AllBelow (length local.ranks.items) numbers → support_of coding.baskets (named local.ranks.items numbers ++ rank ∷ []) ≡ support_of (baskets_in local) (numbers ++ [])
     gives numbers low =
         supports (named local.ranks.items numbers ++ rank ∷ []) ∙ ap (λ l. support_of all (named l numbers ++ rank ∷ [])) are.ranks
-        ∙ sym (support_below all least rank (numbered_in local) are.conditional law numbers (subst (λ l. AllBelow (length l) numbers) are.ranks low))
+        ∙ sym (support_below all least rank (numbered_in local) are.conditional numbers (subst (λ l. AllBelow (length l) numbers) are.ranks low))
         ∙ ap (support_of (baskets_in local)) (sym (append-nil numbers))
 
     module _ (coded : base.coded.now ≡ coding) (same : base.least ≡ least) (held : local ≡ base.local.value) (long : length base.list.items ≤ base.kept) (here : rank < length coding.items) where

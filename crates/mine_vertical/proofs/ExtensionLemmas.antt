@@ -12,7 +12,8 @@ use Rattle.basket_sets.proofs.theory.Members.{Member, Member-append, Member-filt
 use Rattle.basket_sets.proofs.theory.Ranges.{Member-range, filter_members, filter_rises, range_rises}
 use Rattle.basket_sets.proofs.theory.Rising.{Member-from_has, has-from_Member, has_place}
 use Rattle.basket_sets.proofs.theory.Tests.{all_below_at}
-use Rattle.mine_vertical.proofs.NumberLemmas.{Member-take, filter-map, named_among, named_range, named_twice, take_rises}
+use Rattle.mine_conditional.proofs.theory.Numbers.{named_among, named_twice}
+use Rattle.mine_vertical.proofs.NumberLemmas.{Member-take, filter-map, named_range, take_rises}
 use Rattle.mine_search.specs.Node.{Node, child, is_met, kept}
 use Rattle.mine_search.specs.Walk.{kept_below}
 use Rattle.mine_search.proofs.theory.Walk.{kept_before, kept_few, kept_lower, kept_with}
@@ -23,7 +24,7 @@ use Rattle.mine_vertical.specs.LocalBaskets.{IsNarrowed, baskets_in, named}
 use Rattle.mine_vertical.specs.Projected.{AreExtensions, Extend, IsJoined, numbers_in, ranks_in, siblings_in}
 use Rattle.mine_vertical.specs.Siblings.{AreKept, AreOver, AreSiblings, IsSibling}
 
--- ---- a sibling at a place
+-- ---- a sibling at a index
 
 module _ {R : Type 0} (base : Siblings R) (at : ℕ) (inside : at < base.kept) where
   enough : at < length base.list.items
@@ -93,8 +94,8 @@ module _ {R : Type 0} {stands : List ℕ → List ℕ → List ℕ → R → Typ
 
   -- the rank that is read is that of the sibling's number
   pub rank_read : (sibling : Sibling R) → sibling ≡ get_or base.list.items at sibling → (held : LocalBaskets) → held ≡ local → (read : ℕ) → read ≡ get_or held.ranks.items sibling.number read → read ≡ rank
-  rank_read sibling place held same read at_number =
-      let named = number_at base at (omega (arith, inside, as_long base)) sibling place in
+  rank_read sibling index held same read at_number =
+      let named = number_at base at (omega (arith, inside, as_long base)) sibling index in
       at_number ∙ ap (λ (l : LocalBaskets). get_or l.ranks.items sibling.number read) same ∙ ap (λ n. get_or ranks n read) (sym named) ∙ get_or_default ranks number read 0 number_low ∙ sym rank_is
 
   low_with : (others : List ℕ) → AllBelow (length ranks) others → AllBelow (length ranks) (others ++ number ∷ [])
@@ -236,9 +237,9 @@ module _ {R : Type 0} {stands : List ℕ → List ℕ → List ℕ → R → Typ
 
           supports : (others : List ℕ) → AllBelow (length anew) others → node.over.support (named anew others ++ rank ∷ node.set) ≡ support_of (baskets_in made.local.value) (others ++ [])
           supports others few =
-              let places : AllBelow (length named_numbers) others = subst (λ n. AllBelow n others) (ap length narrowed.ranks ∙ length-map named_numbers (λ n. get_or ranks n 0)) few in
+              let indexes : AllBelow (length named_numbers) others = subst (λ n. AllBelow n others) (ap length narrowed.ranks ∙ length-map named_numbers (λ n. get_or ranks n 0)) few in
               ap (λ l. node.over.support (named l others ++ rank ∷ node.set)) narrowed.ranks
-              ∙ ap (λ l. node.over.support (l ++ rank ∷ node.set)) (named_twice ranks named_numbers others places)
-              ∙ support_with (named named_numbers others) (λ x h. low x (has-from_Member named_numbers x (named_among named_numbers others places x (Member-from_has (named named_numbers others) x h))))
-              ∙ sym (narrowed.supports others places)
+              ∙ ap (λ l. node.over.support (l ++ rank ∷ node.set)) (named_twice ranks named_numbers others indexes)
+              ∙ support_with (named named_numbers others) (λ x h. low x (has-from_Member named_numbers x (named_among named_numbers others indexes x (Member-from_has (named named_numbers others) x h))))
+              ∙ sym (narrowed.supports others indexes)
               ∙ ap (support_of (baskets_in made.local.value)) (sym (append-nil others))

@@ -11,12 +11,13 @@ use Rattle.basket_sets.specs.declared.minimum.Minimum.{Minimum}
 use Rattle.basket_sets.specs.Frequent.{IsNonemptySet, is_frequent}
 use Rattle.basket_sets.specs.Itemset.{AllBelow}
 use Rattle.basket_sets.proofs.theory.Members.{Member, All-from_Member, Contains-from_Member}
-use Rattle.basket_sets.proofs.theory.Rising.{Member-from_has, has-from_Member, nil_rises, contains_each}
+use Rattle.basket_sets.proofs.theory.Rising.{Member-from_has, has-from_Member, contains_each}
 use Rattle.basket_sets.proofs.theory.Support.{subsets_are_frequent}
 use Rattle.basket_sets.proofs.theory.Ranges.{range_more}
 use Rattle.mine_classes.specs.Mined.{RanksAreFrequent}
 use Rattle.mine_search.specs.Walk.{kept_below, sets_below, work_below}
-use Rattle.mine_search.proofs.theory.Found.{from_sets, into_sets, only_below, sets_distinct}
+use Rattle.mine_search.proofs.theory.Walk.{kept_step}
+use Rattle.mine_search.proofs.theory.Found.{from_sets, into_sets, sets_distinct}
 use Rattle.mine_vertical.specs.Joins.{ClassJoinsAddUp, SetsOfRanksAreAll, class_joins, is_join, sets_of_ranks}
 
 -- how many sets of a list pass a test
@@ -73,7 +74,7 @@ module _ (baskets : List Weighted) (minimum : Minimum) where
       let all = joins_more rank (first ∷ others) in omega arith
 
   kept_more : (rank : ℕ) (set : List ℕ) → length (kept_below frequent (suc rank) set) ≡ length (kept_below frequent rank set) + one_if (frequent (rank ∷ set))
-  kept_more rank set = length-append (kept_below frequent rank set) (cond (frequent (rank ∷ set)) (rank ∷ []) []) ∙ ap (λ n. length (kept_below frequent rank set) + n) (at (frequent (rank ∷ set)))
+  kept_more rank set = ap length (kept_step frequent rank set) ∙ length-append (kept_below frequent rank set) (cond (frequent (rank ∷ set)) (rank ∷ []) []) ∙ ap (λ n. length (kept_below frequent rank set) + n) (at (frequent (rank ∷ set)))
     where
       at : (b : Bool) → length (cond b (rank ∷ []) []) ≡ one_if b
       at true = refl
@@ -127,16 +128,13 @@ class_joins_add_up coding = up_to (length coding.items)
 
 pub sets_of_ranks_are_all : SetsOfRanksAreAll
 sets_of_ranks_are_all count = record {
-  distinct = sets_distinct (λ set. true) count [] nil_rises (λ y m. absurd m);
+  distinct = sets_distinct (λ set. true) count [];
   sound = All-from_recursion (λ set. IsNonemptySet set × AllBelow count set) (sets_of_ranks count) (All-from_Member (λ set. IsNonemptySet set × AllBelow count set) (sets_of_ranks count) (λ set m.
-      let f = from_sets (λ s. true) count [] set nil_rises (λ y n. absurd n) m in
-      ((f.rises, some set f.longer), λ item h. elim (only_below (λ s. true) count [] set item m (Member-from_has set item h)) [ inl n ↦ absurd n | inr less ↦ less ])));
+      let f = from_sets (λ s. true) count [] set m in
+      subst (λ s. IsNonemptySet s × AllBelow count s) (sym (f.is ∙ append-nil (f.first ∷ f.others))) ((f.rises, λ e. absurd cc), λ item h. f.lower item (Member-from_has (f.first ∷ f.others) item h))));
   complete = λ set n below. Contains-from_Member set (sets_of_ranks count) (is_there set n below);
 }
   where
-    some : (set : List ℕ) → 0 < length set → set ≢ []
-    some set more e = (let nothing = ap length e in absurd (omega arith))
-
     is_there : (set : List ℕ) → IsNonemptySet set → AllBelow count set → Member set (sets_of_ranks count)
     is_there [] n below = absurd (n.1 refl)
     is_there (x ∷ xs) n below = subst (λ s. Member s (sets_of_ranks count)) (append-nil (x ∷ xs))

@@ -1,28 +1,11 @@
--- The numbers that ranks have in a conditional database.
-use Rattle.std.proofs.Common.{◌≡◌, ℕ, zero, suc, ◌+◌, ◌<◌, Bool, true, false, List, [], ◌∷◌, ◌++◌, get_or, length, map, take, cond, refl, sym, ap, ◌∙◌, subst, inl, inr}
-use Rattle.std.specs.List.{filter, list_all, range_with_len}
-use Rattle.std.proofs.lemmas.List.{get_or-map}
-use Rattle.std.proofs.lemmas.List.Elements.{recursion_from_All}
+-- Rising numbers, and the ranks that they name.
+use Rattle.std.proofs.Common.{◌≡◌, ℕ, zero, suc, Bool, true, false, List, [], ◌∷◌, get_or, length, map, take, cond, refl, sym, ap, ◌∙◌, inl, inr}
+use Rattle.std.specs.List.{filter, range_with_len}
 use Rattle.std.proofs.lemmas.List.FromFn.{fill_by_all}
-use Rattle.basket_ranks.specs.Codes.{decoded, decoded_place}
-use Rattle.basket_ranks.proofs.theory.Coding.{into_decoded}
-use Rattle.basket_ranks.proofs.theory.Decoding.{rank_from_decoded}
-use Rattle.basket_sets.specs.declared.weighted.Weighted.{Weighted}
-use Rattle.basket_sets.specs.Counts.{AllBelow}
-use Rattle.basket_sets.specs.Itemset.{IsRising, contains}
-use Rattle.basket_sets.specs.Support.{support_of}
-use Rattle.basket_sets.proofs.theory.Members.{Member, Member-filter, Member-from_map, Member-map, at_Member}
-use Rattle.basket_sets.proofs.theory.Rising.{Member-from_has, cons_rises, contains_each, first_below, has-from_Member, has_each, nil_rises, rest_rises, rising_distinct, same_test}
-use Rattle.basket_sets.proofs.theory.Support.{support-cons}
-use Rattle.basket_sets.proofs.theory.Tests.{Member-at, all_of}
-use Rattle.mine_baskets.specs.ListBaskets.{IsRankBasket, RankBaskets}
-use Rattle.mine_classes.specs.Conditional.{ConditionalSupports, is_kept}
-use Rattle.mine_pairs.specs.Pairs.{kept_ranks}
-use Rattle.mine_pairs.proofs.theory.Kept.{kept_rises}
-use Rattle.mine_conditional.specs.Paths.{IsConditional}
+use Rattle.basket_sets.specs.Itemset.{IsRising}
+use Rattle.basket_sets.proofs.theory.Members.{Member}
+use Rattle.basket_sets.proofs.theory.Rising.{cons_rises, first_below, nil_rises, rest_rises}
 use Rattle.mine_vertical.specs.LocalBaskets.{named}
-
--- ---- lists
 
 pub Member-take : (x n : ℕ) (xs : List ℕ) → Member x (take n xs) → Member x xs
 Member-take x zero xs h = absurd h
@@ -35,7 +18,7 @@ take_rises zero xs up = nil_rises
 take_rises (suc n) [] up = nil_rises
 take_rises (suc n) (x ∷ xs) up = cons_rises x (take n xs) (λ y m. first_below x xs up y (Member-take y n xs m)) (take_rises n xs (rest_rises x xs up))
 
-pub filter-map : (test : ℕ → Bool) (f : ℕ → ℕ) (xs : List ℕ) → filter test (map f xs) ≡ map f (filter (λ x. test (f x)) xs)
+pub filter-map : {X Y : Type 0} (test : Y → Bool) (f : X → Y) (xs : List X) → filter test (map f xs) ≡ map f (filter (λ x. test (f x)) xs)
 filter-map test f [] = refl
 filter-map test f (x ∷ xs) = ap (λ l. cond (test (f x)) (f x ∷ l) l) (filter-map test f xs) ∙ at (test (f x))
   where
@@ -46,64 +29,3 @@ filter-map test f (x ∷ xs) = ap (λ l. cond (test (f x)) (f x ∷ l) l) (filte
 -- each number of a range names its rank
 pub named_range : (ranks : List ℕ) → named ranks (range_with_len 0 (length ranks)) ≡ ranks
 named_range ranks = sym (fill_by_all (λ number. get_or ranks number 0) ranks (length ranks) 0 refl (λ k here. refl))
-
--- ---- numbers of ranks
-
--- places in a list of numbers, whose ranks are named, are numbers of ranks
-pub named_twice : (ranks chosen places : List ℕ) → AllBelow (length chosen) places → named (named ranks chosen) places ≡ named ranks (named chosen places)
-named_twice ranks chosen [] low = refl
-named_twice ranks chosen (k ∷ places) low =
-    λ i. get_or-map (λ number. get_or ranks number 0) chosen k 0 0 (low k (has-from_Member (k ∷ places) k (inl refl))) i ∷ named_twice ranks chosen places (λ j h. low j (has-from_Member (k ∷ places) j (inr (Member-from_has places j h)))) i
-
--- and the numbers that stand at them are in the list
-pub named_among : (chosen places : List ℕ) → AllBelow (length chosen) places → (number : ℕ) → Member number (named chosen places) → Member number chosen
-named_among chosen places low number m =
-    let d = Member-from_map (λ k. get_or chosen k 0) number places m in
-    subst (λ z. Member z chosen) d.2 (Member-at chosen d.0 (low d.0 (has-from_Member places d.0 d.1)))
-
-module _ (baskets : List Weighted) (least rank : ℕ) (below : RankBaskets) (is : IsConditional baskets least rank below) (law : ConditionalSupports) where
-  abbrev kept : List ℕ
-  kept = kept_ranks baskets least rank
-
-  abbrev rank_of : ℕ → ℕ
-  rank_of number = get_or kept number 0
-
-  abbrev AreWithin : List Weighted → Type 0
-  AreWithin places = (place : Weighted) → Member place places → AllBelow (length kept) place.basket
-
-  within : AreWithin below.baskets
-  within place m = subst (λ n. AllBelow n place.basket) is.ranks
-      (at_Member (IsRankBasket below.ranks) place below.baskets (recursion_from_All (IsRankBasket below.ranks) below.baskets is.ranked.places) m).below
-
-  module _ (numbers : List ℕ) (low : AllBelow (length kept) numbers) where
-    known : (number : ℕ) → Member number numbers → number < length kept
-    known number m = low number (has-from_Member numbers number m)
-
-    contains_ranks : (basket : List ℕ) → AllBelow (length kept) basket → contains (decoded kept basket) (map rank_of numbers) ≡ contains basket numbers
-    contains_ranks basket inside = same_test _ _
-        (λ h. contains_each basket numbers (λ number m.
-        rank_from_decoded kept basket number (rising_distinct kept (kept_rises baskets least rank)) inside (known number m)
-        (has_each (decoded kept basket) (map rank_of numbers) h (rank_of number) (Member-map rank_of number numbers m))))
-        (λ h. contains_each (decoded kept basket) (map rank_of numbers) (λ item m.
-        let d = Member-from_map rank_of item numbers m in
-        subst (λ x. Member x (decoded kept basket)) d.2 (into_decoded kept basket d.0 (has_each basket numbers h d.0 d.1))))
-
-    decoded_support : (places : List Weighted) → AreWithin places → support_of (map (decoded_place kept) places) (map rank_of numbers) ≡ support_of places numbers
-    decoded_support [] inside = refl
-    decoded_support (place ∷ places) inside =
-        support-cons (decoded_place kept place) (map (decoded_place kept) places) (map rank_of numbers)
-        ∙ (λ i. cond (contains_ranks place.basket (inside place (inl refl)) i) place.weight 0 + decoded_support places (λ p m. inside p (inr m)) i)
-        ∙ sym (support-cons place places numbers)
-
-    all_kept : list_all (is_kept baskets least rank) (map rank_of numbers) ≡ true
-    all_kept = all_of (is_kept baskets least rank) (map rank_of numbers) (λ item m.
-        let d = Member-from_map rank_of item numbers m in
-        ap (is_kept baskets least rank) (sym d.2) ∙ (Member-filter (is_kept baskets least rank) (rank_of d.0) (range_with_len 0 rank) (Member-at kept d.0 (known d.0 d.1))).1)
-
-    -- numbers have the support that their ranks have with the rank
-    pub support_below : support_of below.baskets numbers ≡ support_of baskets (map rank_of numbers ++ rank ∷ [])
-    support_below =
-        sym (decoded_support below.baskets within)
-        ∙ sym (is.weights (λ basket. contains basket (map rank_of numbers)))
-        ∙ law baskets least rank (map rank_of numbers)
-        ∙ ap (λ b. cond b (support_of baskets (map rank_of numbers ++ rank ∷ [])) 0) all_kept

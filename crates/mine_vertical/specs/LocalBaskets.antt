@@ -19,7 +19,7 @@ baskets_in local = baskets_at local.numbers.items local.spans.items
 abbrev pub numbered_in : LocalBaskets → RankBaskets
 numbered_in local = record { ranks = length local.ranks.items; baskets = baskets_in local }
 
--- other baskets give each set of some numbers, by their places, the support that it has together with a set
+-- other baskets give each set of some numbers, by their indexes, the support that it has together with a set
 pub record IsNarrowed (outer : LocalBaskets) (set kept : List ℕ) (inner : LocalBaskets) : Type 0 where
   pub ranks : inner.ranks.items ≡ named outer.ranks.items kept
-  pub supports : (places : List ℕ) → AllBelow (length kept) places → support_of (baskets_in inner) places ≡ support_of (baskets_in outer) (named kept places ++ set)
+  pub supports : (indexes : List ℕ) → AllBelow (length kept) indexes → support_of (baskets_in inner) indexes ≡ support_of (baskets_in outer) (named kept indexes ++ set)

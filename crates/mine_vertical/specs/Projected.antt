@@ -46,15 +46,15 @@ pub record AreExtensions {R : Type 0} (stands : List ℕ → List ℕ → List �
 abbrev pub Extend : {R : Type 0} → (List ℕ → List ℕ → List ℕ → R → Type 0) → Siblings R → Node → Type 0
 Extend stands base node = (set : List ℕ) × AreExtensions stands base node set
 
--- the marks at a place of the room are at rest over weights
+-- the marks at an index of the scratch are at rest over weights
 abbrev pub AreAtRest : {R : Type 0} → (List ℕ → Marks → Type 0) → SearchScratch R → ℕ → List ℕ → Type 0
-AreAtRest at_rest room place weights = (place < length room.marks.items) × HoldsAt (at_rest weights) room.marks.items place
+AreAtRest at_rest scratch index weights = (index < length scratch.marks.items) × HoldsAt (at_rest weights) scratch.marks.items index
 
--- the room serves extensions: its marks at their place are at rest over their weights
+-- the scratch serves extensions: its marks at their index are at rest over their weights
 abbrev pub Serves : {R : Type 0} → (List ℕ → Marks → Type 0) → SearchScratch R → Siblings R → Type 0
-Serves at_rest room base = AreAtRest at_rest room base.marks base.local.value.weights
+Serves at_rest scratch base = AreAtRest at_rest scratch base.marks base.local.value.weights
 
--- the room keeps what is at rest at the places before theirs, and serves them if it did
+-- the scratch keeps what is at rest before their index, and serves them if it did
 pub record Keeps {R : Type 0} (at_rest : List ℕ → Marks → Type 0) (base : Siblings R) (before after : SearchScratch R) : Type 0 where
-  pub outer : (place : ℕ) (weights : List ℕ) → place < base.marks → AreAtRest at_rest before place weights → AreAtRest at_rest after place weights
+  pub outer : (index : ℕ) (weights : List ℕ) → index < base.marks → AreAtRest at_rest before index weights → AreAtRest at_rest after index weights
   pub own : Serves at_rest before base → Serves at_rest after base

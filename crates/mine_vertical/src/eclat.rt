@@ -9,7 +9,6 @@ use crate::search_scratch::SearchScratch;
 use crate::siblings::{Siblings, class_siblings};
 use crate::vertical::Vertical;
 use basket_core::CountedSets;
-use mine_classes::laws::{conditional_supports, rare_ranks_have_no_class};
 use mine_conditional::ClassScratch;
 use mine_limit::{MineFault, Tally};
 use mine_rows::Row;
@@ -51,8 +50,6 @@ pub fn eclat_class_with<R: Row, T: Tally>(
     ensures joins { IfOk result (λ mined. RanksAreFrequent vertical.now → mined.1 ≡ class_joins vertical.now rank) }
     ensures scratch { IsScratchOf (length vertical.now.items) scratch.new }
 {
-    conditional_supports();
-    rare_ranks_have_no_class();
     let coded = vertical.coded();
     let least = vertical.least();
     let runs = vertical.runs();

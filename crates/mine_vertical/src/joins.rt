@@ -5,7 +5,7 @@ ghost use Rattle.basket_sets.specs.Itemset.{AllBelow, IsRising};
 ghost use Rattle.basket_sets.specs.Support.{support_of};
 ghost use Rattle.mine_pairs.specs.Pairs.{pairs_of};
 ghost use Rattle.mine_baskets.specs.Covers.{cover_of, weights_of};
-ghost use Rattle.mine_rows.specs.Cover.{all_places};
+ghost use Rattle.mine_rows.specs.Cover.{all_tids};
 ghost use Rattle.mine_vertical.specs.Siblings.{ArePair, IsSibling};
 
 use mine_pairs::{Runs, Sums};
@@ -26,7 +26,7 @@ pub struct Joins {
 }
 
 impl<R: Row> Sibling<R> {
-    /// The sibling of a number beside all places, by its cover.
+    /// The sibling of a number beside all tids, by its cover.
     pub fn first(
         alloc: Global,
         number: u32,
@@ -37,7 +37,7 @@ impl<R: Row> Sibling<R> {
         requires below { AllBelow (length weights.now) cover.now }
         ensures number { IfOk result (λ sibling. sibling.number ≡ number) }
         ensures row { IfOk result (λ sibling.
-            R.stands weights.now (all_places weights.now) cover.now sibling.row) }
+            R.stands weights.now (all_tids weights.now) cover.now sibling.row) }
     {
         let row = R::first(alloc, cover, weights)?;
         Ok(Sibling { number, row })
@@ -64,17 +64,17 @@ impl<R: Row> Sibling<R> {
         self.row.pays_to_reproject(kept, joined, weights)
     }
 
-    /// The places of the cover of the set with its number, or nothing if its row doesn't list them.
+    /// The tids of the cover of the set with its number, or nothing if its row doesn't list them.
     pub fn cover<'a>(
         &'a self,
         weights: &Weights,
-        places: &'a mut Vec<u32>,
+        tids: &'a mut Vec<u32>,
     ) -> Result<Option<&'a [u32]>, AllocError>
         ensures { IfOk result (λ found. IfSome found (λ listed. (baskets : List Basket) (set : List ℕ)
             → weights.now ≡ weights_of baskets → IsSibling R.stands baskets set self.now
             → listed.now ≡ cover_of baskets (self.now.number ∷ set))) }
     {
-        self.row.cover(weights, places)
+        self.row.cover(weights, tids)
     }
 
     /// Marks what its row keeps of others.
@@ -136,7 +136,7 @@ impl Joins {
         Ok(pairs)
     }
 
-    /// Joins two siblings, for the first of which places are marked: the set with both numbers, which
+    /// Joins two siblings, for the first of which tids are marked: the set with both numbers, which
     /// replaces another sibling if its support is at least this. Returns whether it is.
     pub fn join<R: Row>(
         &mut self,

@@ -3,6 +3,7 @@
 ghost use Rattle.mine_vertical.specs.Joins.{ClassJoinsAddUp, SetsOfRanksAreAll};
 
 /// The joins of all classes add up to the joins of the coding.
+#[tactic(auto, using(crate::proofs::JoinLemmas::class_joins_add_up))]
 pub fn class_joins_add_up()
     ensures { ClassJoinsAddUp }
 {}

@@ -7,9 +7,8 @@ ghost use Rattle.mine_vertical.specs.Projected.{Extend, Keeps, Serves, numbers_i
 ghost use Rattle.mine_vertical.specs.Siblings.{AreKept, AreOver, AreSiblings};
 
 use crate::joins::{Joins, Sibling};
-use crate::search_scratch::{SearchScratch, make_place};
+use crate::search_scratch::{SearchScratch, reach};
 use crate::siblings::Siblings;
-use mine_baskets::words::WORD_RANKS;
 use mine_rows::{Marks, Row};
 use mine_search::Projected;
 use std::alloc::{AllocError, Global};
@@ -45,7 +44,7 @@ impl<'a, R: Row> Projected for Siblings<'a, R> {
         self.list[at].count()
     }
 
-    fn narrowed(
+    fn projected(
         &self,
         alloc: Global,
         at: usize,
@@ -95,15 +94,15 @@ impl<'a, R: Row> Projected for Siblings<'a, R> {
 
     ghost ranks_are = { λ base node gives. gives.1.ranks };
 
-    ghost unused = { λ base room. record { outer = λ place weights low rests. rests; own = λ serves. serves } };
+    ghost unused = { λ base room. record { outer = λ index weights low rests. rests; own = λ serves. serves } };
 
-    ghost used_twice = { λ base first second third one two. record { outer = λ place weights low rests. two.outer place weights low (one.outer place weights low rests); own = λ serves. two.own (one.own serves) } };
+    ghost used_twice = { λ base first second third one two. record { outer = λ index weights low rests. two.outer index weights low (one.outer index weights low rests); own = λ serves. two.own (one.own serves) } };
 
     ghost lent_again = { λ base before after keeps serves. keeps.own serves };
 }
 
 impl<'a, R: Row> Siblings<'a, R> {
-    /// The frequent extensions of the set with the rank at a place, which replace the first siblings
+    /// The frequent extensions of the set with the rank at an index, which replace the first siblings
     /// of a list: its sibling is joined with each of those before it. Returns how many they are.
     fn joined(
         &self,
@@ -128,7 +127,7 @@ impl<'a, R: Row> Siblings<'a, R> {
         let sibling = &self.list[at];
         sibling.mark(marks, weights);
         for other in &self.list[..at] {
-            make_place(alloc, list, kept)?;
+            reach(alloc, list, kept)?;
             let both = &mut list[kept];
             let frequent = joins.join(both, sibling, other, marks, weights, self.least)?;
             if frequent {
@@ -139,8 +138,8 @@ impl<'a, R: Row> Siblings<'a, R> {
         Ok(kept)
     }
 
-    /// The extensions of the set with the number at a place by siblings over the same baskets, if
-    /// its database is large: it is made anew. Nothing if that can't be.
+    /// Makes the database of the set with the number at an index anew, if that pays: the baskets of
+    /// the set's cover, kept to the numbers of these siblings. Nothing if the row lists no cover.
     fn reprojected(
         &self,
         alloc: Global,
@@ -165,11 +164,11 @@ impl<'a, R: Row> Siblings<'a, R> {
         let sibling = &self.list[at];
         let weights = &self.local.weights;
         let kept = siblings.len();
-        if kept > WORD_RANKS || !sibling.pays_to_reproject(kept, at, weights) {
+        if !sibling.pays_to_reproject(kept, at, weights) {
             return Ok(None);
         }
-        let mut places = Vec::new(alloc);
-        let Some(cover) = sibling.cover(weights, &mut places)? else {
+        let mut tids = Vec::new(alloc);
+        let Some(cover) = sibling.cover(weights, &mut tids)? else {
             return Ok(None);
         };
         let numbers = numbers_of(alloc, siblings)?;

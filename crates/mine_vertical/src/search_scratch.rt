@@ -1,12 +1,12 @@
-//! SearchScratch that a class uses again from join to join.
+//! Scratch memory that a class uses again from join to join.
 ghost use Rattle.std.specs.Prelude.{◌≡◌, ◌≤◌, ◌<◌, ◌++◌, [], ◌∷◌, IfOk, OnOk, length, take};
 
 use crate::joins::Sibling;
 use mine_rows::{Marks, Row, Weights};
 use std::alloc::{AllocError, Global};
 
-/// ClassScratch to mark places in, one for each database that the search is within, and lists of siblings
-/// that are not needed any more.
+/// Marks, one for each database that the search is within, and lists of siblings that are not needed
+/// any more.
 #[derive(Drop)]
 pub struct SearchScratch<R> {
     pub marks: Vec<Marks>,
@@ -58,17 +58,13 @@ impl<R: Row> SearchScratch<R> {
     }
 }
 
-/// Makes sure that a list has a sibling at a place.
-pub fn make_place<R: Row>(
-    alloc: Global,
-    list: &mut Vec<Sibling<R>>,
-    place: usize,
-) -> Result<(), AllocError>
-    requires { place ≤ length list.old.items }
-    ensures within { OnOk result (place < length list.new.items) }
-    ensures before { OnOk result (take place list.new.items ≡ take place list.old.items) }
+/// Makes sure that a list has a sibling at an index.
+pub fn reach<R: Row>(alloc: Global, list: &mut Vec<Sibling<R>>, at: usize) -> Result<(), AllocError>
+    requires { at ≤ length list.old.items }
+    ensures within { OnOk result (at < length list.new.items) }
+    ensures before { OnOk result (take at list.new.items ≡ take at list.old.items) }
 {
-    if place == list.len() {
+    if at == list.len() {
         list.push(Sibling::empty(alloc))?;
     }
     Ok(())

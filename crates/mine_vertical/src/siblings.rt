@@ -47,7 +47,7 @@ pub fn class_siblings<R: Row>(
     let kept = ranks_of(alloc, &pairs)?;
     let below = Conditional::below(runs, alloc, &mut scratch.places, rank, least, &pairs)?;
     let merged = below.merged(alloc)?;
-    let (_, unmerged) = runs.of_rank(rank);
-    let made = LocalBaskets::with_siblings(alloc, kept, merged, unmerged.len())?;
+    let unmerged = runs.of_rank(rank).len();
+    let made = LocalBaskets::with_siblings(alloc, kept, merged, unmerged)?;
     Ok(made)
 }

@@ -1,5 +1,5 @@
 //! Adds sets of other lists.
-ghost use Rattle.std.specs.Prelude.{◌≡◌, ◌<◌, ◌++◌, [], ◌∷◌, All, OnOk, length, map, slice_index_or};
+ghost use Rattle.std.specs.Prelude.{◌≡◌, ◌<◌, ◌++◌, [], ◌∷◌, All, OnOk, map};
 ghost use Rattle.basket_lists.specs.Packed.{Coding, IsKept, kept};
 
 use crate::counted_sets::CountedSets;
@@ -34,8 +34,8 @@ impl CountedSets {
     fn append_each(&mut self, alloc: Global, other: &CountedSets) -> Result<(), AllocError>
         ensures { OnOk result (self.new ≡ self.old ++ other.now) }
     {
-        for place in 0..other.len() {
-            self.push(other.set(alloc, place)?, other.count(place))?;
+        for index in 0..other.len() {
+            self.push(other.set(alloc, index)?, other.count(index))?;
         }
         Ok(())
     }
@@ -75,13 +75,13 @@ pub fn append_word(
     ensures sets { (coding : Coding) → All (IsKept coding plain.old) words.old.items → IsKept coding other_plain.now other
         → OnOk result (map (kept coding plain.new) words.new.items ≡ map (kept coding plain.old) words.old.items ++ kept coding other_plain.now other ∷ []) }
 {
-    match other.place() {
+    match other.plain_index() {
         None => push_word(words, other),
-        Some(place) => push_elsewhere(
+        Some(index) => push_elsewhere(
             words,
             plain,
-            other_plain.items(place),
-            other_plain.count(place),
+            other_plain.items(index),
+            other_plain.count(index),
         ),
     }
 }

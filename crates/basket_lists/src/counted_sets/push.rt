@@ -37,7 +37,7 @@ impl CountedSets {
     }
 
     /// Adds the set of the names of some numbers with its count. The list has the name of a number
-    /// at the place of that number.
+    /// at the index of that number.
     pub fn push_renamed(
         &mut self,
         alloc: Global,
@@ -55,33 +55,33 @@ impl CountedSets {
         }
     }
 
-    /// Adds the set at a place with one more item, and a count of its own.
+    /// Adds the set at an index with one more item, and a count of its own.
     pub fn push_longer(
         &mut self,
         alloc: Global,
-        place: usize,
+        index: usize,
         item: u32,
         count: u64,
     ) -> Result<(), AllocError>
-        requires { place < length self.old }
-        ensures { OnOk result (self.new ≡ self.old ++ record { set = with_item item (set_at self.old place); count = count } ∷ []) }
+        requires { index < length self.old }
+        ensures { OnOk result (self.new ≡ self.old ++ record { set = with_item item (set_at self.old index); count = count } ∷ []) }
     {
-        let word = self.words[place];
+        let word = self.words[index];
         if word.is_here() {
             if let Some(longer) = self.known.longer(&word, item, count) {
                 return push_word(&mut self.words, longer);
             }
         }
-        let set = self.set_with(alloc, place, item)?;
+        let set = self.set_with(alloc, index, item)?;
         self.push_plain(set.items(), count)
     }
 
-    /// The set at a place with one more item.
-    fn set_with(&self, alloc: Global, place: usize, item: u32) -> Result<Itemset, AllocError>
-        requires { place < length self.now }
-        ensures { IfOk result (λ set. set ≡ with_item item (set_at self.now place)) }
+    /// The set at an index with one more item.
+    fn set_with(&self, alloc: Global, index: usize, item: u32) -> Result<Itemset, AllocError>
+        requires { index < length self.now }
+        ensures { IfOk result (λ set. set ≡ with_item item (set_at self.now index)) }
     {
-        self.set(alloc, place)?.with(alloc, item)
+        self.set(alloc, index)?.with(alloc, item)
     }
 }
 

@@ -39,9 +39,9 @@ fn unmarked_words(
 {
     let mut words = Vec::new(alloc);
     let mut plain = PlainSets::new(alloc);
-    for place in 0..others.len() {
-        if !marks[place] {
-            append_word(&mut words, &mut plain, others[place], other_plain)?;
+    for index in 0..others.len() {
+        if !marks[index] {
+            append_word(&mut words, &mut plain, others[index], other_plain)?;
         }
     }
     Ok((words, plain))

@@ -33,7 +33,7 @@ impl KnownItems {
     }
 
     /// The set of the names of some numbers as a word, or none if one isn't known, two are one, or
-    /// a word has no room. The list has the name of a number at the place of that number.
+    /// a word has no room. The list has the name of a number at the index of that number.
     pub fn pack_renamed(&self, numbers: &Itemset, names: &[u32], count: u64) -> Option<Packed>
         requires { AllBelow (length names.now) numbers.now }
         ensures packed { IfSome result (IsPacked self.now) }
@@ -61,27 +61,27 @@ impl KnownItems {
         if size >= self.most || !self.has_room(count) {
             return None;
         }
-        let place = self.place_of(item)? as u128;
+        let index = self.index_of(item)? as u128;
         let number = self.number(packed);
-        let above = self.places_above(number, size, place)?;
-        let longer = self.with_place(number, place, above * self.item_bits);
+        let above = self.digits_above(number, size, index)?;
+        let longer = self.with_digit(number, index, above * self.item_bits);
         Some(self.word(size + 1, longer, count))
     }
 
-    /// How many of the places that are digits of a number are greater than another, or none if that is
+    /// How many of the indexes that are digits of a number are greater than another, or none if that is
     /// among them.
-    fn places_above(&self, number: u128, size: u32, place: u128) -> Option<u32>
+    fn digits_above(&self, number: u128, size: u32, index: u128) -> Option<u32>
         requires { IsRising (digits self.now.item_bits size number) }
-        ensures { IfSome result (IsBetween self.now.item_bits size number place) }
+        ensures { IfSome result (IsBetween self.now.item_bits size number index) }
     {
         let mut rest = number;
         let mut above = 0;
         while above < size {
             let last = low_bits(rest, self.item_bits);
-            if last == place {
+            if last == index {
                 return None;
             }
-            if last < place {
+            if last < index {
                 return Some(above);
             }
             rest >>= self.item_bits;
@@ -91,18 +91,18 @@ impl KnownItems {
     }
 
     /// A number with one more digit before the last bits.
-    fn with_place(&self, number: u128, place: u128, last_bits: u32) -> u128
+    fn with_digit(&self, number: u128, index: u128, last_bits: u32) -> u128
         requires last { last_bits < 128 }
-        requires place { place < 2 ^ self.now.item_bits }
-        requires room { longer_number self.now.item_bits number place last_bits < 2 ^ 121 }
-        ensures { result ≡ longer_number self.now.item_bits number place last_bits }
+        requires index { index < 2 ^ self.now.item_bits }
+        requires room { longer_number self.now.item_bits number index last_bits < 2 ^ 121 }
+        ensures { result ≡ longer_number self.now.item_bits number index last_bits }
     {
         let first = number >> last_bits;
         let last = number - (first << last_bits);
-        (((first << self.item_bits) + place) << last_bits) + last
+        (((first << self.item_bits) + index) << last_bits) + last
     }
 
-    /// The word of a set of this size, whose places are the digits of the number.
+    /// The word of a set of this size, whose indexes are the digits of the number.
     pub fn word(&self, size: u32, number: u128, count: u64) -> Packed
         requires fits { FitsWord self.now size number count }
         ensures { IsWordOf self.now size number count result }

@@ -1,5 +1,6 @@
 -- The sets of lines, in report order.
-use Rattle.std.proofs.Common.{◌≡◌, ℕ, Bool, true, false, List, [], ◌∷◌, map, cond, refl, sym, ap, ◌∙◌, subst, inl, inr, ◌⊎◌}
+use Rattle.std.proofs.lemmas.Grind.{common_steps}
+use Rattle.std.proofs.Common.{◌≡◌, ℕ, Bool, true, false, List, [], ◌∷◌, map, cond, refl, sym, ap, ◌∙◌, subst, inl, inr, ◌⊎◌, arith}
 use Rattle.std.specs.declared.cmp.Ordering.{Ordering}
 use Rattle.std.specs.declared.cmp.Ordering.TheVariants.{Less, Equal, Greater}
 use Rattle.std.specs.Ordering.{is_lt, is_eq, ordering_reverse}
@@ -28,9 +29,7 @@ less_or_same a b up apart =
     turned Greater low differ = refl
 
 less_from_test : (r : Ordering) → is_lt r ≡ true → r ≡ Less
-less_from_test Less e = refl
-less_from_test Equal e = absurd (false≢true e)
-less_from_test Greater e = absurd (false≢true e)
+less_from_test r h1 = grind (arith, common_steps)
 
 -- two lists that have one set
 pub same_items : (a b : List ℕ) → pointwise nat_eq a b ≡ true → a ≡ b
@@ -56,37 +55,17 @@ pub cons_in_order : (set : List ℕ) (sets : List (List ℕ)) → ((other : List
 unfolding IsStrictlySortedBy
 cons_in_order set sets below up = (All-from_Member (λ other. report_order set other ≡ Less) sets below, up)
 
--- ---- a set at its place
-
-with_at : (set first other : List ℕ) (sets rest : List (List ℕ)) (p q : Bool) → (Member other rest → (set ≡ other) ⊎ Member other sets)
-    → Member other (cond p (set ∷ first ∷ sets) (cond q (first ∷ sets) (first ∷ rest))) → (set ≡ other) ⊎ Member other (first ∷ sets)
-with_at set first other sets rest true q later (inl e) = inl e
-with_at set first other sets rest true q later (inr m) = inr m
-with_at set first other sets rest false true later m = inr m
-with_at set first other sets rest false false later (inl e) = inr (inl e)
-with_at set first other sets rest false false later (inr m) = elim (later m) [ inl e ↦ inl e | inr n ↦ inr (inr n) ]
+-- ---- a set in its order
 
 Member-with_set : (set : List ℕ) (sets : List (List ℕ)) (other : List ℕ) → Member other (with_set set sets) → (set ≡ other) ⊎ Member other sets
 Member-with_set set [] other (inl e) = inl e
 Member-with_set set [] other (inr m) = absurd m
-Member-with_set set (first ∷ sets) other m =
-    with_at set first other sets (with_set set sets) (is_lt (report_order set first)) (pointwise nat_eq set first) (Member-with_set set sets other) m
-
-into_at : (set first other : List ℕ) (sets rest : List (List ℕ)) (p q : Bool) → pointwise nat_eq set first ≡ q → ((set ≡ other) ⊎ Member other sets → Member other rest)
-    → (set ≡ other) ⊎ Member other (first ∷ sets) → Member other (cond p (set ∷ first ∷ sets) (cond q (first ∷ sets) (first ∷ rest)))
-into_at set first other sets rest true q is later (inl e) = inl e
-into_at set first other sets rest true q is later (inr m) = inr m
-into_at set first other sets rest false true is later (inl e) = inl (sym (same_items set first is) ∙ e)
-into_at set first other sets rest false true is later (inr m) = m
-into_at set first other sets rest false false is later (inl e) = inr (later (inl e))
-into_at set first other sets rest false false is later (inr (inl e)) = inl e
-into_at set first other sets rest false false is later (inr (inr m)) = inr (later (inr m))
+Member-with_set set (first ∷ sets) other m = grind (arith, common_steps, Member-with_set set sets other)
 
 Member-into_with_set : (set : List ℕ) (sets : List (List ℕ)) (other : List ℕ) → (set ≡ other) ⊎ Member other sets → Member other (with_set set sets)
 Member-into_with_set set [] other (inl e) = inl e
 Member-into_with_set set [] other (inr m) = absurd m
-Member-into_with_set set (first ∷ sets) other m =
-    into_at set first other sets (with_set set sets) (is_lt (report_order set first)) (pointwise nat_eq set first) refl (Member-into_with_set set sets other) m
+Member-into_with_set set (first ∷ sets) other m = let rest = Member-into_with_set set sets other in let same = same_items set first in grind (arith, common_steps)
 
 order_at : (set first : List ℕ) (sets rest : List (List ℕ)) (p q : Bool) → is_lt (report_order set first) ≡ p → pointwise nat_eq set first ≡ q → IsInReportOrder (first ∷ sets) → IsInReportOrder rest
     → ((other : List ℕ) → Member other rest → (set ≡ other) ⊎ Member other sets) → IsInReportOrder (cond p (set ∷ first ∷ sets) (cond q (first ∷ sets) (first ∷ rest)))
@@ -100,9 +79,7 @@ order_at set first sets rest false false less is up later from = cons_in_order f
 
 with_set-in_order : (set : List ℕ) (sets : List (List ℕ)) → IsInReportOrder sets → IsInReportOrder (with_set set sets)
 with_set-in_order set [] up = cons_in_order set [] (λ other m. absurd m) up
-with_set-in_order set (first ∷ sets) up =
-    order_at set first sets (with_set set sets) (is_lt (report_order set first)) (pointwise nat_eq set first) refl refl up
-    (with_set-in_order set sets (rest_is_sorted report_order_total first sets up)) (Member-with_set set sets)
+with_set-in_order set (first ∷ sets) up = grind (arith, with_set-in_order set sets (rest_is_sorted report_order_total first sets up), rest_is_sorted report_order_total first sets up, Member-with_set set sets, order_at)
 
 -- ---- the sets of lines
 

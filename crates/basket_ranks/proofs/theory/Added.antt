@@ -3,7 +3,7 @@ use Rattle.std.proofs.Common.{◌≡◌, ℕ, ◌+◌, ◌<◌, ◌≤◌, ◌^�
 use Rattle.std.specs.declared.cmp.Ordering.TheVariants.{Less, Equal, Greater}
 use Rattle.std.specs.Ordering.{nat_cmp}
 use Rattle.std.proofs.Math.Bool.{or_assoc, or-false}
-use Rattle.std.proofs.lemmas.Bool.{cond-true, eq-eqb, eqb-true, false_from_ne_true, true≢false}
+use Rattle.std.proofs.lemmas.Bool.{cond-true, cond_both, eq-eqb, eqb-true, false_from_ne_true}
 use Rattle.std.proofs.lemmas.Bool.Decides.{nat_tests}
 use Rattle.std.proofs.lemmas.List.{append-nil, map-append, map_push}
 use Rattle.std.proofs.lemmas.List.Sums.{sum_by-append, sum_by-cons, sum_by_push}
@@ -31,8 +31,7 @@ number_absent (entry ∷ counts) item none = number-cons entry counts item ∙ a
   where
     at : (has (items_of_counts counts) item ≡ false → number_of counts item ≡ 0) → (b : Bool) → (b || has (items_of_counts counts) item) ≡ false
         → cond b entry.1 0 + number_of counts item ≡ 0
-    at later true h = absurd (true≢false h)
-    at later false h = zero-add _ ∙ later h
+    at later b h = grind arith
 
 found_is : (counts : List (ℕ × ℕ)) (item : ℕ) → IsRising (items_of_counts counts) → found counts item ≡ cond (has (items_of_counts counts) item) (Some (number_of counts item)) None
 found_is [] item up = refl
@@ -46,8 +45,7 @@ found_is (entry ∷ counts) item up =
 
     at : found counts item ≡ cond (has (items_of_counts counts) item) (Some (number_of counts item)) None → (b : Bool) → eqb entry.0 item ≡ b
         → cond b (Some entry.1) (found counts item) ≡ cond (b || has (items_of_counts counts) item) (Some (cond b entry.1 0 + number_of counts item)) None
-    at later true here = let none = absent here in ap Some (omega arith)
-    at later false here = later ∙ ap (λ n. cond (has (items_of_counts counts) item) (Some n) None) (sym (zero-add _))
+    at later b here = grind (arith, absent)
 
 -- ---- the sums of two lists are the only rising list that has their items, each with the sum of its numbers
 
@@ -86,13 +84,10 @@ rises_between (w ∷ xs) x y ys zs less up over = cons_rises w (xs ++ x ∷ y �
     ]
 
 swapped : (p q r : Bool) → (q || (p || r)) ≡ (p || (q || r))
-swapped true true r = refl
-swapped true false r = refl
-swapped false q r = refl
+swapped p q r = grind arith
 
 shared : (p q r : Bool) → (p || (q || r)) ≡ ((p || q) || (p || r))
-shared true q r = refl
-shared false q r = refl
+shared p q r = grind arith
 
 module _ (counts ours theirs a b rest others : List (ℕ × ℕ)) (first other : ℕ × ℕ) (our : ours ≡ first ∷ rest) (their : theirs ≡ other ∷ others) (leaves : Leaves counts ours theirs a b) where
   before : Leaves counts (first ∷ rest) (other ∷ others) a b
@@ -167,12 +162,8 @@ none_left counts ours theirs a b leaves ended = added_are ((counts ++ ours) ++ t
 -- the number of each item is its support
 number_is_support : (baskets : List Weighted) (item : ℕ) → number_of (item_supports baskets) item ≡ support_of baskets (item ∷ [])
 number_is_support baskets item =
-    sym (at _ (number_absent (item_supports baskets) item)) ∙ ap (λ s. unwrap_or s 0) (sym (found_is (item_supports baskets) item (supports_rise (item_supports baskets) baskets refl)) ∙ found_supports baskets item)
+    sym (cond_both (has (items_of_counts (item_supports baskets)) item) _ _ (λ known. unwrap_or known 0 ≡ number_of (item_supports baskets) item) (λ here. refl) (λ none. sym (number_absent (item_supports baskets) item none))) ∙ ap (λ s. unwrap_or s 0) (sym (found_is (item_supports baskets) item (supports_rise (item_supports baskets) baskets refl)) ∙ found_supports baskets item)
     ∙ tally_number baskets item
-  where
-    at : (b : Bool) → (b ≡ false → number_of (item_supports baskets) item ≡ 0) → unwrap_or (cond b (Some (number_of (item_supports baskets) item)) None) 0 ≡ number_of (item_supports baskets) item
-    at true none = refl
-    at false none = sym (none refl)
 
 -- the supports over two lists of baskets add up
 pub item_supports_add_up : ItemSupportsAddUp

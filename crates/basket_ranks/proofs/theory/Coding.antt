@@ -1,8 +1,9 @@
 -- Coding is a renaming: the supports of ranks are those of their items.
-use Rattle.std.proofs.Common.{◌≡◌, ℕ, ◌+◌, ◌<◌, Bool, true, false, List, [], ◌∷◌, length, get_or, map, cond, refl, sym, ap, ◌∙◌, subst, inl, inr, arith, zero, suc, zero-add}
-use Rattle.std.specs.List.{Contains, filter, flat_map, sum_by}
+use Rattle.std.proofs.Common.{◌≡◌, ℕ, ◌+◌, ◌<◌, true, List, [], ◌∷◌, length, get_or, map, cond, refl, sym, ap, ◌∙◌, subst, inl, inr, arith, zero, suc, zero-add}
+use Rattle.std.specs.List.{Contains, filter, sum_by}
+use Rattle.std.proofs.lemmas.Bool.{cond_both}
 use Rattle.std.proofs.lemmas.List.Elements.{All-weaker}
-use Rattle.std.proofs.lemmas.List.Sums.{sum_by-cons}
+use Rattle.std.proofs.lemmas.List.Folds.{fold-map}
 use Rattle.basket_sets.specs.declared.weighted.Weighted.{Weighted}
 use Rattle.basket_sets.specs.declared.minimum.Minimum.{Minimum}
 use Rattle.basket_ranks.specs.Codes.{ranked, ranks_from, coded, decoded, coded_place, decoded_place, ranks_of, coding_of, IsCodedPlace, baskets_of, CodingKeepsFrequent, merged_coding, MergingKeepsCoded}
@@ -14,7 +15,7 @@ use Rattle.basket_sets.specs.Minimum.{meets}
 use Rattle.basket_sets.specs.Support.{weight_at, support_of, total_of, items_of}
 use Rattle.basket_sets.proofs.theory.Tests.{Member-at}
 use Rattle.basket_sets.proofs.theory.Frequent.{IsSound, frequent_is_unique, same_supports}
-use Rattle.basket_sets.proofs.theory.Members.{Member, Member-append, Member-map, Member-from_map, Member-filter, Member-from_filter}
+use Rattle.basket_sets.proofs.theory.Members.{Member, Member-flat_map, Member-map, Member-from_map, Member-filter, Member-from_filter}
 use Rattle.basket_ranks.proofs.RankLemmas.{Member-ranked, Member-into_ranked}
 use Rattle.basket_sets.proofs.theory.Rising.{nil_rises, cons_rises, Member-rising, Member-into_rising, Member-from_has, has-from_Member, has_each, contains_each, same_test}
 use Rattle.basket_sets.proofs.theory.Support.{subsets_are_frequent, frequent_items, in_items, at_least_one}
@@ -22,23 +23,18 @@ use Rattle.basket_sets.proofs.theory.Merging.{merging_keeps_supports, merging_ke
 
 -- ---- a basket as ranks
 
--- a rank of a basket is the place of an item that it has
+-- a rank of a basket is the index of an item that it has
 pub from_ranks : (number : ℕ) (items basket : List ℕ) (rank : ℕ) → Member rank (ranks_from number items basket)
     → (k : ℕ) × (k < length items) × (rank ≡ number + k) × (has basket (get_or items k 0) ≡ true)
 from_ranks number [] basket rank m = absurd m
-from_ranks number (x ∷ items) basket rank m = at (has basket x) refl (from_ranks (number + 1) items basket rank) m
+from_ranks number (x ∷ items) basket rank m = cond_both (has basket x) (number ∷ ranks_from (number + 1) items basket) (ranks_from (number + 1) items basket)
+    (λ l. Member rank l → (k : ℕ) × (k < suc (length items)) × (rank ≡ number + k) × (has basket (get_or (x ∷ items) k 0) ≡ true))
+    (λ e n. elim n [ inl s ↦ (0, omega arith, omega (arith, s), e) | inr later ↦ more (from_ranks (number + 1) items basket rank later) ])
+    (λ e later. more (from_ranks (number + 1) items basket rank later)) m
   where
-    later : (k : ℕ) × (k < length items) × (rank ≡ number + 1 + k) × (has basket (get_or items k 0) ≡ true)
+    more : (k : ℕ) × (k < length items) × (rank ≡ number + 1 + k) × (has basket (get_or items k 0) ≡ true)
         → (k : ℕ) × (k < suc (length items)) × (rank ≡ number + k) × (has basket (get_or (x ∷ items) k 0) ≡ true)
-    later r = (suc r.0, omega (arith, r.1), omega (arith, r.2), r.3)
-
-    at : (b : Bool) → has basket x ≡ b
-        → (Member rank (ranks_from (number + 1) items basket) → (k : ℕ) × (k < length items) × (rank ≡ number + 1 + k) × (has basket (get_or items k 0) ≡ true))
-        → Member rank (cond b (number ∷ ranks_from (number + 1) items basket) (ranks_from (number + 1) items basket))
-        → (k : ℕ) × (k < suc (length items)) × (rank ≡ number + k) × (has basket (get_or (x ∷ items) k 0) ≡ true)
-    at true e rest (inl s) = (0, omega arith, omega (arith, s), e)
-    at true e rest (inr n) = later (rest n)
-    at false e rest n = later (rest n)
+    more r = (suc r.0, omega (arith, r.1), omega (arith, r.2), r.3)
 
 -- and each item that it has gives its rank
 pub into_ranks : (number : ℕ) (items basket : List ℕ) (k : ℕ) → k < length items → has basket (get_or items k 0) ≡ true → Member (number + k) (ranks_from number items basket)
@@ -46,24 +42,16 @@ into_ranks number [] basket k below h = absurd (omega arith)
 into_ranks number (x ∷ items) basket zero below h =
     subst (λ b. Member (number + 0) (cond b (number ∷ ranks_from (number + 1) items basket) (ranks_from (number + 1) items basket))) (sym h) (inl (omega arith))
 into_ranks number (x ∷ items) basket (suc k) below h =
-    at (has basket x) (subst (λ n. Member n (ranks_from (number + 1) items basket)) (omega arith) (into_ranks (number + 1) items basket k (omega arith) h))
-  where
-    at : (b : Bool) → Member (number + suc k) (ranks_from (number + 1) items basket)
-        → Member (number + suc k) (cond b (number ∷ ranks_from (number + 1) items basket) (ranks_from (number + 1) items basket))
-    at true rest = inr rest
-    at false rest = rest
+    let rest : Member (number + suc k) (ranks_from (number + 1) items basket) = subst (λ n. Member n (ranks_from (number + 1) items basket)) (omega arith) (into_ranks (number + 1) items basket k (omega arith) h) in
+    cond_both (has basket x) (number ∷ ranks_from (number + 1) items basket) (ranks_from (number + 1) items basket) (Member (number + suc k)) (λ e. inr rest) (λ e. rest)
 
 -- the ranks of a basket rise
 pub ranks_rise : (number : ℕ) (items basket : List ℕ) → IsRising (ranks_from number items basket)
 ranks_rise number [] basket = nil_rises
-ranks_rise number (x ∷ items) basket = at (has basket x) (ranks_rise (number + 1) items basket)
-  where
-    above : (y : ℕ) → Member y (ranks_from (number + 1) items basket) → number < y
-    above y m = let r = from_ranks (number + 1) items basket y m in omega (arith, r.2)
-
-    at : (b : Bool) → IsRising (ranks_from (number + 1) items basket) → IsRising (cond b (number ∷ ranks_from (number + 1) items basket) (ranks_from (number + 1) items basket))
-    at true rest = cons_rises number (ranks_from (number + 1) items basket) above rest
-    at false rest = rest
+ranks_rise number (x ∷ items) basket =
+    let later = ranks_from (number + 1) items basket in
+    let rest = ranks_rise (number + 1) items basket in
+    cond_both (has basket x) (number ∷ later) later IsRising (λ e. cons_rises number later (λ y m. let r = from_ranks (number + 1) items basket y m in omega (arith, r.2)) rest) (λ e. rest)
 
 -- a place of a coding
 pub coded_place_is : (items : List ℕ) (place : Weighted) → IsCodedPlace items (coded_place items place)
@@ -74,32 +62,24 @@ coded_place_is items place = (
 
 -- coding keeps the total weight
 pub coded_total : (items : List ℕ) (baskets : List Weighted) → total_of (map (coded_place items) baskets) ≡ total_of baskets
-coded_total items [] = refl
-coded_total items (place ∷ baskets) =
-    sum_by-cons (weight_at []) (coded_place items place) (map (coded_place items) baskets) ∙ ap (λ n. place.weight + n) (coded_total items baskets)
-    ∙ sym (sum_by-cons (weight_at []) place baskets)
+coded_total items baskets = fold-map (λ n place. n + weight_at [] place) (coded_place items) 0 baskets
 
 -- a rank has the support of its item
 pub coded_support : (items : List ℕ) (baskets : List Weighted) (rank : ℕ) → rank < length items
     → support_of (map (coded_place items) baskets) (rank ∷ []) ≡ support_of baskets (get_or items rank 0 ∷ [])
-coded_support items [] rank below = refl
-coded_support items (place ∷ baskets) rank below =
-    sum_by-cons (weight_at (rank ∷ [])) (coded_place items place) (map (coded_place items) baskets)
-    ∙ ap (λ b. cond b place.weight 0 + support_of (map (coded_place items) baskets) (rank ∷ []))
-    (same_test (contains (coded items place.basket) (rank ∷ [])) (contains place.basket (get_or items rank 0 ∷ [])) there back)
-    ∙ ap (λ n. weight_at (get_or items rank 0 ∷ []) place + n) (coded_support items baskets rank below)
-    ∙ sym (sum_by-cons (weight_at (get_or items rank 0 ∷ [])) place baskets)
+coded_support items baskets rank below =
+    fold-map (λ n place. n + weight_at (rank ∷ []) place) (coded_place items) 0 baskets ∙ (λ i. sum_by (λ place. cond (same_test _ _ (there place) (back place) i) place.weight 0) baskets)
   where
-    there : contains (coded items place.basket) (rank ∷ []) ≡ true → contains place.basket (get_or items rank 0 ∷ []) ≡ true
-    there h =
+    there : (place : Weighted) → contains (coded items place.basket) (rank ∷ []) ≡ true → contains place.basket (get_or items rank 0 ∷ []) ≡ true
+    there place h =
         let r = from_ranks 0 items place.basket rank (has_each (coded items place.basket) (rank ∷ []) h rank (inl refl)) in
         contains_each place.basket (get_or items rank 0 ∷ []) (λ item m. elim m [
           | inl e ↦ subst (λ x. Member x place.basket) (ap (λ k. get_or items k 0) (omega (arith, r.2)) ∙ e) (Member-from_has place.basket (get_or items r.0 0) r.3)
           | inr n ↦ absurd n
         ])
 
-    back : contains place.basket (get_or items rank 0 ∷ []) ≡ true → contains (coded items place.basket) (rank ∷ []) ≡ true
-    back h = contains_each (coded items place.basket) (rank ∷ []) (λ other m. elim m [
+    back : (place : Weighted) → contains place.basket (get_or items rank 0 ∷ []) ≡ true → contains (coded items place.basket) (rank ∷ []) ≡ true
+    back place h = contains_each (coded items place.basket) (rank ∷ []) (λ other m. elim m [
       | inl e ↦ subst (λ x. Member x (coded items place.basket)) (omega (arith, e))
           (into_ranks 0 items place.basket rank below (has-from_Member place.basket (get_or items rank 0) (has_each place.basket (get_or items rank 0 ∷ []) h (get_or items rank 0) (inl refl))))
       | inr n ↦ absurd n
@@ -142,13 +122,16 @@ kept_contains items basket set ranked = same_test _ _
     (λ h. contains_each basket set (λ item m. (kept_from items basket item (has_each (decoded items (coded items basket)) set h item m)).0))
     (λ h. contains_each (decoded items (coded items basket)) set (λ item m. kept_into items basket item (has_each basket set h item m) (ranked item m)))
 
+-- the support of a set over the baskets as items, told over the baskets of ranks
+decoded_support : (items : List ℕ) (baskets : List Weighted) (set : List ℕ)
+    → support_of (map (decoded_place items) baskets) set ≡ sum_by (λ place. cond (contains (decoded items place.basket) set) place.weight 0) baskets
+decoded_support items baskets set = fold-map (λ n place. n + weight_at set place) (decoded_place items) 0 baskets
+
 kept_support : (items : List ℕ) (baskets : List Weighted) (set : List ℕ) → ((item : ℕ) → Member item set → Member item items)
     → support_of (map (decoded_place items) (map (coded_place items) baskets)) set ≡ support_of baskets set
-kept_support items [] set ranked = refl
-kept_support items (place ∷ baskets) set ranked =
-    sum_by-cons (weight_at set) (decoded_place items (coded_place items place)) (map (decoded_place items) (map (coded_place items) baskets))
-    ∙ ap (λ b. cond b place.weight 0 + support_of (map (decoded_place items) (map (coded_place items) baskets)) set) (kept_contains items place.basket set ranked)
-    ∙ ap (λ n. weight_at set place + n) (kept_support items baskets set ranked) ∙ sym (sum_by-cons (weight_at set) place baskets)
+kept_support items baskets set ranked =
+    decoded_support items (map (coded_place items) baskets) set ∙ fold-map (λ n place. n + weight_at set (decoded_place items place)) (coded_place items) 0 baskets
+    ∙ (λ i. sum_by (λ place. cond (kept_contains items place.basket set ranked i) place.weight 0) baskets)
 
 -- a frequent item has a rank
 pub item_ranked : (baskets : List Weighted) (minimum : Minimum) (item : ℕ) → is_frequent baskets minimum (item ∷ []) ≡ true → Member item (ranks_of baskets minimum)
@@ -186,15 +169,12 @@ module _ (baskets : List Weighted) (minimum : Minimum) where
       single item set m y (inr n) = absurd n
 
   kept_items : (set : List ℕ) → is_frequent kept minimum set ≡ true → (item : ℕ) → Member item set → Member item (ranks_of baskets minimum)
-  kept_items set h item m = from_kept baskets (in_items kept set (at_least_one minimum (support_of kept set) (total_of kept) h) item m)
-    where
-      from_kept : (places : List Weighted) → Member item (flat_map (λ place. place.basket) (map (decoded_place (ranks_of baskets minimum)) (map (coded_place (ranks_of baskets minimum)) places)))
-          → Member item (ranks_of baskets minimum)
-      from_kept [] n = absurd n
-      from_kept (place ∷ places) n = elim (Member-append item (decoded (ranks_of baskets minimum) (coded (ranks_of baskets minimum) place.basket)) _ n) [
-        | inl here ↦ (kept_from (ranks_of baskets minimum) place.basket item here).1
-        | inr later ↦ from_kept places later
-      ]
+  kept_items set h item m =
+      let ranked = ranks_of baskets minimum in
+      let from = Member-flat_map (λ (place : Weighted). place.basket) item kept (in_items kept set (at_least_one minimum (support_of kept set) (total_of kept) h) item m) in
+      let coded = Member-from_map (decoded_place ranked) from.0 (map (coded_place ranked) baskets) from.1 in
+      let place = Member-from_map (coded_place ranked) coded.0 baskets coded.1 in
+      (kept_from ranked place.0.basket item (subst (λ (w : Weighted). Member item w.basket) (sym (ap (decoded_place ranked) place.2 ∙ coded.2)) from.2)).1
 
   frequent_kept : (set : List ℕ) → is_frequent baskets minimum set ≡ true → is_frequent kept minimum set ≡ true
   frequent_kept set h =
@@ -222,15 +202,6 @@ coding_keeps_frequent baskets minimum =
     (frequent_is_unique baskets minimum list).0 all
 
 -- ---- merging equal baskets of ranks
-
--- the support of a set over the baskets as items, told over the baskets of ranks
-decoded_support : (items : List ℕ) (baskets : List Weighted) (set : List ℕ)
-    → support_of (map (decoded_place items) baskets) set ≡ sum_by (λ place. cond (contains (decoded items place.basket) set) place.weight 0) baskets
-decoded_support items [] set = refl
-decoded_support items (place ∷ baskets) set =
-    sum_by-cons (weight_at set) (decoded_place items place) (map (decoded_place items) baskets)
-    ∙ ap (λ n. weight_at set (decoded_place items place) + n) (decoded_support items baskets set)
-    ∙ sym (sum_by-cons (λ other. cond (contains (decoded items other.basket) set) other.weight 0) place baskets)
 
 -- so does merging coded baskets, which keeps the total weight
 pub merging_keeps_coded : MergingKeepsCoded

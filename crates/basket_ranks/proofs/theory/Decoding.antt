@@ -1,8 +1,8 @@
 -- A list that has each frequent set of ranks once has, as items, each frequent set once.
-use Rattle.std.proofs.Common.{◌≡◌, ◌≢◌, ℕ, ◌+◌, ◌<◌, true, false, List, [], ◌∷◌, length, get_or, map, cond, refl, sym, ap, ◌∙◌, subst, inl, inr, arith, zero-add}
+use Rattle.std.proofs.Common.{◌≡◌, ◌≢◌, ℕ, ◌+◌, ◌<◌, true, false, List, [], ◌∷◌, length, get_or, map, cond, refl, sym, ap, ◌∙◌, subst, inl, inr, arith, suc, zero-add}
 use Rattle.std.specs.Prelude.{nat_eq}
 use Rattle.std.specs.Cmp.Lexicographic.{pointwise, bytes_decides}
-use Rattle.std.specs.List.{AllByRecursion, IsDistinct, Contains, flat_map}
+use Rattle.std.specs.List.{AllByRecursion, IsDistinct, Contains}
 use Rattle.std.proofs.lemmas.Bool.{cases_Bool, cases_order, eq-eqb, true≢false}
 use Rattle.std.proofs.lemmas.List.{get_or_default, length-map}
 use Rattle.std.proofs.lemmas.List.Elements.{All-map, All-weaker, recursion_from_All}
@@ -18,8 +18,8 @@ use Rattle.basket_sets.specs.Minimum.{meets}
 use Rattle.basket_sets.specs.Support.{weight_at, support_of, total_of}
 use Rattle.basket_ranks.proofs.theory.Coding.{from_ranks, into_ranks, ranks_rise, from_decoded, into_decoded}
 use Rattle.basket_sets.proofs.theory.Frequent.{IsSound, frequent_once, once_is_as_long}
-use Rattle.basket_sets.proofs.theory.Members.{Member, All-from_Member, at_Member, Member-append, Member-map, Member-from_map, Member-from_Contains, Contains-from_Member}
-use Rattle.basket_sets.proofs.theory.Rising.{same_test, rising-rises, rising_is, Member-from_has, has-from_Member, has_each, contains_each, same_rising}
+use Rattle.basket_sets.proofs.theory.Members.{Member, All-from_Member, at_Member, Member-flat_map, Member-map, Member-from_map, Member-from_Contains, Contains-from_Member}
+use Rattle.basket_sets.proofs.theory.Rising.{same_test, rising-rises, rising_is, Member-from_has, has-from_Member, has_each, contains_each, first_below, length-with_item, rest_rises, same_rising}
 use Rattle.basket_sets.proofs.theory.Support.{in_items, at_least_one}
 
 -- ---- ranks of distinct items
@@ -73,6 +73,18 @@ recoded items set up within = rising_is (map (λ rank. get_or items rank 0) (cod
     place_is : (items : List ℕ) (k item : ℕ) → k < length items → get_or items k item ≡ item → get_or items k 0 ≡ item
     place_is items k item below is = get_or_default items k 0 item below ∙ is
 
+-- decoding keeps the size of a set
+pub length-decoded : (items set : List ℕ) → IsDistinct nat_eq items → IsRising set → AllBelow (length items) set → length (decoded items set) ≡ length set
+length-decoded items [] apart up below = refl
+length-decoded items (rank ∷ set) apart up below =
+    length-with_item (get_or items rank 0) (decoded items set) (λ m.
+    let n = rank_from_decoded items set rank apart later (below rank (has-from_Member (rank ∷ set) rank (inl refl))) m in
+    let less = first_below rank set up rank n in absurd (omega arith))
+    ∙ ap suc (length-decoded items set apart (rest_rises rank set up) later)
+  where
+    later : AllBelow (length items) set
+    later other h = below other (has-from_Member (rank ∷ set) other (inr (Member-from_has set other h)))
+
 -- ---- the frequent sets
 
 module _ (coding : Coding) (is : IsCoding coding) where
@@ -89,30 +101,25 @@ module _ (coding : Coding) (is : IsCoding coding) where
   test_is set within =
       ap (λ s. meets coding.minimum s (total_of (baskets_of coding))) (support_is set within) ∙ ap (meets coding.minimum (support_of coding.baskets set)) total_is
 
+  coded_at : (place : Weighted) → Member place coding.baskets → IsCodedPlace coding.items place
+  coded_at place = at_Member (IsCodedPlace coding.items) place coding.baskets (recursion_from_All (IsCodedPlace coding.items) coding.baskets is.places)
+
   -- a frequent set of ranks has ranks of items
   pub ranks_below : (set : List ℕ) → is_frequent coding.baskets coding.minimum set ≡ true → IsRankSet set
-  ranks_below set h rank here = within coding.baskets (recursion_from_All (IsCodedPlace coding.items) coding.baskets is.places)
-      (in_items coding.baskets set (at_least_one coding.minimum (support_of coding.baskets set) (total_of coding.baskets) h) rank (Member-from_has set rank here))
-    where
-      within : (places : List Weighted) → AllByRecursion (IsCodedPlace coding.items) places → Member rank (flat_map (λ place. place.basket) places) → rank < length coding.items
-      within [] all m = absurd m
-      within (place ∷ places) all m = elim (Member-append rank place.basket (flat_map (λ p. p.basket) places) m) [
-        | inl here ↦ all.0.1 rank (has-from_Member place.basket rank here)
-        | inr later ↦ within places all.1 later
-      ]
+  ranks_below set h rank here =
+      let from = Member-flat_map (λ (place : Weighted). place.basket) rank coding.baskets
+      (in_items coding.baskets set (at_least_one coding.minimum (support_of coding.baskets set) (total_of coding.baskets) h) rank (Member-from_has set rank here)) in
+      (coded_at from.0 from.1).1 rank (has-from_Member from.0.basket rank from.2)
 
   -- a frequent set of items has items that have ranks
   pub items_ranked : (set : List ℕ) → is_frequent (baskets_of coding) coding.minimum set ≡ true → (item : ℕ) → Member item set → Member item coding.items
-  items_ranked set h item m = within coding.baskets (recursion_from_All (IsCodedPlace coding.items) coding.baskets is.places)
-      (in_items (baskets_of coding) set (at_least_one coding.minimum (support_of (baskets_of coding) set) (total_of (baskets_of coding)) h) item m)
-    where
-      within : (places : List Weighted) → AllByRecursion (IsCodedPlace coding.items) places → Member item (flat_map (λ place. place.basket) (map (decoded_place coding.items) places)) → Member item coding.items
-      within [] all n = absurd n
-      within (place ∷ places) all n = elim (Member-append item (decoded coding.items place.basket) (flat_map (λ p. p.basket) (map (decoded_place coding.items) places)) n) [
-        | inl here ↦ (let d = from_decoded coding.items place.basket item here in
-            Member-from_Contains item coding.items (d.0, all.0.1 d.0 (has-from_Member place.basket d.0 d.1), get_or_default coding.items d.0 item 0 (all.0.1 d.0 (has-from_Member place.basket d.0 d.1)) ∙ d.2))
-        | inr later ↦ within places all.1 later
-      ]
+  items_ranked set h item m =
+      let from = Member-flat_map (λ (place : Weighted). place.basket) item (baskets_of coding)
+      (in_items (baskets_of coding) set (at_least_one coding.minimum (support_of (baskets_of coding) set) (total_of (baskets_of coding)) h) item m) in
+      let place = Member-from_map (decoded_place coding.items) from.0 coding.baskets from.1 in
+      let d = from_decoded coding.items place.0.basket item (subst (λ (other : Weighted). Member item other.basket) (sym place.2) from.2) in
+      let below = (coded_at place.0 place.1).1 d.0 (has-from_Member place.0.basket d.0 d.1) in
+      Member-from_Contains item coding.items (d.0, below, get_or_default coding.items d.0 item 0 below ∙ d.2)
 
   -- a frequent set of ranks is, decoded, a frequent set of items
   pub decoded_sound : (c : Counted) → IsSound coding.baskets coding.minimum c → IsSound (baskets_of coding) coding.minimum (decoded_set coding.items c)

@@ -1,7 +1,8 @@
 -- Texts of lines: their first fault, and what a byte more does.
-use Rattle.std.proofs.Common.{◌≡◌, ◌≢◌, ℕ, ◌+◌, ◌<◌, Bool, true, false, ◌&&◌, List, [], ◌∷◌, ◌++◌, length, take, drop, get_or, take-append-drop, cond, Option, Some, None, refl, sym, ap, ◌∙◌, subst, append_assoc}
+use Rattle.std.proofs.lemmas.Grind.{common_steps}
+use Rattle.std.proofs.Common.{◌≡◌, ◌≢◌, ℕ, ◌+◌, ◌<◌, Bool, true, false, ◌&&◌, List, [], ◌∷◌, ◌++◌, length, take, drop, get_or, take-append-drop, cond, Option, Some, None, refl, sym, ap, ◌∙◌, subst, append_assoc, inl, inr, arith}
 use Rattle.std.specs.List.{list_all}
-use Rattle.std.proofs.lemmas.Bool.{and_parts}
+use Rattle.std.proofs.lemmas.Bool.{cases_Bool, and_parts}
 use Rattle.std.proofs.lemmas.List.{append-nil, take_more}
 use Rattle.std.proofs.lemmas.List.Folds.{list_all-append}
 use Rattle.basket_sets.proofs.theory.Numerals.{all_push}
@@ -10,16 +11,11 @@ use Rattle.basket_read.specs.Fault.{ReturnsFault}
 use Rattle.basket_read.specs.Cut.{Cut, cut_at, parts_of}
 use Rattle.basket_read.specs.Fimi.{is_line_feed, or_else}
 use Rattle.basket_read.specs.Grammar.{first_fault_by, PrefixesAreGood, GoodIsFaultless, HasFault, FirstFaultIsExact}
-use Rattle.basket_read.proofs.theory.Cuts.{cut_ended, cut_joined, cut_after, parts_good_before}
+use Rattle.basket_read.proofs.theory.Cuts.{cut_ended, cut_joined, cut_after}
 
 -- what a choice gave
 pub chosen : {S : Type 0} (s x : S) (b : Bool) → ◌≡◌ {A = Option S} (Some s) (cond b (Some x) None) → (b ≡ true) × (s ≡ x)
-chosen s x true e = (refl, cc)
-chosen s x false e = absurd cc
-
-pub refused : {S : Type 0} (x : S) (b : Bool) → ◌≡◌ {A = Option S} None (cond b (Some x) None) → b ≡ false
-refused x true e = absurd cc
-refused x false e = refl
+chosen s x b h1 = grind (arith, common_steps)
 
 -- a byte of a piece, after those before it
 pub take_next : (bytes piece : List ℕ) (i : ℕ) → i < length piece → (bytes ++ take i piece) ++ get_or piece i 0 ∷ [] ≡ bytes ++ take (i + 1) piece
@@ -39,25 +35,15 @@ module _ (is_line : List ℕ → Bool) (fault_at : List ℕ → ℕ → ReadFaul
   -- the fault of a text in two parts is that of the first, else that of the second after the first
   pub fault_after-append : (before a b : List ℕ) → after before (a ++ b) ≡ or_else (after before a) (after (before ++ a) b)
   fault_after-append before [] b = ap (λ l. after l b) (sym (append-nil before))
-  fault_after-append before (byte ∷ a) b =
-      at (good (before ++ byte ∷ [])) (fault_after-append (before ++ byte ∷ []) a b)
-    where
-      at : (well : Bool) → after (before ++ byte ∷ []) (a ++ b) ≡ or_else (after (before ++ byte ∷ []) a) (after ((before ++ byte ∷ []) ++ a) b)
-          → found well (after (before ++ byte ∷ []) (a ++ b)) (fault_at before byte)
-          ≡ or_else (found well (after (before ++ byte ∷ []) a) (fault_at before byte)) (after (before ++ byte ∷ a) b)
-      at true e = e ∙ ap (λ l. or_else (after (before ++ byte ∷ []) a) (after l b)) (append_assoc before (byte ∷ []) a)
-      at false e = refl
+  fault_after-append before (byte ∷ a) b = grind (arith, common_steps, fault_after-append (before ++ byte ∷ []) a b)
 
   -- a text without a fault is good
   good_after : (before text : List ℕ) → good before ≡ true → after before text ≡ None → good (before ++ text) ≡ true
   good_after before [] h e = ap good (append-nil before) ∙ h
-  good_after before (byte ∷ text) h e = at (good (before ++ byte ∷ [])) refl e (good_after (before ++ byte ∷ []) text)
-    where
-      at : (well : Bool) → good (before ++ byte ∷ []) ≡ well → found well (after (before ++ byte ∷ []) text) (fault_at before byte) ≡ None
-          → (good (before ++ byte ∷ []) ≡ true → after (before ++ byte ∷ []) text ≡ None → good ((before ++ byte ∷ []) ++ text) ≡ true)
-          → good (before ++ byte ∷ text) ≡ true
-      at true g e rest = ap good (sym (append_assoc before (byte ∷ []) text)) ∙ rest g e
-      at false g e rest = absurd cc
+  good_after before (byte ∷ text) h e = elim (cases_Bool (good (before ++ byte ∷ []))) [
+    | inl g ↦ ap good (sym (append_assoc before (byte ∷ []) text)) ∙ good_after (before ++ byte ∷ []) text g (rw g at e)
+    | inr g ↦ absurd (let no = rw g at e in cc)
+  ]
 
   none_good : good [] ≡ true
   none_good = ap (λ b. b && true) empty
@@ -76,9 +62,7 @@ module _ (is_line : List ℕ → Bool) (fault_at : List ℕ → ℕ → ReadFaul
   -- a fault at a byte of a piece is that of the piece
   pub fault_in_piece : (bytes piece : List ℕ) (i : ℕ) (fault : ReadFault) → i < length piece
       → ReturnsFault fault (after [] ((bytes ++ take i piece) ++ get_or piece i 0 ∷ [])) → ReturnsFault fault (after [] (bytes ++ piece))
-  fault_in_piece bytes piece i fault below told no_memory =
-      ap (λ l. after [] (bytes ++ l)) (sym (take-append-drop (i + 1) piece)) ∙ ap (after []) (sym (append_assoc bytes (take (i + 1) piece) (drop (i + 1) piece)))
-      ∙ first_fault_stays (bytes ++ take (i + 1) piece) (drop (i + 1) piece) fault (ap (after []) (sym (take_next bytes piece i below)) ∙ told no_memory)
+  fault_in_piece bytes piece i fault below told no_memory = grind (arith, take-append-drop (i + 1) piece, append_assoc bytes (take (i + 1) piece) (drop (i + 1) piece), take_next bytes piece i below, first_fault_stays)
 
   first_fault_push : (text : List ℕ) (byte : ℕ) (well : Bool) → after [] text ≡ None → good (text ++ byte ∷ []) ≡ well
       → after [] (text ++ byte ∷ []) ≡ cond well None (Some (fault_at text byte))
@@ -87,11 +71,10 @@ module _ (is_line : List ℕ → Bool) (fault_at : List ℕ → ℕ → ReadFaul
   -- a fault that no byte has is that of no text
   pub other_fault : (fault : ReadFault) → ((before : List ℕ) (byte : ℕ) → fault_at before byte ≢ fault) → (before text : List ℕ) → after before text ≢ Some fault
   other_fault fault other before [] e = absurd cc
-  other_fault fault other before (byte ∷ text) e = at (good (before ++ byte ∷ [])) (after (before ++ byte ∷ []) text) (other_fault fault other (before ++ byte ∷ []) text) e
-    where
-      at : (well : Bool) (later : Option ReadFault) → later ≢ Some fault → found well later (fault_at before byte) ≢ Some fault
-      at true later none e = none e
-      at false later none e = other before byte cc
+  other_fault fault other before (byte ∷ text) e = elim (cases_Bool (good (before ++ byte ∷ []))) [
+    | inl g ↦ other_fault fault other (before ++ byte ∷ []) text (rw g at e)
+    | inr g ↦ other before byte (let found = rw g at e in cc)
+  ]
 
   -- ---- one more byte
 
@@ -120,45 +103,32 @@ module _ (is_line : List ℕ → Bool) (fault_at : List ℕ → ℕ → ReadFaul
 
   module _ (prefix : List ℕ) (whole : (cut_at is_line_feed prefix).last ≡ []) where
     good_after_lines : good prefix ≡ true → (rest : List ℕ) → good (prefix ++ rest) ≡ good rest
-    good_after_lines well rest =
-        let lines = (cut_at is_line_feed prefix).ended in
-        let k = cut_at is_line_feed rest in
-        let lines_good = (and_parts (list_all is_line lines) _ (sym (list_all-append is_line lines ((cut_at is_line_feed prefix).last ∷ [])) ∙ well)).0 in
-        ap (λ (j : Cut). list_all is_line (j.ended ++ j.last ∷ [])) (cut_after is_line_feed prefix rest whole)
-        ∙ ap (list_all is_line) (append_assoc lines k.ended (k.last ∷ []))
-        ∙ list_all-append is_line lines (k.ended ++ k.last ∷ [])
-        ∙ ap (λ b. b && good rest) lines_good
+    good_after_lines well rest = grind (arith, cut_after is_line_feed prefix rest whole, lines_good, and_parts, list_all-append, append_assoc)
 
     -- the fault of a byte after the lines, as it is told without them
     module _ (told : List ℕ → ℕ → ReadFault) (same : (before : List ℕ) (byte : ℕ) → fault_at (prefix ++ before) byte ≡ told before byte) where
       fault_after_lines : good prefix ≡ true → (before rest : List ℕ) → after (prefix ++ before) rest ≡ first_fault_by good told before rest
       fault_after_lines well before [] = refl
-      fault_after_lines well before (byte ∷ rest) =
-          let longer = append_assoc prefix before (byte ∷ []) in
-          λ i. found ((ap good longer ∙ good_after_lines well (before ++ byte ∷ [])) i) ((ap (λ l. after l rest) longer ∙ fault_after_lines well (before ++ byte ∷ []) rest) i) (same before byte i)
+      fault_after_lines well before (byte ∷ rest) = grind (arith, fault_after_lines well (before ++ byte ∷ []) rest, append_assoc prefix before (byte ∷ []), good_after_lines well (before ++ byte ∷ []))
 
       -- the fault of the lines, else that of the rest
       pub fault_of_both : (rest : List ℕ) → after [] (prefix ++ rest) ≡ or_else (after [] prefix) (first_fault_by good told [] rest)
-      fault_of_both rest = at (after [] prefix) refl
+      fault_of_both rest = fault_after-append [] prefix rest ∙ at (after [] prefix) refl
         where
-          at : (fault : Option ReadFault) → after [] prefix ≡ fault → after [] (prefix ++ rest) ≡ or_else (after [] prefix) (first_fault_by good told [] rest)
-          at (Some fault) e = first_fault_stays prefix rest fault e ∙ ap (λ f. or_else f (first_fault_by good told [] rest)) (sym e)
-          at None e =
-              first_fault_after prefix rest e ∙ ap (λ l. after l rest) (sym (append-nil prefix)) ∙ fault_after_lines (good-from_faultless prefix e) [] rest
-              ∙ ap (λ f. or_else f (first_fault_by good told [] rest)) (sym e)
+          at : (fault : Option ReadFault) → after [] prefix ≡ fault → or_else fault (after prefix rest) ≡ or_else fault (first_fault_by good told [] rest)
+          at (Some fault) e = refl
+          at None e = ap (λ l. after l rest) (sym (append-nil prefix)) ∙ fault_after_lines (good-from_faultless prefix e) [] rest
 
   -- ---- prefixes
 
   module _ (line_prefix : (line : List ℕ) (byte : ℕ) → is_line (line ++ byte ∷ []) ≡ true → is_line line ≡ true) where
     pub line_prefixes_are_good : PrefixesAreGood is_line
     line_prefixes_are_good prefix [] h = ap is_line (sym (append-nil prefix)) ∙ h
-    line_prefixes_are_good prefix (byte ∷ rest) h =
-        line_prefix prefix byte (line_prefixes_are_good (prefix ++ byte ∷ []) rest (ap is_line (append_assoc prefix (byte ∷ []) rest) ∙ h))
+    line_prefixes_are_good prefix (byte ∷ rest) h = grind (arith, common_steps, line_prefixes_are_good (prefix ++ byte ∷ []) rest (ap is_line (append_assoc prefix (byte ∷ []) rest) ∙ h))
 
     pub prefixes_are_good : PrefixesAreGood good
     prefixes_are_good prefix [] h = ap good (sym (append-nil prefix)) ∙ h
-    prefixes_are_good prefix (byte ∷ rest) h =
-        parts_good_before is_line_feed is_line line_prefix prefix byte (prefixes_are_good (prefix ++ byte ∷ []) rest (ap good (append_assoc prefix (byte ∷ []) rest) ∙ h))
+    prefixes_are_good prefix (byte ∷ rest) h = grind (arith, common_steps, prefixes_are_good (prefix ++ byte ∷ []) rest (ap good (append_assoc prefix (byte ∷ []) rest) ∙ h))
 
     -- a good text has no fault after any prefix
     faultless_after : (before text : List ℕ) → good (before ++ text) ≡ true → after before text ≡ None
@@ -174,13 +144,10 @@ module _ (is_line : List ℕ → Bool) (fault_at : List ℕ → ℕ → ReadFaul
     -- where the first fault stands
     fault_stands : (before text : List ℕ) (fault : ReadFault) → good before ≡ true → after before text ≡ Some fault → HasFault good fault_at (before ++ text) fault
     fault_stands before [] fault h e = absurd cc
-    fault_stands before (byte ∷ text) fault h e = at (good (before ++ byte ∷ [])) refl e (fault_stands (before ++ byte ∷ []) text fault)
-      where
-        at : (well : Bool) → good (before ++ byte ∷ []) ≡ well → found well (after (before ++ byte ∷ []) text) (fault_at before byte) ≡ Some fault
-            → (good (before ++ byte ∷ []) ≡ true → after (before ++ byte ∷ []) text ≡ Some fault → HasFault good fault_at ((before ++ byte ∷ []) ++ text) fault)
-            → HasFault good fault_at (before ++ byte ∷ text) fault
-        at true g e later = subst (λ l. HasFault good fault_at l fault) (append_assoc before (byte ∷ []) text) (later g e)
-        at false g e later = record { before = before; byte = byte; rest = text; whole = refl; good = h; bad = g; told = cc }
+    fault_stands before (byte ∷ text) fault h e = elim (cases_Bool (good (before ++ byte ∷ []))) [
+      | inl g ↦ subst (λ l. HasFault good fault_at l fault) (append_assoc before (byte ∷ []) text) (fault_stands (before ++ byte ∷ []) text fault g (rw g at e))
+      | inr g ↦ record { before = before; byte = byte; rest = text; whole = refl; good = h; bad = g; told = (let found = rw g at e in cc) }
+    ]
 
     pub first_fault_is_exact : FirstFaultIsExact good fault_at
     first_fault_is_exact text fault = (

@@ -1,6 +1,6 @@
 -- What a reader promises, and what is made of what it read.
-use Rattle.std.proofs.Common.{◌≡◌, ℕ, Bool, List, Option, Result, Ok, Err, ap, ◌∙◌, sym, subst}
-use Rattle.std.proofs.lemmas.Option.{IfSome_then}
+use Rattle.std.proofs.lemmas.Grind.{common_steps}
+use Rattle.std.proofs.Common.{◌≡◌, ℕ, Bool, List, Option, Result, Ok, Err, arith}
 use Rattle.basket_read.specs.declared.fault.ReadFault.{ReadFault}
 use Rattle.basket_read.specs.Fault.{Reads}
 
@@ -14,8 +14,4 @@ module _ {X Y A B : Type 0} (fits : X → Result Y ReadFault → Type 0) (holds 
   -- what is made of what a reader read is read as well, if what is defined is made in the same way
   pub says : (defined : List ℕ → Result Y ReadFault) (fails : ReadFault → Type 0) (left : Option (List ℕ)) (failed : Bool) (read : Result X ReadFault) (result : Result A ReadFault)
       → Says say read result → Reads fits defined fails left failed read → Reads holds (λ bytes. next (defined bytes)) fails left failed result
-  says defined fails left failed (Ok read) result is (working, fit) =
-      subst (Reads holds (λ bytes. next (defined bytes)) fails left failed) (sym is) (working, IfSome_then left fit (λ bytes. found read (defined bytes)))
-  says defined fails left failed (Err fault) result is (exact, broken, only) =
-      subst (Reads holds (λ bytes. next (defined bytes)) fails left failed) (sym is)
-      (λ working. IfSome_then left (exact working) (λ bytes told no_memory. ap next (told no_memory) ∙ refused fault), broken, only)
+  says defined fails left failed read result h1 h2 = grind (arith, common_steps)

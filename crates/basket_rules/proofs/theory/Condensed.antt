@@ -1,7 +1,7 @@
 -- Supersets with one item more decide which frequent sets are closed and which are maximal, and so does the list of the frequent sets.
 use Rattle.std.proofs.Common.{◌≡◌, ℕ, Bool, true, false, not, eqb, ◌&&◌, List, filter, refl, sym, ap, ◌∙◌, subst, inl, inr, arith}
 use Rattle.std.specs.List.{list_all}
-use Rattle.std.proofs.lemmas.Bool.{and_parts, and_from, eqb-true, eq-eqb, true≢false, false_from_ne_true}
+use Rattle.std.proofs.lemmas.Bool.{and_parts, and_from, eqb-true, eq-eqb}
 use Rattle.basket_core.specs.Listing.{Listing}
 use Rattle.basket_sets.specs.declared.weighted.Weighted.{Weighted}
 use Rattle.basket_sets.specs.declared.counted.Counted.{Counted}
@@ -12,14 +12,14 @@ use Rattle.basket_sets.specs.Minimum.{meets}
 use Rattle.basket_sets.specs.Subsets.{subsets_of}
 use Rattle.basket_sets.specs.Support.{support_of, total_of, items_of, all_items}
 use Rattle.basket_sets.proofs.theory.Members.{Member, Member-filter, Member-from_filter, Member-map, Member-from_map}
-use Rattle.basket_sets.proofs.theory.Rising.{rising-rises, same_test, with_item-rises, Member-with_item, Member-into_with_item}
+use Rattle.basket_sets.proofs.theory.Ranges.{filter_members}
+use Rattle.basket_sets.proofs.theory.Rising.{rising-rises, with_item-rises, Member-with_item, Member-into_with_item}
 use Rattle.basket_sets.proofs.theory.Subsets.{subset_from_Member, Member-subsets}
 use Rattle.basket_sets.proofs.theory.Support.{support_falls, subsets_are_frequent, frequent_items}
 use Rattle.basket_rules.specs.Consistency.{IsConsistent}
 use Rattle.basket_rules.specs.Condensed.{is_proper_superset, supersets_of, none_supported_alike, none_frequent, is_closed, is_maximal, is_closed_in, is_maximal_in, closed_in, maximal_in, extensions_of, OneItemMoreDecides, ListDecidesClosed, ListDecidesMaximal, AreClosed, AreMaximal}
-use Rattle.basket_rules.proofs.SubsetLemmas.{not_true, true_not, filter_same, item_more, contains_less, contains_with_item, with_item_lacks}
+use Rattle.basket_rules.proofs.SubsetLemmas.{none_alike, not_true, true_not, item_more, contains_less, contains_with_item, with_item_lacks}
 use Rattle.basket_rules.proofs.theory.Consistency.{frequent_is_consistent, sound_of, frequent_is_listed}
-use Rattle.basket_sets.proofs.theory.Without.{all_pass, each_passes}
 
 -- a set with an item more is a nonempty set
 pub with_item_nonempty : (item : ℕ) (set : List ℕ) → IsRising set → IsNonemptySet (with_item item set)
@@ -83,13 +83,9 @@ module _ (baskets : List Weighted) (minimum : Minimum) where
   by_extensions : (test : List ℕ → Bool) (set : List ℕ) → IsRising set → ((item : ℕ) → Member item set → Member item (items_of baskets))
       → ((other : List ℕ) (more : HasMore set other) → test other ≡ true → test (with_item more.item set) ≡ true)
       → list_all (λ o. not (test o)) (supersets_of baskets set) ≡ list_all (λ o. not (test o)) (extensions_of baskets set)
-  by_extensions test set up within kept = same_test _ _
-      (λ h. all_pass (λ o. not (test o)) (extensions_of baskets set)
-      (λ o m. each_passes (λ p. not (test p)) (supersets_of baskets set) h o (extension_is_superset set o up within m)))
-      (λ h. all_pass (λ o. not (test o)) (supersets_of baskets set) (λ o m. not_true (test o) (false_from_ne_true (test o) (λ e.
-      let more = has_more set o m in
-      let fails = true_not (test (with_item more.item set)) (each_passes (λ p. not (test p)) (extensions_of baskets set) h (with_item more.item set) (into_extensions set more.item more.of_database more.lacks)) in
-      true≢false (sym (kept o more e) ∙ fails)))))
+  by_extensions test set up within kept = none_alike test test (supersets_of baskets set) (extensions_of baskets set)
+      (λ o m e. let more = has_more set o m in (with_item more.item set, into_extensions set more.item more.of_database more.lacks, kept o more e))
+      (λ o m e. (o, extension_is_superset set o up within m, e))
 
   closed_by_extensions : (set : List ℕ) → IsRising set → ((item : ℕ) → Member item set → Member item (items_of baskets))
       → is_closed baskets set ≡ none_supported_alike baskets set (extensions_of baskets set)
@@ -125,45 +121,28 @@ module _ (baskets : List Weighted) (minimum : Minimum) (c : Counted) (here : Mem
       (frequent_is_listed baskets minimum other (s.0, s.1) often, p.1)
 
   closed_by_list : is_closed baskets c.set ≡ is_closed_in (frequent_of baskets minimum) c
-  closed_by_list = same_test _ _ into back
+  closed_by_list = none_alike (λ (t : List ℕ). eqb (support_of baskets t) (support_of baskets c.set)) (λ (o : Counted). is_proper_superset o.set c.set && eqb o.count c.count) (supersets_of baskets c.set)
+      (frequent_of baskets minimum)
+      (λ t m e. let same = eqb-true (support_of baskets t) (support_of baskets c.set) e in
+      let p = superset_listed t m (ap (λ n. meets minimum n (total_of baskets)) same ∙ (sound_of baskets minimum c here).1) in
+      (counted baskets t, p.0, and_from (is_proper_superset t c.set) (eqb (support_of baskets t) c.count) p.1 (eq-eqb (support_of baskets t) c.count (same ∙ sym own))))
+      (λ o m e. let tests = and_parts (is_proper_superset o.set c.set) (eqb o.count c.count) e in
+      (o.set, listed_superset o m tests.0, eq-eqb (support_of baskets o.set) (support_of baskets c.set) (sym (sound_of baskets minimum o m).2 ∙ eqb-true o.count c.count tests.1 ∙ own)))
     where
       own : c.count ≡ support_of baskets c.set
       own = (sound_of baskets minimum c here).2
 
-      into : is_closed baskets c.set ≡ true → is_closed_in (frequent_of baskets minimum) c ≡ true
-      into h = all_pass (λ o. not (is_proper_superset o.set c.set && eqb o.count c.count)) (frequent_of baskets minimum) (λ o m. not_true _ (false_from_ne_true _ (λ e.
-          let tests = and_parts (is_proper_superset o.set c.set) (eqb o.count c.count) e in
-          let same = sym (sound_of baskets minimum o m).2 ∙ eqb-true o.count c.count tests.1 ∙ own in
-          let fails = true_not _ (each_passes (λ t. not (eqb (support_of baskets t) (support_of baskets c.set))) (supersets_of baskets c.set) h o.set (listed_superset o m tests.0)) in
-          true≢false (sym (eq-eqb (support_of baskets o.set) (support_of baskets c.set) same) ∙ fails))))
-
-      back : is_closed_in (frequent_of baskets minimum) c ≡ true → is_closed baskets c.set ≡ true
-      back h = all_pass (λ t. not (eqb (support_of baskets t) (support_of baskets c.set))) (supersets_of baskets c.set) (λ t m. not_true _ (false_from_ne_true _ (λ e.
-          let same = eqb-true (support_of baskets t) (support_of baskets c.set) e in
-          let p = superset_listed t m (ap (λ n. meets minimum n (total_of baskets)) same ∙ (sound_of baskets minimum c here).1) in
-          let fails = true_not _ (each_passes (λ o. not (is_proper_superset o.set c.set && eqb o.count c.count)) (frequent_of baskets minimum) h (counted baskets t) p.0) in
-          true≢false (sym (and_from (is_proper_superset t c.set) (eqb (support_of baskets t) c.count) p.1 (eq-eqb (support_of baskets t) c.count (same ∙ sym own))) ∙ fails))))
-
   maximal_by_list : is_maximal baskets minimum c.set ≡ is_maximal_in (frequent_of baskets minimum) c
-  maximal_by_list = same_test _ _ into back
-    where
-      into : is_maximal baskets minimum c.set ≡ true → is_maximal_in (frequent_of baskets minimum) c ≡ true
-      into h = all_pass (λ o. not (is_proper_superset o.set c.set)) (frequent_of baskets minimum) (λ o m. not_true _ (false_from_ne_true _ (λ e.
-          let fails = true_not _ (each_passes (λ t. not (is_frequent baskets minimum t)) (supersets_of baskets c.set) h o.set (listed_superset o m e)) in
-          true≢false (sym (sound_of baskets minimum o m).1 ∙ fails))))
-
-      back : is_maximal_in (frequent_of baskets minimum) c ≡ true → is_maximal baskets minimum c.set ≡ true
-      back h = all_pass (λ t. not (is_frequent baskets minimum t)) (supersets_of baskets c.set) (λ t m. not_true _ (false_from_ne_true _ (λ e.
-          let p = superset_listed t m e in
-          let fails = true_not _ (each_passes (λ o. not (is_proper_superset o.set c.set)) (frequent_of baskets minimum) h (counted baskets t) p.0) in
-          true≢false (sym p.1 ∙ fails))))
+  maximal_by_list = none_alike (is_frequent baskets minimum) (λ (o : Counted). is_proper_superset o.set c.set) (supersets_of baskets c.set) (frequent_of baskets minimum)
+      (λ t m e. let p = superset_listed t m e in (counted baskets t, p.0, p.1))
+      (λ o m e. (o.set, listed_superset o m e, (sound_of baskets minimum o m).1))
 
 pub list_decides_closed : ListDecidesClosed
-list_decides_closed baskets minimum = filter_same (λ c. is_closed baskets c.set) (is_closed_in (frequent_of baskets minimum)) (frequent_of baskets minimum) (closed_by_list baskets minimum)
+list_decides_closed baskets minimum = filter_members (λ c. is_closed baskets c.set) (is_closed_in (frequent_of baskets minimum)) (frequent_of baskets minimum) (closed_by_list baskets minimum)
 
 pub list_decides_maximal : ListDecidesMaximal
 list_decides_maximal baskets minimum =
-    filter_same (λ c. is_maximal baskets minimum c.set) (is_maximal_in (frequent_of baskets minimum)) (frequent_of baskets minimum) (maximal_by_list baskets minimum)
+    filter_members (λ c. is_maximal baskets minimum c.set) (is_maximal_in (frequent_of baskets minimum)) (frequent_of baskets minimum) (maximal_by_list baskets minimum)
 
 -- so the closed and the maximal ones of a list are those of baskets whose list it is
 pub closed_of_baskets : (listing : Listing) (kept : List Counted) → (IsConsistent listing.sets → kept ≡ closed_in listing.sets) → AreClosed listing kept

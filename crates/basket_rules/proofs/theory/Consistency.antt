@@ -1,8 +1,8 @@
 -- A consistent list has each nonempty subset of its sets, with a count that is no lower; the list of the frequent sets is consistent.
-use Rattle.std.proofs.Common.{◌≡◌, ◌≢◌, ℕ, ◌<◌, ◌≤◌, Bool, true, false, cond, List, [], ◌∷◌, length, get_or, refl, sym, ap, ◌∙◌, subst, inl, inr, arith, zero, suc}
+use Rattle.std.proofs.Common.{◌≡◌, ◌≢◌, ℕ, ◌<◌, ◌≤◌, true, false, cond, List, [], ◌∷◌, length, get_or, refl, sym, ap, ◌∙◌, subst, inl, inr, arith, zero, suc}
 use Rattle.std.specs.Prelude.{nat_eq}
 use Rattle.std.specs.Cmp.Lexicographic.{pointwise, bytes_decides}
-use Rattle.std.proofs.lemmas.Bool.{cases_Bool, cases_lt, false_from_ne_true}
+use Rattle.std.proofs.lemmas.Bool.{cases_Bool, cases_lt, cond_both, false_from_ne_true}
 use Rattle.std.proofs.lemmas.List.Elements.{recursion_from_All}
 use Rattle.basket_sets.specs.declared.weighted.Weighted.{Weighted}
 use Rattle.basket_sets.specs.declared.counted.Counted.{Counted}
@@ -34,12 +34,9 @@ pub record Stands (list : List Counted) (set : List ℕ) (least : ℕ) : Type 0 
 -- a set with a count stands in the list
 pub stands_counted : (list : List Counted) (set : List ℕ) → 1 ≤ count_in list set → Stands list set (count_in list set)
 stands_counted [] set some = absurd (omega (arith, some))
-stands_counted (c ∷ list) set some = at (λ more. stands_counted list set more) (pointwise nat_eq c.set set) refl some
-  where
-    at : (1 ≤ count_in list set → Stands list set (count_in list set)) → (b : Bool) → pointwise nat_eq c.set set ≡ b → 1 ≤ cond b c.count (count_in list set)
-        → Stands (c ∷ list) set (cond b c.count (count_in list set))
-    at later true e more = record { index = 0; listed = omega arith; is = (bytes_decides c.set set).0 e; enough = omega arith }
-    at later false e more = let s = later more in record { index = suc s.index; listed = omega (arith, s.listed); is = s.is; enough = s.enough }
+stands_counted (c ∷ list) set some = cond_both (pointwise nat_eq c.set set) c.count (count_in list set) (λ count. 1 ≤ count → Stands (c ∷ list) set count)
+    (λ e more. record { index = 0; listed = omega arith; is = (bytes_decides c.set set).0 e; enough = omega arith })
+    (λ e more. let s = stands_counted list set more in record { index = suc s.index; listed = omega (arith, s.listed); is = s.is; enough = s.enough }) some
 
 -- the count of the set at an index is the one there
 pub count_at_index : (list : List Counted) (index : ℕ) → IsSorted list → index < length list → count_in list (set_at list index) ≡ count_at list index

@@ -11,7 +11,7 @@ use Rattle.basket_sets.specs.Frequent.{is_frequent, frequent_of, IsNonemptySet}
 use Rattle.basket_sets.specs.Itemset.{IsRising, has, contains}
 use Rattle.basket_sets.specs.Subsets.{subsets_of}
 use Rattle.basket_sets.specs.Support.{support_of, total_of}
-use Rattle.basket_sets.proofs.theory.Members.{Member, Member-filter, Member-from_filter}
+use Rattle.basket_sets.proofs.theory.Members.{Member, Member-filter, Member-from_filter, map_members}
 use Rattle.basket_sets.proofs.theory.Rising.{has_each, contains_each, has-from_Member, Member-from_has, length-le-contains}
 use Rattle.basket_sets.proofs.theory.Subsets.{subset_from_Member}
 use Rattle.basket_sets.proofs.theory.Support.{support_falls, subsets_are_frequent}
@@ -20,7 +20,8 @@ use Rattle.basket_rules.specs.Consistency.{count_in, IsConsistent}
 use Rattle.basket_rules.specs.Listed.{IsListingOf, set_at}
 use Rattle.basket_rules.specs.Rules.{difference, consequents_of, is_confident, rule_of, rules_with, is_confident_among, rule_among, rules_among_with, rules_among, ConfidenceFalls, ListDecidesRules, AreRules, AreRulesWith}
 use Rattle.basket_rules.proofs.SearchLemmas.{none, set_is, entry_listed}
-use Rattle.basket_rules.proofs.SubsetLemmas.{not_true, true_not, filter_same, map_same, flat_map_same}
+use Rattle.basket_rules.proofs.SubsetLemmas.{not_true, true_not, flat_map_same}
+use Rattle.basket_sets.proofs.theory.Ranges.{filter_members}
 use Rattle.basket_rules.proofs.theory.Consistency.{count_is_support, frequent_is_consistent, sound_of}
 
 -- ---- what is left of a set
@@ -91,10 +92,10 @@ module _ (baskets : List Weighted) (minimum : Minimum) (union : List ℕ) (nonem
 
   pub rules_with_by_list : (confidence : ℕ × ℕ) → rules_with baskets confidence union ≡ rules_among_with (listing_of baskets minimum) confidence union
   rules_with_by_list confidence =
-      map_same (rule_of baskets union) (rule_among (listing_of baskets minimum) union) (filter (is_confident baskets confidence union) (consequents_of union))
+      map_members (rule_of baskets union) (rule_among (listing_of baskets minimum) union) (filter (is_confident baskets confidence union) (consequents_of union))
       (λ consequent m. rule consequent (are_supports consequent (Member-filter (is_confident baskets confidence union) consequent (consequents_of union) m).0))
       ∙ ap (map (rule_among (listing_of baskets minimum) union))
-      (filter_same (is_confident baskets confidence union) (is_confident_among (listing_of baskets minimum) confidence union) (consequents_of union)
+      (filter_members (is_confident baskets confidence union) (is_confident_among (listing_of baskets minimum) confidence union) (consequents_of union)
       (λ consequent m. test consequent (are_supports consequent m)))
     where
       rule : (consequent : List ℕ) → AreSupports consequent → rule_of baskets union consequent ≡ rule_among (listing_of baskets minimum) union consequent

@@ -1,12 +1,12 @@
 -- Lists of counts whose items rise, by what a look-up finds in them, and what is known of items over two lists of baskets.
-use Rattle.std.proofs.Common.{◌≡◌, ℕ, ◌+◌, ◌<◌, ◌≤◌, Bool, true, false, ◌||◌, List, [], ◌∷◌, ◌++◌, map, cond, eqb, Option, Some, None, unwrap_or, refl, sym, ap, ◌∙◌, subst, inl, inr, arith, add-zero}
+use Rattle.std.proofs.Common.{◌≡◌, ℕ, ◌+◌, ◌<◌, ◌≤◌, Bool, true, false, ◌||◌, List, [], ◌∷◌, ◌++◌, map, cond, eqb, Option, Some, None, unwrap_or, refl, sym, ap, ◌∙◌, subst, inl, inr, arith}
 use Rattle.std.specs.BTreeMap.{is_at}
 use Rattle.std.specs.FinMap.Entries.{below_all, find, is_sorted, same_entries}
 use Rattle.std.specs.Cmp.{nat_cmp_total}
 use Rattle.std.specs.Map.{lookup}
 use Rattle.std.specs.Ordering.{nat_cmp, is_eq, is_lt}
 use Rattle.std.specs.Prelude.{T}
-use Rattle.std.proofs.lemmas.Bool.{and_from, cases_lt, eqb-true, false≢true}
+use Rattle.std.proofs.lemmas.Bool.{and_from, cases_lt, cond_both, false≢true}
 use Rattle.std.proofs.lemmas.Bool.Decides.{nat_tests}
 use Rattle.std.proofs.lemmas.List.Concat.{flat_map-append}
 use Rattle.std.proofs.lemmas.Map.Lookups.{exact_unsigned}
@@ -56,8 +56,7 @@ found_mapped f (x ∷ items) item = ap (λ b. cond b (Some (f x)) (found (map (�
   where
     at : found (map (λ y. (y, f y)) items) item ≡ cond (has items item) (Some (f item)) None
         → (b : Bool) → eqb x item ≡ b → cond b (Some (f x)) (found (map (λ y. (y, f y)) items) item) ≡ cond (b || has items item) (Some (f item)) None
-    at later true e = ap (λ y. Some (f y)) (eqb-true x item e)
-    at later false e = later
+    at later b e = grind (arith, nat_tests)
 
 -- ---- the supports of items
 
@@ -85,11 +84,7 @@ support_absent baskets item h = elim (cases_lt 0 (support_of baskets (item ∷ [
 
 -- as a number it is the support, and at most the total
 pub tally_number : (baskets : List Weighted) (item : ℕ) → unwrap_or (tally baskets item) 0 ≡ support_of baskets (item ∷ [])
-tally_number baskets item = at (has (all_items baskets) item) (support_absent baskets item)
-  where
-    at : (b : Bool) → (b ≡ false → support_of baskets (item ∷ []) ≡ 0) → unwrap_or (cond b (Some (support_of baskets (item ∷ []))) None) 0 ≡ support_of baskets (item ∷ [])
-    at true none = refl
-    at false none = sym (none refl)
+tally_number baskets item = cond_both (has (all_items baskets) item) _ _ (λ slot. unwrap_or slot 0 ≡ support_of baskets (item ∷ [])) (λ h. refl) (λ h. sym (support_absent baskets item h))
 
 pub tally_fits : (baskets : List Weighted) (item : ℕ) → unwrap_or (tally baskets item) 0 ≤ total_of baskets
 tally_fits baskets item = let e = tally_number baskets item in let falls = support_falls baskets (item ∷ []) [] refl in omega arith
@@ -106,7 +101,4 @@ tally-append a b item =
     at : (g h : Bool) → (g ≡ false → support_of a (item ∷ []) ≡ 0) → (h ≡ false → support_of b (item ∷ []) ≡ 0)
         → cond (g || h) (Some (support_of a (item ∷ []) + support_of b (item ∷ []))) None
         ≡ slots_joined (cond g (Some (support_of a (item ∷ []))) None) (cond h (Some (support_of b (item ∷ []))) None)
-    at true true none_a none_b = refl
-    at true false none_a none_b = ap (λ n. Some (support_of a (item ∷ []) + n)) (none_b refl) ∙ ap Some (add-zero (support_of a (item ∷ [])))
-    at false true none_a none_b = ap (λ n. Some (n + support_of b (item ∷ []))) (none_a refl)
-    at false false none_a none_b = refl
+    at g h none_a none_b = grind arith

@@ -1,5 +1,5 @@
 -- The list of the frequent sets has exactly the nonempty sets that meet the minimum, and is the only such list in report order. It depends on supports alone.
-use Rattle.std.proofs.Common.{length, false, ◌≡◌, ℕ, ◌+◌, true, List, [], ◌∷◌, get_or, map, refl, sym, ap, ◌∙◌, subst, arith}
+use Rattle.std.proofs.Common.{length, false, ◌≡◌, ℕ, true, List, [], ◌∷◌, map, refl, sym, ap, ◌∙◌, subst}
 use Rattle.std.specs.declared.cmp.Ordering.{Ordering}
 use Rattle.std.specs.declared.cmp.Ordering.TheVariants.{Less, Equal, Greater}
 use Rattle.std.specs.Ordering.{nat_cmp, ordering_then, is_lt, eq_by_cmp}
@@ -7,7 +7,7 @@ use Rattle.std.specs.Prelude.{nat_eq}
 use Rattle.std.specs.Cmp.Lexicographic.{pointwise, bytes_decides, nat_list_eq_equiv}
 use Rattle.std.specs.List.{AllByRecursion, Contains, IsDistinct, filter, flat_map, list_any}
 use Rattle.std.specs.List.Sorted.{IsPermutation, IsSorted, IsStrictlySortedBy}
-use Rattle.std.proofs.lemmas.List.{length-map, get_or-map}
+use Rattle.std.proofs.lemmas.List.{length-map}
 use Rattle.std.proofs.lemmas.List.Sorted.{All-permutation, Contains-permutation, IsPermutation-map}
 use Rattle.std.proofs.lemmas.Map.Keys.{IsDistinct-from_sorted}
 use Rattle.std.proofs.lemmas.Map.Made.{length-from_same_keys}
@@ -26,7 +26,7 @@ use Rattle.basket_sets.specs.Support.{support_of, total_of, items_of}
 use Rattle.basket_sets.specs.Frequent.{is_frequent, counted, frequent_of, IsNonemptySet, ListsFrequent, ListsOnce, FrequentIsUnique, MergingKeepsFrequent}
 use Rattle.basket_sets.proofs.theory.Members.{Member, All-from_Member, at_Member, Member-filter, Member-from_filter, Member-map, Member-from_map, Member-from_Contains, Contains-from_Member, same_members}
 use Rattle.basket_sets.proofs.theory.Rising.{rising-rises, same_test}
-use Rattle.basket_sets.proofs.theory.Sorting.{strictly_sorted}
+use Rattle.basket_sets.proofs.theory.Sorting.{strictly_sorted, sorted_images_by}
 use Rattle.basket_sets.proofs.theory.Subsets.{subsets_sorted, subset_from_Member, Member-subsets}
 use Rattle.basket_sets.proofs.theory.Merging.{merging_keeps_supports}
 use Rattle.basket_sets.proofs.theory.Support.{frequent_items}
@@ -113,39 +113,17 @@ not_before Greater s e = refl
 
 -- counted sets in order have their sets in order
 pub sets_sorted : (list : List Counted) → IsSorted counted_order list → IsSorted report_order (map (λ c. c.set) list)
-sets_sorted [] up k d low high = absurd (omega arith)
-sets_sorted (c ∷ list) up k d low high =
-    let long = length-map (c ∷ list) (λ (x : Counted). x.set) in
-    let here = get_or-map (λ (x : Counted). x.set) (c ∷ list) k c d (omega arith) in
-    let next = get_or-map (λ (x : Counted). x.set) (c ∷ list) (k + 1) c d (omega arith) in
-    ap (λ b. is_lt (report_order (get_or (map (λ (x : Counted). x.set) (c ∷ list)) (k + 1) d) b)) here
-    ∙ ap (λ a. is_lt (report_order a (get_or (c ∷ list) k c).set)) next
-    ∙ not_before (report_order (get_or (c ∷ list) (k + 1) c).set (get_or (c ∷ list) k c).set)
-    (nat_cmp (get_or (c ∷ list) (k + 1) c).count (get_or (c ∷ list) k c).count) (up k c low (omega arith))
+sets_sorted = sorted_images_by counted_order report_order (λ c. c.set) (λ a b. not_before (report_order a.set b.set) (nat_cmp a.count b.count))
 
-distinct_by_order : (sets : List (List ℕ)) → IsDistinct (pointwise nat_eq) sets → IsDistinct (eq_by_cmp report_order) sets
-unfolding IsDistinct
-distinct_by_order [] apart = tt
-distinct_by_order (set ∷ sets) apart = (
-  All-from_Member (λ other. eq_by_cmp report_order set other ≡ false) sets
-      (λ other m. sym (report_order_ties set other) ∙ at_Member (λ y. pointwise nat_eq set y ≡ false) other sets apart.0 m),
-  distinct_by_order sets apart.1,
-)
-
-distinct_by_tests : (sets : List (List ℕ)) → IsDistinct (eq_by_cmp report_order) sets → IsDistinct (pointwise nat_eq) sets
-unfolding IsDistinct
-distinct_by_tests [] apart = tt
-distinct_by_tests (set ∷ sets) apart = (
-  All-from_Member (λ other. pointwise nat_eq set other ≡ false) sets
-      (λ other m. report_order_ties set other ∙ at_Member (λ y. eq_by_cmp report_order set y ≡ false) other sets apart.0 m),
-  distinct_by_tests sets apart.1,
-)
+-- sets are told apart by their order as by their items
+same_tests : pointwise nat_eq ≡ eq_by_cmp report_order
+same_tests = λ i a b. report_order_ties a b i
 
 -- a list that has each frequent set once is, sorted, the list of the frequent sets
 pub sorted_is_frequent : (baskets : List Weighted) (minimum : Minimum) (list sorted : List Counted) → ListsOnce baskets minimum list → IsPermutation list sorted → IsSorted report_order (map (λ c. c.set) sorted)
     → sorted ≡ frequent_of baskets minimum
 sorted_is_frequent baskets minimum list sorted lists moved up = (frequent_is_unique baskets minimum sorted).0 (record {
-  in_order = strictly_sorted report_order_total (map (λ c. c.set) list) (map (λ c. c.set) sorted) (distinct_by_order (map (λ c. c.set) list) lists.distinct)
+  in_order = strictly_sorted report_order_total (map (λ c. c.set) list) (map (λ c. c.set) sorted) (subst (λ p. IsDistinct p (map (λ (c : Counted). c.set) list)) same_tests lists.distinct)
       (IsPermutation-map (λ (c : Counted). c.set) list sorted moved) up;
   sound = All-permutation (IsSound baskets minimum) list sorted moved lists.sound;
   complete = λ set n h. Contains-permutation list sorted (counted baskets set) moved (lists.complete set n h);
@@ -156,7 +134,7 @@ pub frequent_once : (baskets : List Weighted) (minimum : Minimum) → ListsOnce 
 frequent_once baskets minimum =
     let lists = lists_frequent baskets minimum in
     record {
-      distinct = distinct_by_tests (map (λ c. c.set) (frequent_of baskets minimum)) (IsDistinct-from_sorted report_order (map (λ c. c.set) (frequent_of baskets minimum)) lists.in_order);
+      distinct = subst (λ p. IsDistinct p (map (λ (c : Counted). c.set) (frequent_of baskets minimum))) (sym same_tests) (IsDistinct-from_sorted report_order (map (λ c. c.set) (frequent_of baskets minimum)) lists.in_order);
       sound = lists.sound;
       complete = lists.complete;
     }

@@ -1,11 +1,12 @@
 -- Membership in a list by recursion, and lists that are strictly sorted by a total order.
-use Rattle.std.proofs.Common.{◌≡◌, Bool, true, false, List, [], ◌∷◌, ◌++◌, map, cond, refl, sym, ap, ◌∙◌, subst, inl, inr, ◌⊎◌, arith, zero, suc}
+use Rattle.std.proofs.Common.{◌≡◌, Bool, true, false, List, [], ◌∷◌, ◌++◌, map, refl, sym, ap, ◌∙◌, subst, inl, inr, ◌⊎◌, arith, zero, suc}
 use Rattle.std.specs.declared.cmp.Ordering.{Ordering}
 use Rattle.std.specs.declared.cmp.Ordering.TheVariants.{Less, Greater}
 use Rattle.std.specs.Ordering.{ordering_reverse}
 use Rattle.std.specs.Cmp.{IsTotalOrder}
-use Rattle.std.specs.List.{Contains, AllByRecursion, filter}
+use Rattle.std.specs.List.{Contains, AllByRecursion, filter, flat_map}
 use Rattle.std.specs.List.Sorted.{IsStrictlySortedBy}
+use Rattle.std.proofs.lemmas.Bool.{cond_both}
 
 module _ {K : Type 0} where
   -- x is a member of the list
@@ -28,7 +29,7 @@ module _ {K : Type 0} where
   Member-append_right x [] ys m = m
   Member-append_right x (y ∷ xs) ys m = inr (Member-append_right x xs ys m)
 
-  -- membership by recursion and by places are the same
+  -- membership by recursion and by an index are the same
   pub Member-from_Contains : (x : K) (xs : List K) → Contains xs x → Member x xs
   Member-from_Contains x [] h = absurd (omega (arith, h.1))
   Member-from_Contains x (y ∷ ys) (zero, below, is) = inl is
@@ -50,27 +51,18 @@ module _ {K : Type 0} where
   All-from_Member P [] h = tt
   All-from_Member P (y ∷ ys) h = (h y (inl refl), All-from_Member P ys (λ x m. h x (inr m)))
 
-  kept_at : (p : K → Bool) (x y : K) (ys : List K) (b : Bool) → p y ≡ b → (Member x (filter p ys) → Member x ys × (p x ≡ true))
-      → Member x (cond b (y ∷ filter p ys) (filter p ys)) → Member x (y ∷ ys) × (p x ≡ true)
-  kept_at p x y ys true e rest (inl same) = (inl same, ap p (sym same) ∙ e)
-  kept_at p x y ys true e rest (inr m) = let r = rest m in (inr r.0, r.1)
-  kept_at p x y ys false e rest m = let r = rest m in (inr r.0, r.1)
-
   -- the members of a filtered list are those members that pass
   pub Member-filter : (p : K → Bool) (x : K) (xs : List K) → Member x (filter p xs) → Member x xs × (p x ≡ true)
   Member-filter p x [] m = absurd m
-  Member-filter p x (y ∷ ys) m = kept_at p x y ys (p y) refl (Member-filter p x ys) m
-
-  keeps_at : (p : K → Bool) (x y : K) (ys : List K) (b : Bool) → p y ≡ b → p x ≡ true → (Member x ys → Member x (filter p ys))
-      → Member x (y ∷ ys) → Member x (cond b (y ∷ filter p ys) (filter p ys))
-  keeps_at p x y ys true e h rest (inl same) = inl same
-  keeps_at p x y ys true e h rest (inr m) = inr (rest m)
-  keeps_at p x y ys false e h rest (inl same) = let no : true ≡ false = sym h ∙ ap p (sym same) ∙ e in cc
-  keeps_at p x y ys false e h rest (inr m) = rest m
+  Member-filter p x (y ∷ ys) m = cond_both (p y) (y ∷ filter p ys) (filter p ys) (λ l. Member x l → Member x (y ∷ ys) × (p x ≡ true))
+      (λ e n. elim n [ inl same ↦ (inl same, ap p (sym same) ∙ e) | inr k ↦ (let r = Member-filter p x ys k in (inr r.0, r.1)) ])
+      (λ e n. let r = Member-filter p x ys n in (inr r.0, r.1)) m
 
   pub Member-from_filter : (p : K → Bool) (x : K) (xs : List K) → Member x xs → p x ≡ true → Member x (filter p xs)
   Member-from_filter p x [] m h = absurd m
-  Member-from_filter p x (y ∷ ys) m h = keeps_at p x y ys (p y) refl h (λ n. Member-from_filter p x ys n h) m
+  Member-from_filter p x (y ∷ ys) m h = cond_both (p y) (y ∷ filter p ys) (filter p ys) (Member x)
+      (λ e. elim m [ inl same ↦ inl same | inr n ↦ inr (Member-from_filter p x ys n h) ])
+      (λ e. elim m [ inl same ↦ absurd (let no : true ≡ false = sym h ∙ ap p (sym same) ∙ e in cc) | inr n ↦ Member-from_filter p x ys n h ])
 
 -- the members of a list of images are the images
 pub Member-map : {K J : Type 0} (f : K → J) (x : K) (xs : List K) → Member x xs → Member (f x) (map f xs)
@@ -82,6 +74,24 @@ pub Member-from_map : {K J : Type 0} (f : K → J) (y : J) (xs : List K) → Mem
 Member-from_map f y [] m = absurd m
 Member-from_map f y (x ∷ xs) (inl e) = (x, inl refl, e)
 Member-from_map f y (x ∷ xs) (inr m) = let r = Member-from_map f y xs m in (r.0, inr r.1, r.2)
+
+-- the members of a list of lists put together are those of its lists
+pub Member-flat_map : {K J : Type 0} (f : K → List J) (y : J) (xs : List K) → Member y (flat_map f xs) → (x : K) × Member x xs × Member y (f x)
+Member-flat_map f y [] m = absurd m
+Member-flat_map f y (x ∷ xs) m = elim (Member-append y (f x) (flat_map f xs) m) [
+  | inl here ↦ (x, inl refl, here)
+  | inr later ↦ (let r = Member-flat_map f y xs later in (r.0, inr r.1, r.2))
+]
+
+pub Member-into_flat_map : {K J : Type 0} (f : K → List J) (y : J) (x : K) (xs : List K) → Member x xs → Member y (f x) → Member y (flat_map f xs)
+Member-into_flat_map f y x [] m n = absurd m
+Member-into_flat_map f y x (z ∷ xs) (inl e) n = Member-append_left y (f z) (flat_map f xs) (subst (λ w. Member y (f w)) (sym e) n)
+Member-into_flat_map f y x (z ∷ xs) (inr m) n = Member-append_right y (f z) (flat_map f xs) (Member-into_flat_map f y x xs m n)
+
+-- functions that agree on the members have the same images
+pub map_members : {K J : Type 0} (f g : K → J) (xs : List K) → ((x : K) → Member x xs → f x ≡ g x) → map f xs ≡ map g xs
+map_members f g [] same = refl
+map_members f g (x ∷ xs) same = λ i. same x (inl refl) i ∷ map_members f g xs (λ y m. same y (inr m)) i
 
 module _ {K : Type 0} {R : K → K → Ordering} (o : IsTotalOrder R) where
   -- no element is before itself, and of two elements at most one is before the other

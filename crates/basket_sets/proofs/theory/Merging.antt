@@ -1,7 +1,8 @@
 -- Merging equal baskets: it keeps each support, and what holds of every basket or weight.
-use Rattle.std.proofs.Common.{◌≡◌, ℕ, ◌+◌, Bool, true, false, List, [], ◌∷◌, cond, nat_eq, fold, length, refl, sym, ap, ◌∙◌, arith, ◌≤◌}
+use Rattle.std.proofs.Common.{◌≡◌, ℕ, ◌+◌, Bool, true, false, List, [], ◌∷◌, cond, nat_eq, fold, length, refl, sym, ap, arith, ◌≤◌}
 use Rattle.std.specs.List.{sum_by, AllByRecursion}
 use Rattle.std.specs.Cmp.Lexicographic.{pointwise, bytes_decides}
+use Rattle.std.proofs.lemmas.Bool.{cond_both}
 use Rattle.std.proofs.lemmas.List.Sums.{sum_by-cons}
 use Rattle.basket_sets.specs.declared.weighted.Weighted.{Weighted}
 use Rattle.basket_sets.specs.Itemset.{contains}
@@ -12,8 +13,7 @@ use Rattle.basket_sets.specs.Database.{weighted, with_basket, MergingKeepsSuppor
 
 -- equal summands make equal sums
 pub sum_by-same : {X : Type 0} (f g : X → ℕ) (xs : List X) → ((x : X) → f x ≡ g x) → sum_by f xs ≡ sum_by g xs
-sum_by-same f g [] e = refl
-sum_by-same f g (x ∷ xs) e = sum_by-cons f x xs ∙ ap (λ n. n + sum_by f xs) (e x) ∙ ap (λ n. g x + n) (sum_by-same f g xs e) ∙ sym (sum_by-cons g x xs)
+sum_by-same f g xs e = λ i. sum_by (λ x. e x i) xs
 
 -- a sum of two sums
 pub sum_by-add : {X : Type 0} (f g : X → ℕ) (xs : List X) → sum_by f xs + sum_by g xs ≡ sum_by (λ x. f x + g x) xs
@@ -31,25 +31,18 @@ module _ (chosen : List ℕ → Bool) where
 
   added_weight : (places : List Weighted) (place : Weighted) → sum_by weight_if (with_basket places place) ≡ sum_by weight_if places + weight_if place
   added_weight [] place = let one = sum_by-cons weight_if place [] in omega arith
-  added_weight (other ∷ others) place = at (pointwise nat_eq place.basket other.basket) refl (added_weight others place)
+  added_weight (other ∷ others) place =
+      let old = sum_by-cons weight_if other others in
+      cond_both (pointwise nat_eq place.basket other.basket) _ _ (λ l. sum_by weight_if l ≡ sum_by weight_if (other ∷ others) + weight_if place)
+      (λ e. let first = sum_by-cons weight_if (weighted other.basket (other.weight + place.weight)) others in
+      let two = both (chosen other.basket) in
+      let its = ap (λ l. cond (chosen l) place.weight 0) (sym ((bytes_decides place.basket other.basket).0 e)) in
+      omega arith)
+      (λ differ. let first = sum_by-cons weight_if other (with_basket others place) in let rest = added_weight others place in omega arith)
     where
       both : (b : Bool) → cond b (other.weight + place.weight) 0 ≡ cond b other.weight 0 + cond b place.weight 0
       both true = refl
       both false = refl
-
-      at : (b : Bool) → pointwise nat_eq place.basket other.basket ≡ b
-          → sum_by weight_if (with_basket others place) ≡ sum_by weight_if others + weight_if place
-          → sum_by weight_if (cond b (weighted other.basket (other.weight + place.weight) ∷ others) (other ∷ with_basket others place)) ≡ sum_by weight_if (other ∷ others) + weight_if place
-      at true e rest =
-          let first = sum_by-cons weight_if (weighted other.basket (other.weight + place.weight)) others in
-          let old = sum_by-cons weight_if other others in
-          let two = both (chosen other.basket) in
-          let its = ap (λ l. cond (chosen l) place.weight 0) (sym ((bytes_decides place.basket other.basket).0 e)) in
-          omega arith
-      at false e rest =
-          let first = sum_by-cons weight_if other (with_basket others place) in
-          let old = sum_by-cons weight_if other others in
-          omega arith
 
   all_weights : (places baskets : List Weighted) → sum_by weight_if (fold with_basket places baskets) ≡ sum_by weight_if places + sum_by weight_if baskets
   all_weights places [] = omega arith
@@ -79,11 +72,8 @@ merged_places P heavier baskets each = all [] baskets tt each
   where
     one : (places : List Weighted) (place : Weighted) → AllByRecursion P places → P place → AllByRecursion P (with_basket places place)
     one [] place each its = (its, tt)
-    one (other ∷ others) place each its = at (pointwise nat_eq place.basket other.basket) (one others place each.1 its)
-      where
-        at : (b : Bool) → AllByRecursion P (with_basket others place) → AllByRecursion P (cond b (weighted other.basket (other.weight + place.weight) ∷ others) (other ∷ with_basket others place))
-        at true later = (heavier other place.weight each.0, each.1)
-        at false later = (each.0, later)
+    one (other ∷ others) place each its = cond_both (pointwise nat_eq place.basket other.basket) _ _ (AllByRecursion P)
+        (λ same. (heavier other place.weight each.0, each.1)) (λ differ. (each.0, one others place each.1 its))
 
     all : (places baskets : List Weighted) → AllByRecursion P places → AllByRecursion P baskets → AllByRecursion P (fold with_basket places baskets)
     all places [] done each = done
@@ -95,11 +85,7 @@ length-merged_of baskets = omega (arith, all [] baskets)
   where
     one : (places : List Weighted) (place : Weighted) → length (with_basket places place) ≤ length places + 1
     one [] place = omega arith
-    one (other ∷ others) place = at (pointwise nat_eq place.basket other.basket) (one others place)
-      where
-        at : (b : Bool) → length (with_basket others place) ≤ length others + 1 → length (cond b (weighted other.basket (other.weight + place.weight) ∷ others) (other ∷ with_basket others place)) ≤ length (other ∷ others) + 1
-        at true less = omega arith
-        at false less = omega arith
+    one (other ∷ others) place = cond_both (pointwise nat_eq place.basket other.basket) _ _ (λ l. length l ≤ length (other ∷ others) + 1) (λ same. omega arith) (λ differ. omega (arith, one others place))
 
     all : (places baskets : List Weighted) → length (fold with_basket places baskets) ≤ length places + length baskets
     all places [] = omega arith

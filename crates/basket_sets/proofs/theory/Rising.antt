@@ -5,14 +5,13 @@ use Rattle.std.specs.Ordering.{nat_cmp}
 use Rattle.std.specs.Cmp.{nat_cmp_total}
 use Rattle.std.specs.Prelude.{nat_eq}
 use Rattle.std.specs.List.Sorted.{IsStrictlySortedBy}
-use Rattle.std.proofs.lemmas.Bool.{eqb-true, eqb-false, ltb-true, ltb-false, eq-eqb, ne_eqb, lt-ltb, or_cases, cases_Bool, and_parts, and_from, cases_lt, true≢false, false_from_ne_true}
+use Rattle.std.proofs.lemmas.Bool.{eqb-true, eqb-false, ltb-true, ltb-false, eq-eqb, ne_eqb, lt-ltb, or_cases, cases_Bool, cond_both, and_parts, and_from, cases_lt, true≢false, false_from_ne_true}
 use Rattle.std.proofs.Math.Bool.{or-false, or_assoc}
 use Rattle.std.proofs.lemmas.Bool.Decides.{nat_tests}
-use Rattle.basket_sets.specs.Itemset.{AllBelow, IsRising, has, contains, with_item, rising}
+use Rattle.basket_sets.specs.Itemset.{IsRising, has, contains, with_item, rising}
 use Rattle.std.specs.List.Sorted.{IsBinarySearchResult, IsPermutation, IsSorted}
-use Rattle.std.specs.List.{Contains, IsAllAdjacentAnswer, IsDistinct, dedup, insert, list_all}
+use Rattle.std.specs.List.{Contains, IsAllAdjacentAnswer, IsDistinct, dedup, insert}
 use Rattle.std.proofs.lemmas.List.{get_or_default, get_or-take, length-take, take_more}
-use Rattle.std.proofs.lemmas.List.Folds.{list_all_at}
 use Rattle.std.proofs.lemmas.List.Kept.{Contains-dedup_nat, Contains-from_dedup}
 use Rattle.std.proofs.lemmas.List.Sorted.{searched, Contains-permutation, IsPermutation-sym}
 use Rattle.std.proofs.lemmas.Map.Keys.{IsDistinct-from_apart, apart_from_distinct, non_decreasing_from_sorted, sorted_from_strictly_increasing, below_from_sorted, IsStrictlyIncreasing-dedup}
@@ -103,58 +102,42 @@ same_rising xs ys = same_members nat_cmp_total xs ys
 
 -- ---- the rising list of a list's items
 
-with_at : (a x y : ℕ) (xs rest : List ℕ) (p q : Bool) → (Member y rest → (a ≡ y) ⊎ Member y xs)
-    → Member y (cond p (a ∷ x ∷ xs) (cond q (x ∷ xs) (x ∷ rest))) → (a ≡ y) ⊎ Member y (x ∷ xs)
-with_at a x y xs rest true q later (inl e) = inl e
-with_at a x y xs rest true q later (inr m) = inr m
-with_at a x y xs rest false true later m = inr m
-with_at a x y xs rest false false later (inl e) = inr (inl e)
-with_at a x y xs rest false false later (inr m) = elim (later m) [ inl e ↦ inl e | inr n ↦ inr (inr n) ]
+-- what holds of each form of a list with an item holds of that list
+pub with_item_by : (P : List ℕ → Type 0) (a x : ℕ) (xs : List ℕ) → (a < x → P (a ∷ x ∷ xs)) → (a ≡ x → P (x ∷ xs)) → (x < a → P (x ∷ with_item a xs)) → P (with_item a (x ∷ xs))
+with_item_by P a x xs less same more = cond_both (ltb a x) (a ∷ x ∷ xs) (cond (eqb a x) (x ∷ xs) (x ∷ with_item a xs)) P (λ h. less (ltb-true a x h))
+    (λ h. cond_both (eqb a x) (x ∷ xs) (x ∷ with_item a xs) P (λ e. same (eqb-true a x e)) (λ e. more (let le = ltb-false a x h in let ne = eqb-false a x e in omega arith)))
 
 -- a list with an item has that item and its own
 pub Member-with_item : (a : ℕ) (xs : List ℕ) (y : ℕ) → Member y (with_item a xs) → (a ≡ y) ⊎ Member y xs
 Member-with_item a [] y (inl e) = inl e
 Member-with_item a [] y (inr m) = absurd m
-Member-with_item a (x ∷ xs) y m = with_at a x y xs (with_item a xs) (ltb a x) (eqb a x) (Member-with_item a xs y) m
-
-into_at : (a x y : ℕ) (xs rest : List ℕ) (p q : Bool) → eqb a x ≡ q → ((a ≡ y) ⊎ Member y xs → Member y rest)
-    → (a ≡ y) ⊎ Member y (x ∷ xs) → Member y (cond p (a ∷ x ∷ xs) (cond q (x ∷ xs) (x ∷ rest)))
-into_at a x y xs rest true q is later (inl e) = inl e
-into_at a x y xs rest true q is later (inr m) = inr m
-into_at a x y xs rest false true is later (inl e) = inl (sym (eqb-true a x is) ∙ e)
-into_at a x y xs rest false true is later (inr m) = m
-into_at a x y xs rest false false is later (inl e) = inr (later (inl e))
-into_at a x y xs rest false false is later (inr (inl e)) = inl e
-into_at a x y xs rest false false is later (inr (inr m)) = inr (later (inr m))
+Member-with_item a (x ∷ xs) y m = with_item_by (λ l. Member y l → (a ≡ y) ⊎ Member y (x ∷ xs)) a x xs (λ less n. n) (λ same n. inr n)
+    (λ more n. elim n [ inl e ↦ inr (inl e) | inr k ↦ elim (Member-with_item a xs y k) [ inl e ↦ inl e | inr own ↦ inr (inr own) ] ]) m
 
 pub Member-into_with_item : (a : ℕ) (xs : List ℕ) (y : ℕ) → (a ≡ y) ⊎ Member y xs → Member y (with_item a xs)
 Member-into_with_item a [] y (inl e) = inl e
 Member-into_with_item a [] y (inr m) = absurd m
-Member-into_with_item a (x ∷ xs) y m = into_at a x y xs (with_item a xs) (ltb a x) (eqb a x) refl (Member-into_with_item a xs y) m
+Member-into_with_item a (x ∷ xs) y m = with_item_by (Member y) a x xs (λ less. m) (λ same. elim m [ inl e ↦ inl (sym same ∙ e) | inr k ↦ k ]) (λ more. elim m [
+  | inl e ↦ inr (Member-into_with_item a xs y (inl e))
+  | inr k ↦ elim k [ inl e ↦ inl e | inr n ↦ inr (Member-into_with_item a xs y (inr n)) ]
+])
 
-rises_at : (a x : ℕ) (xs rest : List ℕ) (p q : Bool) → ltb a x ≡ p → eqb a x ≡ q → IsRising (x ∷ xs) → IsRising rest
-    → ((y : ℕ) → Member y rest → (a ≡ y) ⊎ Member y xs) → IsRising (cond p (a ∷ x ∷ xs) (cond q (x ∷ xs) (x ∷ rest)))
-rises_at a x xs rest true q less is up later from = cons_rises a (x ∷ xs) below up
-  where
-    below : (y : ℕ) → Member y (x ∷ xs) → a < y
-    below y (inl e) = subst (λ z. a < z) e (ltb-true a x less)
-    below y (inr m) = let first = ltb-true a x less in let second = first_below x xs up y m in omega arith
-rises_at a x xs rest false true less is up later from = up
-rises_at a x xs rest false false less is up later from = cons_rises x rest below later
-  where
-    below : (y : ℕ) → Member y rest → x < y
-    below y m = elim (from y m) [
-      | inl e ↦ let le = ltb-false a x less in let ne = eqb-false a x is in omega arith
-      | inr n ↦ first_below x xs up y n
-    ]
-
--- it rises where the list did
 pub with_item-rises : (a : ℕ) (xs : List ℕ) → IsRising xs → IsRising (with_item a xs)
-with_item-rises a [] up = cons_rises a [] (λ y m. absurd m) up
-with_item-rises a (x ∷ xs) up =
-    rises_at a x xs (with_item a xs) (ltb a x) (eqb a x) refl refl up (with_item-rises a xs (rest_rises x xs up)) (Member-with_item a xs)
+with_item-rises a [] up = cons_rises a [] (λ y m. absurd m) nil_rises
+with_item-rises a (x ∷ xs) up = with_item_by IsRising a x xs
+    (λ less. cons_rises a (x ∷ xs) (λ y m. elim m [ inl e ↦ omega arith | inr n ↦ (let b = first_below x xs up y n in omega arith) ]) up)
+    (λ same. up)
+    (λ more. cons_rises x (with_item a xs) (λ y m. elim (Member-with_item a xs y m) [ inl e ↦ omega arith | inr n ↦ first_below x xs up y n ]) (with_item-rises a xs (rest_rises x xs up)))
 
--- the rising list of some numbers rises, and has exactly those numbers
+-- it is no longer than by one, and by one if the item is new
+with_item-long : (a : ℕ) (xs : List ℕ) → length (with_item a xs) ≤ length xs + 1
+with_item-long a [] = omega arith
+with_item-long a (x ∷ xs) = with_item_by (λ l. length l ≤ length (x ∷ xs) + 1) a x xs (λ less. omega arith) (λ same. omega arith) (λ more. omega (arith, with_item-long a xs))
+
+pub length-with_item : (a : ℕ) (xs : List ℕ) → (Member a xs → ⊥) → length (with_item a xs) ≡ suc (length xs)
+length-with_item a [] new = refl
+length-with_item a (x ∷ xs) new = with_item_by (λ l. length l ≡ suc (length (x ∷ xs))) a x xs (λ less. refl) (λ same. absurd (new (inl (sym same)))) (λ more. ap suc (length-with_item a xs (λ m. new (inr m))))
+
 pub rising-rises : (numbers : List ℕ) → IsRising (rising numbers)
 rising-rises [] = nil_rises
 rising-rises (x ∷ numbers) = with_item-rises x (rising numbers) (rising-rises numbers)
@@ -193,36 +176,17 @@ length-le-contains (x ∷ set) (y ∷ items) up over into = elim (into x (inl re
     heads z (inr m) = let b = first_below x set up z m in omega arith
 
 -- the rising list of some numbers is no longer than they are
-with_item-long : (a : ℕ) (xs : List ℕ) → length (with_item a xs) ≤ length xs + 1
-with_item-long a [] = omega arith
-with_item-long a (x ∷ xs) = at (with_item-long a xs) (ltb a x) (eqb a x)
-  where
-    at : length (with_item a xs) ≤ length xs + 1 → (p q : Bool) → length (cond p (a ∷ x ∷ xs) (cond q (x ∷ xs) (x ∷ with_item a xs))) ≤ length (x ∷ xs) + 1
-    at one true q = omega arith
-    at one false true = omega arith
-    at one false false = omega arith
-
 rising-long : (numbers : List ℕ) → length (rising numbers) ≤ length numbers
 rising-long [] = omega arith
 rising-long (x ∷ numbers) = let one = with_item-long x (rising numbers) in let more = rising-long numbers in omega arith
 
 -- a rising list within another that is no longer is that one
 whole_rising : (set items : List ℕ) → IsRising set → IsRising items → ((z : ℕ) → Member z set → Member z items) → length items ≤ length set → set ≡ items
-whole_rising [] [] up over into long = refl
-whole_rising [] (y ∷ items) up over into long = absurd (omega arith)
-whole_rising (x ∷ set) [] up over into long = absurd (into x (inl refl))
-whole_rising (x ∷ set) (y ∷ items) up over into long = elim (into x (inl refl)) [
-  | inl same ↦
-      (ap (λ z. z ∷ set) (sym same)
-      ∙ ap (λ l. y ∷ l) (whole_rising set items (rest_rises x set up) (rest_rises y items over)
-      (λ z m. elim (into z (inr m)) [ inl e ↦ absurd (let b = first_below x set up z m in omega arith) | inr k ↦ k ]) (omega arith)))
-  | inr later ↦ absurd (let n = length-le-contains (x ∷ set) items up (rest_rises y items over)
-      (λ z m. elim (into z m) [ inl e ↦ (let b = first_below y items over x later in let c = heads z m in absurd (omega arith)) | inr k ↦ k ]) in omega arith)
-]
-  where
-    heads : (z : ℕ) → Member z (x ∷ set) → x ≤ z
-    heads z (inl e) = omega arith
-    heads z (inr m) = let b = first_below x set up z m in omega arith
+whole_rising set items up over into long = same_rising set items up over into (λ z m. elim (cases_Bool (has set z)) [
+  | inl e ↦ Member-from_has set z e
+  | inr e ↦ absurd (let n = length-le-contains (with_item z set) items (with_item-rises z set up) over (λ y k. elim (Member-with_item z set y k) [ inl s ↦ subst (λ w. Member w items) s m | inr own ↦ into y own ]) in
+      omega (arith, length-with_item z set (λ own. true≢false (sym (has-from_Member set z own) ∙ e))))
+])
 
 -- a rising list of some of the numbers that is as long is their rising list
 pub as_long_rising : (numbers items : List ℕ) → IsRising items → ((z : ℕ) → has items z ≡ true → has numbers z ≡ true) → length items ≡ length numbers → items ≡ rising numbers
@@ -232,13 +196,13 @@ as_long_rising numbers items up from long =
 
 -- ---- a binary search of a rising list
 
-rises_by_places : (items : List ℕ) → IsRising items → (i j : ℕ) → i ≤ j → j < length items → get_or items i 0 ≤ get_or items j 0
-rises_by_places items up i j le below = non_decreasing_from_sorted items up i j 0 le below
+rises_by_index : (items : List ℕ) → IsRising items → (i j : ℕ) → i ≤ j → j < length items → get_or items i 0 ≤ get_or items j 0
+rises_by_index items up i j le below = non_decreasing_from_sorted items up i j 0 le below
 
 -- a search finds exactly what the list has
 pub search_is_has : (items : List ℕ) (item : ℕ) (r : Result ℕ ℕ) → IsRising items → IsBinarySearchResult (λ y. nat_cmp y item) items r → is_ok r ≡ has items item
 search_is_has items item (Ok i) up found =
-    let s = searched items item (Ok i) found (rises_by_places items up) in
+    let s = searched items item (Ok i) found (rises_by_index items up) in
     sym (has-from_Member items item (Member-from_Contains item items (i, s.0, ap (λ d. d) (get_or_default items i item 0 s.0 ∙ s.1))))
 search_is_has items item (Err i) up found = elim (cases_Bool (has items item)) [
   | inl e ↦ absurd (missing (Contains-from_Member item items (Member-from_has items item e)))
@@ -247,7 +211,7 @@ search_is_has items item (Err i) up found = elim (cases_Bool (has items item)) [
   where
     missing : Contains items item → ⊥
     missing c =
-        let s = searched items item (Err i) found (rises_by_places items up) in
+        let s = searched items item (Err i) found (rises_by_index items up) in
         let at : get_or items c.0 0 ≡ item = get_or_default items c.0 0 item c.1 ∙ c.2 in
         elim (cases_lt c.0 i) [ inl less ↦ (let b = s.1 c.0 less in omega arith) | inr more ↦ (let b = s.2 c.0 more c.1 in omega arith) ]
 
@@ -268,7 +232,7 @@ has_more items i x below =
 pub has_place : (items : List ℕ) (i : ℕ) → i < length items → has items (get_or items i 0) ≡ true
 has_place items i below = has-from_Member items (get_or items i 0) (Member-from_Contains (get_or items i 0) items (i, below, get_or_default items i (get_or items i 0) 0 below))
 
--- a list with an item at a place has that item and its own
+-- a list with an item at an index has that item and its own
 pub has-set : (items : List ℕ) (k x z : ℕ) → has (set items k x) z ≡ true → (x ≡ z) ⊎ (has items z ≡ true)
 has-set items k x z h = elim (Member-set items k (Member-from_has (set items k x) z h)) [ inl e ↦ inl e | inr m ↦ inr (has-from_Member items z m) ]
   where
@@ -293,15 +257,6 @@ distinct_from_before items apart = IsDistinct-from_apart nat_eq items (λ i j d 
     let here : i < length (take j items) = omega (arith, length-take j items) in
     true≢false (sym (has_place (take j items) i here) ∙ ap (has (take j items)) (get_or_default (take j items) i 0 d here ∙ get_or-take j items i d less ∙ same ∙ get_or_default items j d 0 below) ∙ apart j below)))
 
--- each item passes a test that all pass
-pub below_from_all : (bound : ℕ) (items : List ℕ) → list_all (λ item. ltb item bound) items ≡ true → AllBelow bound items
-below_from_all bound items all item h =
-    let c = Contains-from_Member item items (Member-from_has items item h) in
-    elim (cases_Bool (ltb item bound)) [
-      | inl less ↦ ltb-true item bound less
-      | inr past ↦ absurd (true≢false (sym all ∙ list_all_at (λ n. ltb n bound) items c.0 item c.1 (ap (λ n. ltb n bound) c.2 ∙ past)))
-    ]
-
 pub has-rising : (numbers : List ℕ) (item : ℕ) → has (rising numbers) item ≡ has numbers item
 has-rising numbers item =
     same_test _ _ (λ h. has-from_Member numbers item (Member-rising numbers item (Member-from_has (rising numbers) item h)))
@@ -324,24 +279,20 @@ rising-dedup numbers sorted moved up = sym (rising_is numbers (dedup eqb sorted)
     (λ z m. Member-from_Contains z (dedup eqb sorted) (Contains-dedup_nat sorted z (Contains-permutation numbers sorted z moved (Contains-from_Member z numbers m))))
     (λ z m. Member-from_Contains z numbers (Contains-permutation sorted numbers z (IsPermutation-sym numbers sorted moved) (Contains-from_dedup eqb sorted z (Contains-from_Member z (dedup eqb sorted) m)))))
 
--- what a search answers: a place of the item, or that no place has it
+-- what a search answers: an index of the item, or that it is nowhere
 pub found_at : (items : List ℕ) (item found : ℕ) → IsRising items → IsBinarySearchResult (λ y. nat_cmp y item) items (Ok found) → (found < length items) × (get_or items found 0 ≡ item)
-found_at items item found up is = searched items item (Ok found) is (rises_by_places items up)
+found_at items item found up is = searched items item (Ok found) is (rises_by_index items up)
 
--- a rising list with an item put at its place
-pub inserted_is : (items : List ℕ) (place item : ℕ) → place ≤ length items → ((k : ℕ) → k < place → get_or items k 0 < item)
-    → ((k : ℕ) → place ≤ k → k < length items → item < get_or items k 0) → insert items place item ≡ with_item item items
+-- a rising list with an item put where it belongs
+inserted_is : (items : List ℕ) (index item : ℕ) → index ≤ length items → ((k : ℕ) → k < index → get_or items k 0 < item)
+    → ((k : ℕ) → index ≤ k → k < length items → item < get_or items k 0) → insert items index item ≡ with_item item items
 inserted_is [] zero item short below above = refl
-inserted_is [] (suc place) item short below above = absurd (omega (arith, short))
-inserted_is (x ∷ items) zero item short below above =
-    sym (ap (λ p. cond p (item ∷ x ∷ items) (cond (eqb item x) (x ∷ items) (x ∷ with_item item items))) (lt-ltb item x (above 0 (omega arith) (omega arith))))
-inserted_is (x ∷ items) (suc place) item short below above =
-    let first : x < item = below 0 (omega arith) in
-    let not_less : ltb item x ≡ false = false_from_ne_true _ (λ h. let less = ltb-true item x h in omega arith) in
-    let not_equal : eqb item x ≡ false = false_from_ne_true _ (λ h. let same = eqb-true item x h in omega arith) in
-    ap (λ l. x ∷ l) (inserted_is items place item (omega arith) (λ k less. below (suc k) (omega arith)) (λ k more inside. above (suc k) (omega arith) (omega arith)))
-    ∙ sym (ap (λ p. cond p (item ∷ x ∷ items) (cond (eqb item x) (x ∷ items) (x ∷ with_item item items))) not_less
-    ∙ ap (λ q. cond q (x ∷ items) (x ∷ with_item item items)) not_equal)
+inserted_is [] (suc index) item short below above = absurd (omega (arith, short))
+inserted_is (x ∷ items) zero item short below above = let first = above 0 (omega arith) (omega arith) in
+    with_item_by (λ l. item ∷ x ∷ items ≡ l) item x items (λ less. refl) (λ same. absurd (omega arith)) (λ more. absurd (omega arith))
+inserted_is (x ∷ items) (suc index) item short below above = let first : x < item = below 0 (omega arith) in
+    with_item_by (λ l. x ∷ insert items index item ≡ l) item x items (λ less. absurd (omega arith)) (λ same. absurd (omega arith)) (λ more.
+    ap (λ l. x ∷ l) (inserted_is items index item (omega arith) (λ k less. below (suc k) (omega arith)) (λ k later inside. above (suc k) (omega arith) (omega arith))))
 
 -- a rising list with an item that a search found, or with one put where it has to stand
 pub with_found : (items : List ℕ) (item found : ℕ) → IsRising items → IsBinarySearchResult (λ y. nat_cmp y item) items (Ok found) → items ≡ with_item item items
@@ -355,12 +306,12 @@ with_found items item found up is = same_rising items (with_item item items) up 
 pub with_put : (items : List ℕ) (item place : ℕ) → IsRising items → IsBinarySearchResult (λ y. nat_cmp y item) items (Err place)
     → (place ≤ length items) × (insert items place item ≡ with_item item items)
 with_put items item place up is =
-    let s = searched items item (Err place) is (rises_by_places items up) in (s.0, inserted_is items place item s.0 s.1 s.2)
+    let s = searched items item (Err place) is (rises_by_index items up) in (s.0, inserted_is items place item s.0 s.1 s.2)
 
 -- an item that was not found stands nowhere
 pub found_nowhere : (items : List ℕ) (item place : ℕ) → IsRising items → IsBinarySearchResult (λ y. nat_cmp y item) items (Err place) → (k : ℕ) → k < length items → get_or items k 0 ≢ item
 found_nowhere items item place up is k below e =
-    let s = searched items item (Err place) is (rises_by_places items up) in
+    let s = searched items item (Err place) is (rises_by_index items up) in
     elim (cases_lt k place) [ inl less ↦ (let b = s.1 k less in omega arith) | inr more ↦ (let b = s.2 k more below in omega arith) ]
 
 -- a rising list without its last item rises

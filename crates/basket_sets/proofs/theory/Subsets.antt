@@ -99,8 +99,9 @@ Member-subsets items (y ∷ set) up rises some within =
 nat_cmp_same : (x : ℕ) → nat_cmp x x ≡ Equal
 nat_cmp_same x = tied_itself nat_cmp_total x
 
-same_first : (x : ℕ) (a b : List ℕ) → slice_cmp nat_cmp a b ≡ Less → slice_cmp nat_cmp (x ∷ a) (x ∷ b) ≡ Less
-same_first x a b h = ap (λ o. ordering_then o (slice_cmp nat_cmp a b)) (nat_cmp_same x) ∙ h
+-- a first number that two lists share doesn't matter
+pub same_head : (x : ℕ) (a b : List ℕ) → slice_cmp nat_cmp (x ∷ a) (x ∷ b) ≡ slice_cmp nat_cmp a b
+same_head x a b = ap (λ o. ordering_then o (slice_cmp nat_cmp a b)) (nat_cmp_same x)
 
 first_less : (x y : ℕ) (a b : List ℕ) → x < y → slice_cmp nat_cmp (x ∷ a) (y ∷ b) ≡ Less
 first_less x y a b h = ap (λ o. ordering_then o (slice_cmp nat_cmp a b)) (Less-from_lt x y h)
@@ -112,7 +113,7 @@ of_size_sorted zero items up = (tt, tt)
 of_size_sorted (suc size) [] up = tt
 of_size_sorted (suc size) (x ∷ items) up =
     sorted_append (slice_cmp nat_cmp) (map (λ t. x ∷ t) (subsets_of_size size items)) (subsets_of_size (suc size) items)
-    (sorted_map (slice_cmp nat_cmp) (slice_cmp nat_cmp) (λ t. x ∷ t) (subsets_of_size size items) (same_first x) (of_size_sorted size items (rest_rises x items up)))
+    (sorted_map (slice_cmp nat_cmp) (slice_cmp nat_cmp) (λ t. x ∷ t) (subsets_of_size size items) (λ a b h. same_head x a b ∙ h) (of_size_sorted size items (rest_rises x items up)))
     (of_size_sorted (suc size) items (rest_rises x items up))
     (λ a b m n. across a b (Member-from_map (λ t. x ∷ t) a (subsets_of_size size items) m) (IsSubset-from_Member (suc size) items b (rest_rises x items up) n))
   where
@@ -124,8 +125,11 @@ shorter_first : (a b : List ℕ) → length a < length b → report_order a b �
 shorter_first a b h = ap (λ o. ordering_then o (slice_cmp nat_cmp a b)) (Less-from_lt (length a) (length b) h)
 
 -- sets of one size are in report order where they are in lexicographic order
+pub same_order : (a b : List ℕ) → length a ≡ length b → report_order a b ≡ slice_cmp nat_cmp a b
+same_order a b e = ap (λ n. ordering_then (nat_cmp n (length b)) (slice_cmp nat_cmp a b)) e ∙ ap (λ o. ordering_then o (slice_cmp nat_cmp a b)) (nat_cmp_same (length b))
+
 pub same_length : (a b : List ℕ) → length a ≡ length b → slice_cmp nat_cmp a b ≡ Less → report_order a b ≡ Less
-same_length a b e h = ap (λ n. ordering_then (nat_cmp n (length b)) (slice_cmp nat_cmp a b)) e ∙ ap (λ o. ordering_then o (slice_cmp nat_cmp a b)) (nat_cmp_same (length b)) ∙ h
+same_length a b e h = same_order a b e ∙ h
 
 up_to_sorted : (most : ℕ) (items : List ℕ) → IsRising items → IsStrictlySortedBy report_order (subsets_up_to most items)
 unfolding IsStrictlySortedBy

@@ -1,8 +1,9 @@
 -- Support falls as a set grows, adds up over parts, and is above nothing only for sets of the database's items.
-use Rattle.std.proofs.Common.{◌≡◌, ℕ, ◌+◌, ◌*◌, ◌≤◌, Bool, true, List, [], ◌∷◌, ◌++◌, cond, leb, refl, sym, ap, ◌∙◌, subst, inl, inr, arith}
+use Rattle.std.proofs.Common.{◌≡◌, ℕ, ◌+◌, ◌*◌, ◌≤◌, true, List, [], ◌∷◌, ◌++◌, cond, leb, refl, sym, ap, ◌∙◌, subst, inl, inr, arith}
 use Rattle.std.specs.List.{flat_map}
 use Rattle.std.proofs.lemmas.List.Sums.{sum_by-append, sum_by-cons, sum_by-le-sum_by}
-use Rattle.std.proofs.lemmas.Bool.{cases_Bool, and_parts, and_from, leb-true, le-leb, cond-false}
+use Rattle.std.proofs.lemmas.Bool.{cases_Bool, and_parts, leb-true, cond_both, cond-false}
+use Rattle.std.proofs.lemmas.Bool.Decides.{nat_tests}
 use Rattle.basket_sets.specs.declared.weighted.Weighted.{Weighted}
 use Rattle.basket_sets.specs.declared.minimum.Minimum.{Minimum}
 use Rattle.basket_sets.specs.declared.minimum.Minimum.TheVariants.{Count, Share}
@@ -14,11 +15,8 @@ use Rattle.basket_sets.proofs.theory.Members.{Member, Member-append_left, Member
 use Rattle.basket_sets.proofs.theory.Rising.{has_each, contains_each, contains-trans, Member-into_rising}
 
 weight_at-contains : (place : Weighted) (set subset : List ℕ) → contains set subset ≡ true → weight_at set place ≤ weight_at subset place
-weight_at-contains place set subset h = elim (cases_Bool (contains place.basket set)) [
-  | inl e ↦ let k = contains-trans place.basket set subset e h in let P = λ (b : Bool). cond (contains place.basket set) place.weight 0 ≤ cond b place.weight 0 in
-      subst P (sym k) (subst (λ b. cond b place.weight 0 ≤ place.weight) (sym e) (omega arith))
-  | inr e ↦ subst (λ b. cond b place.weight 0 ≤ weight_at subset place) (sym e) (omega arith)
-]
+weight_at-contains place set subset h = cond_both (contains place.basket set) place.weight 0 (λ n. n ≤ weight_at subset place)
+    (λ e. subst (λ b. place.weight ≤ cond b place.weight 0) (sym (contains-trans place.basket set subset e h)) (omega arith)) (λ e. omega arith)
 
 -- a set has at most the support of its subsets
 pub support_falls : SupportFalls
@@ -52,15 +50,8 @@ in_items (place ∷ baskets) set some item m = elim (cases_Bool (contains place.
 
 -- what meets a minimum still meets it with more support
 pub meets_more : (minimum : Minimum) (support more total : ℕ) → support ≤ more → meets minimum support total ≡ true → meets minimum more total ≡ true
-meets_more (Count least) support more total le h =
-    let p = and_parts (leb 1 support) (leb least support) h in
-    let one = leb-true 1 support p.0 in let enough = leb-true least support p.1 in
-    and_from (leb 1 more) (leb least more) (le-leb 1 more (omega arith)) (le-leb least more (omega arith))
-meets_more (Share share) support more total le h =
-    let n = share.0 in let d = share.1 in
-    let p = and_parts (leb 1 support) (leb (n * total) (support * d)) h in
-    let one = leb-true 1 support p.0 in let enough = leb-true (n * total) (support * d) p.1 in
-    and_from (leb 1 more) (leb (n * total) (more * d)) (le-leb 1 more (omega arith)) (le-leb (n * total) (more * d) (scaled support more d (n * total) le enough))
+meets_more (Count least) support more total le h = grind (arith, nat_tests)
+meets_more (Share share) support more total le h = let wide = scaled support more share.1 (share.0 * total) le in grind (arith, nat_tests, wide)
   where
     scaled : (s m d t : ℕ) → s ≤ m → t ≤ s * d → t ≤ m * d
     scaled s m d t le h = grind arith

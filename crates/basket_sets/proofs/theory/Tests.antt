@@ -1,11 +1,11 @@
--- Tests of all members of a list, and what stands at a place.
-use Rattle.std.proofs.Common.{◌≡◌, ℕ, ◌+◌, ◌<◌, Bool, true, false, ◌||◌, List, [], ◌∷◌, length, get_or, cond, eqb, refl, sym, ap, ◌∙◌, inl, inr, arith, zero, suc}
+-- Tests of all members of a list, and what stands at an index.
+use Rattle.std.proofs.Common.{◌≡◌, ℕ, ◌+◌, ◌<◌, Bool, true, false, ◌||◌, List, [], ◌∷◌, length, get_or, cond, eqb, ltb, refl, sym, ap, ◌∙◌, inl, inr, arith, zero, suc}
 use Rattle.std.specs.List.{list_all}
-use Rattle.std.proofs.lemmas.Bool.{and_from, and_parts, cases_Bool, eqb-true}
+use Rattle.std.proofs.lemmas.Bool.{and_from, and_parts, ltb-true, ne_eqb}
 use Rattle.basket_sets.specs.Counts.{AllBelow}
 use Rattle.basket_sets.specs.Itemset.{IsRising}
 use Rattle.basket_sets.proofs.theory.Members.{Member}
-use Rattle.basket_sets.proofs.theory.Rising.{first_below, has-from_Member, rest_rises}
+use Rattle.basket_sets.proofs.theory.Rising.{first_below, has-from_Member, Member-from_has, rest_rises}
 
 pub each_of : {K : Type 0} (p : K → Bool) (xs : List K) → list_all p xs ≡ true → (x : K) → Member x xs → p x ≡ true
 each_of p [] h x m = absurd m
@@ -17,27 +17,27 @@ all_of p [] h = refl
 all_of p (y ∷ ys) h = and_from (p y) (list_all p ys) (h y (inl refl)) (all_of p ys (λ x m. h x (inr m)))
 
 pub or_true : (b : Bool) → (b || true) ≡ true
-or_true true = refl
-or_true false = refl
+or_true b = grind arith
 
 pub or_false : (b : Bool) → (b || false) ≡ b
-or_false true = refl
-or_false false = refl
+or_false b = grind arith
 
 pub apart_eqb : (x y : ℕ) → (x ≡ y → ⊥) → eqb x y ≡ false
-apart_eqb x y differ = elim (cases_Bool (eqb x y)) [ inl e ↦ absurd (differ (eqb-true x y e)) | inr e ↦ e ]
+apart_eqb = ne_eqb
+
+-- each item of a list that passes the test is below the bound
+pub below_from_all : (bound : ℕ) (items : List ℕ) → list_all (λ item. ltb item bound) items ≡ true → AllBelow bound items
+below_from_all bound items all item h = ltb-true item bound (each_of (λ n. ltb n bound) items all item (Member-from_has items item h))
 
 -- ---- a number if a test holds
 
 pub cond_sum : (a : Bool) (m n : ℕ) → cond a m 0 + cond a n 0 ≡ cond a (m + n) 0
-cond_sum true m n = refl
-cond_sum false m n = refl
+cond_sum a m n = grind arith
 
 pub same_cond : (a : Bool) (n : ℕ) → cond a n n ≡ n
-same_cond true n = refl
-same_cond false n = refl
+same_cond a n = grind arith
 
--- ---- what stands at a place
+-- ---- what stands at an index
 
 pub Member-at : (xs : List ℕ) (k : ℕ) → k < length xs → Member (get_or xs k 0) xs
 Member-at [] k below = absurd (omega arith)

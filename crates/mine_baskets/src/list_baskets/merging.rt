@@ -6,9 +6,10 @@ ghost use Rattle.mine_baskets.specs.Entries.{entry_places};
 ghost use Rattle.mine_baskets.specs.ListBaskets.{AreRankBaskets, neighbours_merged, repeats_last, with_basket};
 ghost use Rattle.mine_baskets.specs.Span.{IsWithin, baskets_at};
 
+use crate::baskets::BASKETS_AHEAD;
 use crate::entries::{KeyedBasket, ranks_among, read_ahead};
 use crate::list_baskets::ListBaskets;
-use crate::span::{BASKETS_AHEAD, Span, place};
+use crate::span::{Span, as_index};
 use std::alloc::{AllocError, Global};
 
 /// The baskets of entries, equal neighbours as one.
@@ -67,9 +68,9 @@ fn add(
         baskets[last].add_weight(weight);
         return Ok(());
     }
-    let start = place(ranks.len())?;
+    let start = as_index(ranks.len())?;
     ranks.extend_from_slice(basket)?;
-    let end = place(ranks.len())?;
+    let end = as_index(ranks.len())?;
     baskets.push(Span { start, end, weight })?;
     Ok(())
 }

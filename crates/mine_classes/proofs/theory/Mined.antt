@@ -6,7 +6,7 @@ use Rattle.mine_limit.specs.declared.fault.MineFault.TheVariants.{TooMany}
 use Rattle.basket_ranks.specs.Codes.{Coding}
 use Rattle.basket_sets.specs.declared.counted.Counted.{Counted}
 use Rattle.basket_sets.specs.Frequent.{is_frequent}
-use Rattle.mine_classes.specs.Classes.{RareRanksHaveNoClass}
+use Rattle.mine_classes.proofs.theory.Greatest.{rare_ranks_have_no_class}
 use Rattle.mine_classes.specs.Mined.{MinesClass, class_size}
 
 module _ {T : Type 0} {told_of limit_of : T → ℕ} {is_over : T → Bool} {coding : Coding} {rank : ℕ} where
@@ -25,10 +25,10 @@ module _ {T : Type 0} {told_of limit_of : T → ℕ} {is_over : T → Bool} {cod
   })
 
   -- the rank is not frequent, and nothing is listed
-  pub mining_none : {before : T} {list : List Counted} → RareRanksHaveNoClass → is_frequent coding.baskets coding.minimum (rank ∷ []) ≡ false → list ≡ [] → is_over before ≡ false
+  pub mining_none : {before : T} {list : List Counted} → is_frequent coding.baskets coding.minimum (rank ∷ []) ≡ false → list ≡ [] → is_over before ≡ false
       → MinesClass told_of limit_of is_over coding rank before before (Ok (list, 0))
-  mining_none {before} {list} law rare none going = record {
-    listed = record { sets = []; listed = law coding.baskets coding.minimum rank rare; decoded = none };
+  mining_none {before} {list} rare none going = record {
+    listed = record { sets = []; listed = rare_ranks_have_no_class coding.baskets coding.minimum rank rare; decoded = none };
     few = omega arith;
     told = omega (arith, ap length none);
     going_on = going;

@@ -1,5 +1,6 @@
--- The conditional database of a rank by the runs of the rank.
+-- The conditional database of a rank by the paths of its runs.
 use Rattle.std.proofs.Common.{◌≡◌, ℕ, ◌+◌, ◌<◌, Bool, true, false, List, [], ◌∷◌, ◌++◌, length, get_or, map, cond, ltb, refl, sym, ap, ◌∙◌, subst, arith, zero-add}
+use Rattle.std.specs.Prelude.{All}
 use Rattle.std.specs.List.{AllByRecursion, filter, flat_map, range_with_len}
 use Rattle.std.specs.Ordering.{nat_cmp}
 use Rattle.std.proofs.lemmas.Bool.{ltb-false}
@@ -15,12 +16,10 @@ use Rattle.basket_sets.specs.Itemset.{IsRising, has}
 use Rattle.basket_sets.proofs.theory.Members.{Member, Member-filter, Member-from_filter, Contains-from_Member}
 use Rattle.basket_sets.proofs.theory.Rising.{Member-from_has, has-from_Member, rising-rises, same_rising}
 use Rattle.basket_sets.proofs.theory.Tests.{Member-at}
-use Rattle.mine_baskets.specs.declared.span.Span.{Span}
 use Rattle.mine_classes.specs.Conditional.{conditional, is_kept, kept_place}
 use Rattle.mine_baskets.specs.ListBaskets.{HaveSameWeights, IsRankBasket, weight_where}
 use Rattle.mine_pairs.specs.Pairs.{kept_ranks}
-use Rattle.mine_pairs.specs.Runs.{AreRunsOf, below}
-use Rattle.mine_baskets.specs.Span.{baskets_at}
+use Rattle.mine_pairs.specs.Runs.{below}
 use Rattle.mine_pairs.proofs.theory.Kept.{Member-kept, kept_lower}
 use Rattle.mine_baskets.proofs.theory.Weights.{changed_weight}
 
@@ -90,13 +89,13 @@ module _ (baskets : List Weighted) (least rank : ℕ) where
           ∙ sym (sum_by-cons (λ (p : Weighted). cond (test p.basket) p.weight 0) (weighted (filter keeps index.basket) index.weight) ms)
       at false ls ms rest = rest
 
-  pub conditional_weights : (ranks : List ℕ) (runs : List Span) → AreRunsOf ranks baskets rank runs → (others : List Weighted)
-      → HaveSameWeights (map (coded_place kept) (baskets_at ranks runs)) others → HaveSameWeights (conditional least baskets rank) (map (decoded_place kept) others)
-  conditional_weights ranks runs are others same test =
+  pub conditional_weights : (count : ℕ) (paths : List Weighted) → HaveSameWeights (below rank baskets) paths → All (IsRankBasket count) paths → (others : List Weighted)
+      → HaveSameWeights (map (coded_place kept) paths) others → HaveSameWeights (conditional least baskets rank) (map (decoded_place kept) others)
+  conditional_weights count paths weights ranked others same test =
       sym (below_weight test baskets)
-      ∙ are.weights (λ basket. test (filter keeps basket))
-      ∙ sym (same_tests_weigh (IsRankBasket rank) (λ basket. test (decoded kept (coded kept basket))) (λ basket. test (filter keeps basket)) (baskets_at ranks runs)
-      (λ index is. ap test (back_again index.basket is.rises)) (recursion_from_All (IsRankBasket rank) (baskets_at ranks runs) are.places))
-      ∙ sym (changed_weight (λ basket. test (decoded kept basket)) (coded kept) (baskets_at ranks runs))
+      ∙ weights (λ basket. test (filter keeps basket))
+      ∙ sym (same_tests_weigh (IsRankBasket count) (λ basket. test (decoded kept (coded kept basket))) (λ basket. test (filter keeps basket)) paths
+      (λ index is. ap test (back_again index.basket is.rises)) (recursion_from_All (IsRankBasket count) paths ranked))
+      ∙ sym (changed_weight (λ basket. test (decoded kept basket)) (coded kept) paths)
       ∙ same (λ basket. test (decoded kept basket))
       ∙ sym (changed_weight test (decoded kept) others)

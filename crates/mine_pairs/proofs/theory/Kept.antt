@@ -1,22 +1,18 @@
 -- The ranks that a conditional database keeps.
-use Rattle.std.proofs.Common.{◌≡◌, ℕ, ◌<◌, ◌≤◌, Bool, true, ◌&&◌, List, [], ◌∷◌, length, leb, map, ltb, refl, ap, ◌∙◌, subst, arith}
+use Rattle.std.proofs.Common.{◌≡◌, ℕ, ◌<◌, ◌≤◌, Bool, true, ◌&&◌, List, [], ◌∷◌, length, leb, map, ltb, refl, ap, ◌∙◌, arith}
 use Rattle.std.specs.List.{range_with_len}
 use Rattle.std.proofs.lemmas.Bool.{and_parts, le-leb, leb-true, ltb-true}
-use Rattle.std.proofs.lemmas.List.Elements.{All-weaker}
 use Rattle.std.proofs.lemmas.List.FromFn.{length-range_with_len}
-use Rattle.basket_ranks.specs.Codes.{IsCodedPlace, IsCoding, MOST_RANKS}
 use Rattle.basket_sets.specs.declared.weighted.Weighted.{Weighted}
 use Rattle.basket_sets.specs.declared.minimum.Minimum.TheVariants.{Count}
 use Rattle.basket_sets.specs.Counts.{AllBelow}
-use Rattle.basket_sets.specs.Database.{HasWeight}
 use Rattle.basket_sets.specs.Frequent.{is_frequent}
 use Rattle.basket_sets.specs.Itemset.{IsRising, has}
 use Rattle.basket_sets.specs.Support.{support_of}
 use Rattle.basket_sets.proofs.theory.Members.{Member, Member-filter, Member-from_filter}
-use Rattle.basket_sets.proofs.theory.Rising.{Member-from_has, has-from_Member, length-le-contains, rising_distinct, same_test}
+use Rattle.basket_sets.proofs.theory.Rising.{Member-from_has, has-from_Member, length-le-contains, same_test}
 use Rattle.basket_sets.proofs.theory.Ranges.{Member-into_range, filtered_range_rises, range_rises}
 use Rattle.mine_classes.specs.Conditional.{is_kept}
-use Rattle.mine_baskets.specs.ListBaskets.{AreRankBaskets, IsRankBasket, RankBaskets}
 use Rattle.mine_pairs.specs.Pairs.{kept_ranks, pairs_of}
 
 -- what has a least support is in one basket or more
@@ -24,17 +20,6 @@ pub met_alone : (least support : ℕ) → 1 ≤ least → (leb 1 support && leb 
 met_alone least support some =
     same_test (leb 1 support && leb least support) (leb least support) (λ h. (and_parts (leb 1 support) (leb least support) h).1)
     (λ h. let high = leb-true least support h in ap (λ b. b && leb least support) (le-leb 1 support (omega arith)) ∙ h)
-
--- baskets of so many ranks are a coding of as many items that rise
-pub coding_of : (items : List ℕ) (least : ℕ) (value : RankBaskets) → IsRising items → length items < MOST_RANKS → AreRankBaskets value → value.ranks ≡ length items
-    → IsCoding (record { items = items; minimum = Count least; baskets = value.baskets })
-coding_of items least value up few are long = record {
-  distinct = rising_distinct items up;
-  few = few;
-  places = All-weaker (IsRankBasket value.ranks) (IsCodedPlace items) (λ index is. (is.rises, subst (λ n. AllBelow n index.basket) long is.below)) value.baskets are.places;
-  weights = All-weaker (IsRankBasket value.ranks) HasWeight (λ index is. is.weighs) value.baskets are.places;
-  light = are.light;
-}
 
 module _ (baskets : List Weighted) (least rank : ℕ) where
   abbrev keeps : ℕ → Bool
@@ -75,8 +60,3 @@ module _ (baskets : List Weighted) (least rank : ℕ) where
       go : (ranks : List ℕ) → map (λ (pair : ℕ × ℕ). pair.0) (map (λ other. (other, support_of baskets (other ∷ rank ∷ []))) ranks) ≡ ranks
       go [] = refl
       go (first ∷ ranks) = ap (λ l. first ∷ l) (go ranks)
-
-  -- baskets of so many ranks are a coding of the ranks that are kept
-  pub conditional_coding : (value : RankBaskets) → AreRankBaskets value → value.ranks ≡ length kept → rank < MOST_RANKS
-      → IsCoding (record { items = kept; minimum = Count least; baskets = value.baskets })
-  conditional_coding value are long few = coding_of kept least value kept_rises (let short = kept_short in omega arith) are long

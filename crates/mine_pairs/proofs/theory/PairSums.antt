@@ -1,5 +1,5 @@
 -- The frequent pairs of ranks.
-use Rattle.std.proofs.Common.{◌≡◌, ℕ, ◌+◌, ◌<◌, Bool, ◌&&◌, List, [], ◌∷◌, ◌++◌, length, get_or, map, refl, sym, ap, ◌∙◌, inl, inr, arith}
+use Rattle.std.proofs.Common.{◌≡◌, ℕ, ◌+◌, ◌<◌, Bool, ◌&&◌, List, [], ◌∷◌, ◌++◌, length, get_or, map, sym, ap, ◌∙◌, inl, inr, arith}
 use Rattle.std.specs.List.{filter, range_with_len}
 use Rattle.std.specs.declared.alloc.Global.{Global}
 use Rattle.std.specs.declared.vec.Vec.{Vec}
@@ -17,13 +17,10 @@ use Rattle.basket_sets.proofs.theory.Members.{Member, Member-filter}
 use Rattle.basket_sets.proofs.theory.Ranges.{Member-range, filter_members}
 use Rattle.mine_classes.specs.Conditional.{is_kept}
 use Rattle.mine_pairs.proofs.theory.Pairs.{same_of_rank}
+use Rattle.mine_pairs.proofs.theory.Sums.{map_members}
 use Rattle.mine_pairs.specs.Pairs.{ArePairs, kept_ranks, lists_of, pairs_of}
 use Rattle.mine_pairs.specs.Runs.{ArePairsOf}
 use Rattle.mine_pairs.specs.Sums.{is_met}
-
-map_same : (f g : ℕ → ℕ × ℕ) (xs : List ℕ) → ((x : ℕ) → Member x xs → f x ≡ g x) → map f xs ≡ map g xs
-map_same f g [] same = refl
-map_same f g (x ∷ xs) same = ap (λ y. y ∷ map f xs) (same x (inl refl)) ∙ ap (λ l. g x ∷ l) (map_same f g xs (λ y m. same y (inr m)))
 
 -- sums that are the supports of the pairs of a rank give its frequent pairs
 pub sums_are_pairs : (baskets : List Weighted) (least rank : ℕ) (sums : List ℕ) → length sums ≡ rank → ((other : ℕ) → other < rank → get_or sums other 0 ≡ support_of baskets (other ∷ rank ∷ []))
@@ -33,7 +30,7 @@ sums_are_pairs baskets least rank sums long are =
     ∙ ap (map (λ other. (other, get_or sums other 0))) (filter_members summed (is_kept baskets least rank) (range_with_len 0 rank) (λ other m.
     let less = within other m in
     ap (is_met least) (are other less) ∙ ap (λ b. b && is_frequent baskets (Count least) (other ∷ rank ∷ [])) (sym (lt-ltb other rank less))))
-    ∙ map_same (λ other. (other, get_or sums other 0)) (λ other. (other, support_of baskets (other ∷ rank ∷ []))) (kept_ranks baskets least rank) (λ other m i.
+    ∙ map_members (λ other. (other, get_or sums other 0)) (λ other. (other, support_of baskets (other ∷ rank ∷ []))) (kept_ranks baskets least rank) (λ other m i.
     (other, are other (within other (Member-filter (is_kept baskets least rank) other (range_with_len 0 rank) m).0) i))
   where
     summed : ℕ → Bool

@@ -6,10 +6,10 @@ use Rattle.std.specs.Ordering.{nat_cmp}
 use Rattle.std.proofs.lemmas.Bool.{cases_Bool, ltb-true, true≢false}
 use Rattle.std.proofs.lemmas.List.{get_or_default, get_or-map, length-map, map-append, take-take, take_more, get_or-take}
 use Rattle.std.proofs.lemmas.List.Kept.{IsStrictlySortedBy-filter}
-use Rattle.std.proofs.lemmas.List.Sums.{sum_by-cons, sum_by_more_le}
+use Rattle.std.proofs.lemmas.List.Sums.{sum_by_more_le}
 use Rattle.basket_sets.specs.declared.weighted.Weighted.{Weighted}
 use Rattle.basket_sets.specs.Database.{MOST_WEIGHT, weighted}
-use Rattle.basket_sets.specs.Itemset.{contains, has}
+use Rattle.basket_sets.specs.Itemset.{has}
 use Rattle.basket_sets.specs.Support.{total_of, weight_at}
 use Rattle.basket_sets.proofs.theory.Members.{Member-filter, Contains-from_Member}
 use Rattle.basket_sets.proofs.theory.Rising.{Member-from_has, has-from_Member}
@@ -20,8 +20,8 @@ use Rattle.mine_baskets.specs.ListBaskets.{IsRankBasket, repeats_last}
 use Rattle.mine_pairs.specs.Runs.{AreRunsOf, HaveRuns, with_run}
 use Rattle.mine_baskets.specs.Span.{span_front}
 use Rattle.mine_baskets.specs.Span.{IsWithin, basket_at, baskets_at}
-use Rattle.mine_classes.proofs.theory.Conditional.{kept_support}
 use Rattle.mine_pairs.proofs.theory.Runs.{length-range}
+use Rattle.mine_pairs.proofs.theory.Sums.{paths_weigh, weights_of}
 use Rattle.mine_pairs.proofs.RunStepLemmas.{below_without, front_is, front_range, heavier_are, heavier_baskets, pushed_are, pushed_repeats, raised_repeats}
 
 -- ---- one basket more
@@ -108,18 +108,11 @@ module _ (ranks : List ℕ) (count : ℕ) (basket : Span) (inside : IsWithin (le
 
 -- ---- the weights of runs
 
-span_weights : (ranks : List ℕ) (runs : List Span) → sum_by (λ (run : Span). run.weight) runs ≡ total_of (baskets_at ranks runs)
-span_weights ranks [] = refl
-span_weights ranks (run ∷ runs) =
-    sum_by-cons (λ (r : Span). r.weight) run runs ∙ ap (λ n. run.weight + n) (span_weights ranks runs)
-    ∙ sym (sum_by-cons (weight_at []) (basket_at ranks run) (baskets_at ranks runs))
-
 pub runs_light : (ranks : List ℕ) (baskets : List Weighted) (i : ℕ) (d : Weighted) (rank : ℕ) (runs : List Span) → i < length baskets → total_of baskets ≤ MOST_WEIGHT
     → AreRunsOf ranks (take i baskets) rank runs → sum_by (λ (run : Span). run.weight) runs + (get_or baskets i d).weight ≤ MOST_WEIGHT
 runs_light ranks baskets i d rank runs here light are =
-    let spans = span_weights ranks runs in
-    let all = are.weights (λ basket. contains basket []) in
-    let kept = kept_support (λ other. ltb other rank) rank [] (take i baskets) in
+    let spans = weights_of ranks runs in
+    let weigh = paths_weigh (take i baskets) rank (baskets_at ranks runs) are.weights in
     let falls = support_falls (take i baskets) (rank ∷ []) [] refl in
     let more = sum_by_more_le (weight_at []) baskets i d here in
     omega arith

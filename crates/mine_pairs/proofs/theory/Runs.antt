@@ -1,5 +1,5 @@
 -- Runs of ranks.
-use Rattle.std.proofs.Common.{◌≡◌, ℕ, ◌+◌, ◌-◌, ◌<◌, Bool, true, false, List, [], ◌∷◌, ◌++◌, length, drop, get_or, set, cond, ltb, sym, ap, ◌∙◌, subst, inl, inr, arith, zero, suc}
+use Rattle.std.proofs.Common.{◌≡◌, ℕ, ◌+◌, ◌-◌, ◌<◌, Bool, true, false, List, [], ◌∷◌, ◌++◌, length, drop, get_or, set, cond, ltb, sym, ap, ◌∙◌, subst, inl, inr, arith, zero, suc, zero-add}
 use Rattle.std.proofs.lemmas.Bool.{cases_lt}
 use Rattle.std.specs.declared.alloc.Global.{Global}
 use Rattle.std.specs.declared.vec.Vec.{Vec}
@@ -7,8 +7,9 @@ use Rattle.std.specs.List.{slice_range}
 use Rattle.mine_baskets.specs.Span.{IsWithin}
 use Rattle.std.proofs.lemmas.List.{length-drop, length-take, get_or-map, get_or-set_same, get_or-set_other, length-map, length-set, map-set}
 use Rattle.basket_sets.specs.Itemset.{IsRising}
+use Rattle.basket_sets.specs.declared.weighted.Weighted.{Weighted}
 use Rattle.mine_baskets.specs.declared.span.Span.{Span}
-use Rattle.mine_pairs.specs.Runs.{HaveRuns, lists_in, with_last_heavier, with_run}
+use Rattle.mine_pairs.specs.Runs.{AreRunsOf, HaveRuns, HaveRunsFrom, lists_in, with_last_heavier, with_run}
 use Rattle.mine_baskets.specs.Span.{span_front}
 use Rattle.basket_sets.proofs.theory.Tests.{rising_at}
 
@@ -36,6 +37,15 @@ lists_in-set of rank v = map-set (λ (w : Vec Span Global). w.items) of rank v
 
 pub length-lists_in : (of : List (Vec Span Global)) → length (lists_in of) ≡ length of
 length-lists_in of = length-map of (λ (v : Vec Span Global). v.items)
+
+-- the runs of a rank, and the list of ranks in which they lie, as they are lent
+pub runs_at : (ranks lent : List ℕ) (baskets : List Weighted) (count : ℕ) (of : List (Vec Span Global)) (rank : ℕ) (own : Vec Span Global) (runs : List Span)
+    → HaveRunsFrom 0 count ranks baskets (lists_in of) → rank < count → own ≡ get_or of rank own → runs ≡ own.items → lent ≡ ranks → AreRunsOf lent baskets rank runs
+runs_at ranks lent baskets count of rank own runs have here is same lends =
+    let list = list_at of rank own (omega (arith, here, have.long, length-lists_in of)) in
+    subst (λ l. AreRunsOf l baskets rank runs) (sym lends)
+    (subst (AreRunsOf ranks baskets rank) (list ∙ ap (λ (v : Vec Span Global). v.items) (sym is) ∙ sym same)
+    (subst (λ r. AreRunsOf ranks baskets r (get_or (lists_in of) rank [])) (zero-add rank) (have.are rank here)))
 
 -- ---- the runs of each rank
 

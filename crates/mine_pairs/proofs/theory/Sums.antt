@@ -3,7 +3,6 @@ use Rattle.std.proofs.Common.{◌≡◌, ℕ, ◌+◌, ◌<◌, ◌≤◌, Bool,
 use Rattle.std.specs.List.{filter, range_with_len, sum_by}
 use Rattle.std.proofs.lemmas.Bool.{and_parts, leb-true, ltb-true}
 use Rattle.std.proofs.lemmas.List.{take_more}
-use Rattle.std.proofs.lemmas.List.Elements.{All-weaker}
 use Rattle.std.proofs.lemmas.List.Sums.{sum_by-cons, sum_by-append, sum_by-le-sum_by, sum_by_more_le}
 use Rattle.basket_sets.specs.declared.weighted.Weighted.{Weighted}
 use Rattle.basket_sets.specs.declared.minimum.Minimum.TheVariants.{Count}
@@ -17,16 +16,16 @@ use Rattle.basket_sets.proofs.theory.Support.{support-cons, support_falls}
 use Rattle.basket_sets.proofs.theory.Ranges.{Member-into_range, Member-range, filtered_range_rises}
 use Rattle.mine_baskets.specs.declared.span.Span.{Span}
 use Rattle.mine_classes.specs.Conditional.{is_kept}
-use Rattle.mine_baskets.specs.ListBaskets.{AreRankBaskets, IsRankBasket}
+use Rattle.mine_baskets.specs.ListBaskets.{HaveSameWeights}
 use Rattle.mine_pairs.specs.Sums.{AreSums, is_met, ranks_met, weight_with}
 use Rattle.mine_pairs.specs.Pairs.{kept_ranks, pairs_of}
-use Rattle.mine_pairs.specs.Runs.{AreRunsOf, below}
+use Rattle.mine_pairs.specs.Runs.{below}
 use Rattle.mine_baskets.specs.Span.{basket_at, baskets_at}
 use Rattle.mine_classes.proofs.theory.Conditional.{kept_support}
 
 -- ---- sums
 
-abbrev weigh : ℕ → Weighted → ℕ
+abbrev pub weigh : ℕ → Weighted → ℕ
 weigh rank index = cond (has index.basket rank) index.weight 0
 
 at_most_weight : (b : Bool) (n : ℕ) → cond b n 0 ≤ n
@@ -47,7 +46,7 @@ sum_more baskets i rank d here =
 
 -- ---- lists of members
 
-map_members : {K J : Type 0} (f g : K → J) (xs : List K) → ((x : K) → Member x xs → f x ≡ g x) → map f xs ≡ map g xs
+pub map_members : {K J : Type 0} (f g : K → J) (xs : List K) → ((x : K) → Member x xs → f x ≡ g x) → map f xs ≡ map g xs
 map_members f g [] same = refl
 map_members f g (x ∷ xs) same = ap (λ y. y ∷ map f xs) (same x (inl refl)) ∙ ap (λ l. g x ∷ l) (map_members f g xs (λ y m. same y (inr m)))
 
@@ -101,35 +100,35 @@ and_every false = refl
 
 -- ---- the pairs of a rank
 
-weights_of : (ranks : List ℕ) (runs : List Span) → support_of (baskets_at ranks runs) [] ≡ sum_by (λ (run : Span). run.weight) runs
+pub weights_of : (ranks : List ℕ) (runs : List Span) → total_of (baskets_at ranks runs) ≡ sum_by (λ (run : Span). run.weight) runs
 weights_of ranks [] = refl
 weights_of ranks (run ∷ runs) =
     support-cons (basket_at ranks run) (baskets_at ranks runs) [] ∙ ap (λ n. run.weight + n) (weights_of ranks runs) ∙ sym (sum_by-cons (λ (r : Span). r.weight) run runs)
 
-module _ (ranks : List ℕ) (baskets : List Weighted) (rank : ℕ) (runs : List Span) (are : AreRunsOf ranks baskets rank runs) where
-  pair_weight : (other : ℕ) → weight_with other (baskets_at ranks runs) ≡ cond (ltb other rank) (support_of baskets (other ∷ rank ∷ [])) 0
+module _ (baskets : List Weighted) (rank : ℕ) (paths : List Weighted) (same : HaveSameWeights (below rank baskets) paths) where
+  pair_weight : (other : ℕ) → weight_with other paths ≡ cond (ltb other rank) (support_of baskets (other ∷ rank ∷ [])) 0
   pair_weight other =
-      sym (are.weights (λ basket. has basket other))
+      sym (same (λ basket. has basket other))
       ∙ same_sums (weigh other) (weight_at (other ∷ [])) (below rank baskets) (λ index. ap (λ b. cond b index.weight 0) (sym (and_every (has index.basket other))))
       ∙ kept_support (λ o. ltb o rank) rank (other ∷ []) baskets
       ∙ ap (λ b. cond b (support_of baskets (other ∷ rank ∷ [])) 0) (and_every (ltb other rank))
 
-  met_is_kept : (least other : ℕ) → is_met least (weight_with other (baskets_at ranks runs)) ≡ is_kept baskets least rank other
+  met_is_kept : (least other : ℕ) → is_met least (weight_with other paths) ≡ is_kept baskets least rank other
   met_is_kept least other = ap (is_met least) (pair_weight other) ∙ at (ltb other rank)
     where
       at : (b : Bool) → is_met least (cond b (support_of baskets (other ∷ rank ∷ [])) 0) ≡ (b && is_frequent baskets (Count least) (other ∷ rank ∷ []))
       at true = refl
       at false = refl
 
-  pub pairs_are : (count least : ℕ) → rank ≤ count → ranks_met count least (baskets_at ranks runs) ≡ pairs_of baskets least rank
+  pub pairs_are : (count least : ℕ) → rank ≤ count → ranks_met count least paths ≡ pairs_of baskets least rank
   pairs_are count least within =
-      map_members (λ other. (other, weight_with other (baskets_at ranks runs))) (λ other. (other, support_of baskets (other ∷ rank ∷ []))) (filter met (range_with_len 0 count))
+      map_members (λ other. (other, weight_with other paths)) (λ other. (other, support_of baskets (other ∷ rank ∷ []))) (filter met (range_with_len 0 count))
       (λ other m. λ i. (other, (pair_weight other ∙ ap (λ b. cond b (support_of baskets (other ∷ rank ∷ [])) 0) (lower other (Member-filter met other (range_with_len 0 count) m).1)) i))
       ∙ ap (map (λ other. (other, support_of baskets (other ∷ rank ∷ []))))
       (same_rising (filter met (range_with_len 0 count)) (kept_ranks baskets least rank) (filtered_range_rises met 0 count) (filtered_range_rises (is_kept baskets least rank) 0 rank) into back)
     where
       met : ℕ → Bool
-      met other = is_met least (weight_with other (baskets_at ranks runs))
+      met other = is_met least (weight_with other paths)
 
       lower : (other : ℕ) → met other ≡ true → ltb other rank ≡ true
       lower other h = (and_parts (ltb other rank) (is_frequent baskets (Count least) (other ∷ rank ∷ [])) (sym (met_is_kept least other) ∙ h)).0
@@ -147,17 +146,9 @@ module _ (ranks : List ℕ) (baskets : List Weighted) (rank : ℕ) (runs : List 
           let high = r.1 in
           Member-from_filter met other (range_with_len 0 count) (Member-into_range 0 count other (omega arith) (omega arith)) (met_is_kept least other ∙ p.1)
 
-  -- the weights of a rank's runs add up to its support
-  pub runs_weigh : sum_by (λ (run : Span). run.weight) runs ≡ support_of baskets (rank ∷ [])
-  runs_weigh = sym (weights_of ranks runs) ∙ sym (are.weights (λ _. true)) ∙ kept_support (λ o. ltb o rank) rank [] baskets
+  -- the weights of a rank's paths add up to its support
+  pub paths_weigh : total_of paths ≡ support_of baskets (rank ∷ [])
+  paths_weigh = sym (same (λ basket. contains basket [])) ∙ kept_support (λ o. ltb o rank) rank [] baskets
 
-  -- the paths of a rank are baskets of ranks
-  pub runs_ranked : (count : ℕ) → rank ≤ count → total_of baskets ≤ MOST_WEIGHT → AreRankBaskets (record { ranks = count; baskets = baskets_at ranks runs })
-  runs_ranked count within light = record {
-    places = All-weaker (IsRankBasket rank) (IsRankBasket count)
-        (λ index is. record { rises = is.rises; below = λ item h. (let less = is.below item h in omega arith); weighs = is.weighs }) (baskets_at ranks runs) are.places;
-    light = (let all = are.weights (λ basket. contains basket []) in
-        let kept = kept_support (λ o. ltb o rank) rank [] baskets in
-        let falls = support_falls baskets (rank ∷ []) [] refl in
-        omega arith);
-  }
+  pub paths_light : total_of baskets ≤ MOST_WEIGHT → total_of paths ≤ MOST_WEIGHT
+  paths_light light = omega (arith, light, paths_weigh, support_falls baskets (rank ∷ []) [] refl)

@@ -16,7 +16,9 @@ use Rattle.basket_sets.proofs.theory.Members.{All-from_Member, Contains-from_Mem
 use Rattle.basket_sets.proofs.theory.Rising.{contains_each}
 use Rattle.basket_sets.proofs.theory.Support.{support_falls}
 use Rattle.mine_classes.specs.Classes.{ListsClass, ends_in}
-use Rattle.mine_classes.specs.Mined.{ListsClassItems, ListsHaveClassSize, class_size}
+use Rattle.mine_classes.specs.Mined.{ListsClassItems, class_size}
+use Rattle.mine_classes.proofs.theory.Classes.{IsOfRank}
+use Rattle.mine_classes.proofs.theory.Listed.{lists_have_class_size}
 use Rattle.mine_search.specs.Class.{IsOver, class_sets}
 use Rattle.mine_search.specs.Node.{Supports, is_met}
 use Rattle.mine_search.specs.Search.{found_at}
@@ -48,7 +50,7 @@ module _ {coding : Coding} {over : Supports} (is : IsOver coding over) (rank : �
       map_same (set ∷ list) = ap (λ l. set ∷ l) (map_same list)
 
   abbrev IsOfClass : Counted → Type 0
-  IsOfClass c = IsNonemptySet c.set × (ends_in rank c.set ≡ true) × (is_frequent coding.baskets coding.minimum c.set ≡ true) × (c.count ≡ support_of coding.baskets c.set)
+  IsOfClass = IsOfRank coding.baskets coding.minimum rank
 
   module _ (frequent : is_met over (rank ∷ []) ≡ true) where
     all_sound : (list : List (List ℕ)) → ((set : List ℕ) → Member set list → IsNonemptySet set × (ends_in rank set ≡ true) × (is_met over set ≡ true)) → (c : Counted) → Member c (map counted_set list) → IsOfClass c
@@ -72,9 +74,9 @@ module _ {coding : Coding} {over : Supports} (is : IsOver coding over) (rank : �
     }
 
     -- as many sets are listed as the class has
-    pub as_many : ListsHaveClassSize → length sets ≡ class_size coding rank
-    as_many law = sym (length-map sets (found_at over)) ∙ law coding rank (map (found_at over) sets) (lists (map (found_at over) sets) refl)
+    pub as_many : length sets ≡ class_size coding rank
+    as_many = sym (length-map sets (found_at over)) ∙ lists_have_class_size coding rank (map (found_at over) sets) (lists (map (found_at over) sets) refl)
 
     -- it has one or more
-    pub class_some : ListsHaveClassSize → 1 ≤ class_size coding rank
-    class_some law = let same = as_many law in omega (arith, same)
+    pub class_some : 1 ≤ class_size coding rank
+    class_some = omega (arith, as_many)

@@ -145,11 +145,11 @@ rises_alone items item up none = rises_above items item up (above_none items ite
 abbrev pub no_group : Group
 no_group = record { prefix = []; items = [] }
 
-pub prefix_read : (groups : List Group) (list : List (List ℕ)) (place : ℕ) (read : List ℕ) → list ≡ prefixes_of groups → place < length groups → read ≡ get_or list place read → read ≡ (get_or groups place no_group).prefix
-prefix_read groups list place read same below is = is ∙ ap (λ l. get_or l place read) same ∙ get_or-map (λ (group : Group). group.prefix) groups place no_group read below
+pub prefix_read : (groups : List Group) (list : List (List ℕ)) (index : ℕ) (read : List ℕ) → list ≡ prefixes_of groups → index < length groups → read ≡ get_or list index read → read ≡ (get_or groups index no_group).prefix
+prefix_read groups list index read same below is = is ∙ ap (λ l. get_or l index read) same ∙ get_or-map (λ (group : Group). group.prefix) groups index no_group read below
 
-pub items_read : (groups : List Group) (list : List (List ℕ)) (place : ℕ) (read : List ℕ) → list ≡ lists_of groups → place < length groups → read ≡ get_or list place read → read ≡ (get_or groups place no_group).items
-items_read groups list place read same below is = is ∙ ap (λ l. get_or l place read) same ∙ get_or-map (λ (group : Group). group.items) groups place no_group read below
+pub items_read : (groups : List Group) (list : List (List ℕ)) (index : ℕ) (read : List ℕ) → list ≡ lists_of groups → index < length groups → read ≡ get_or list index read → read ≡ (get_or groups index no_group).items
+items_read groups list index read same below is = is ∙ ap (λ l. get_or l index read) same ∙ get_or-map (λ (group : Group). group.items) groups index no_group read below
 
 pub groups_long : (groups : List Group) → length (prefixes_of groups) ≡ length groups
 groups_long groups = length-map groups (λ group. group.prefix)
@@ -165,26 +165,26 @@ range_all groups = ap (λ n. take n groups) (let e : length groups - 0 ≡ lengt
 pub range_long : (groups : List Group) (start end : ℕ) → end ≤ length groups → length (slice_range groups start end) ≡ end - start
 range_long groups start end within = length-take-le (end - start) (drop start groups) (let d = length-drop start groups in omega (arith, within, d))
 
-pub range_at : (groups : List Group) (start end place : ℕ) (d : Group) → start ≤ place → place < end → get_or (slice_range groups start end) (place - start) d ≡ get_or groups place d
-range_at groups start end place d from below =
-    let back : start + (place - start) ≡ place = omega (arith, from) in
-    get_or-take (end - start) (drop start groups) (place - start) d (omega (arith, from, below)) ∙ get_or-drop start groups (place - start) d ∙ ap (λ k. get_or groups k d) back
+pub range_at : (groups : List Group) (start end index : ℕ) (d : Group) → start ≤ index → index < end → get_or (slice_range groups start end) (index - start) d ≡ get_or groups index d
+range_at groups start end index d from below =
+    let back : start + (index - start) ≡ index = omega (arith, from) in
+    get_or-take (end - start) (drop start groups) (index - start) d (omega (arith, from, below)) ∙ get_or-drop start groups (index - start) d ∙ ap (λ k. get_or groups k d) back
 
 -- one prefix more
-pub range_more : (groups : List Group) (start place : ℕ) (d : Group) → start ≤ place → place < length groups → slice_range groups start (place + 1) ≡ slice_range groups start place ++ get_or groups place d ∷ []
-range_more groups start place d from below =
-    let next : place + 1 - start ≡ (place - start) + 1 = omega (arith, from) in
-    let back : start + (place - start) ≡ place = omega (arith, from) in
+pub range_more : (groups : List Group) (start index : ℕ) (d : Group) → start ≤ index → index < length groups → slice_range groups start (index + 1) ≡ slice_range groups start index ++ get_or groups index d ∷ []
+range_more groups start index d from below =
+    let next : index + 1 - start ≡ (index - start) + 1 = omega (arith, from) in
+    let back : start + (index - start) ≡ index = omega (arith, from) in
     let long = length-drop start groups in
-    ap (λ n. take n (drop start groups)) next ∙ take_more (drop start groups) (place - start) d (omega (arith, from, below, long))
-    ∙ ap (λ g. slice_range groups start place ++ g ∷ []) (get_or-drop start groups (place - start) d ∙ ap (λ k. get_or groups k d) back)
+    ap (λ n. take n (drop start groups)) next ∙ take_more (drop start groups) (index - start) d (omega (arith, from, below, long))
+    ∙ ap (λ g. slice_range groups start index ++ g ∷ []) (get_or-drop start groups (index - start) d ∙ ap (λ k. get_or groups k d) back)
 
-pub count_more : (groups : List Group) (start place : ℕ) (d : Group) → start ≤ place → place < length groups
-    → length (sets_of (slice_range groups start (place + 1))) ≡ length (sets_of (slice_range groups start place)) + length (get_or groups place d).items
-count_more groups start place d from below =
-    let group = get_or groups place d in
-    let front = slice_range groups start place in
-    let more = ap (λ g. length (sets_of g)) (range_more groups start place d from below) ∙ ap length (sets_push front group.prefix group.items)
+pub count_more : (groups : List Group) (start index : ℕ) (d : Group) → start ≤ index → index < length groups
+    → length (sets_of (slice_range groups start (index + 1))) ≡ length (sets_of (slice_range groups start index)) + length (get_or groups index d).items
+count_more groups start index d from below =
+    let group = get_or groups index d in
+    let front = slice_range groups start index in
+    let more = ap (λ g. length (sets_of g)) (range_more groups start index d from below) ∙ ap length (sets_push front group.prefix group.items)
     ∙ length-append (sets_of front) (extend group.prefix group.items) in
     omega (arith, more, length-map group.items (λ item. group.prefix ++ item ∷ []))
 

@@ -2,13 +2,11 @@
 use Rattle.std.proofs.Common.{◌≡◌, ◌≢◌, ℕ, ◌<◌, ◌≤◌, true, List, [], ◌∷◌, ◌++◌, length, filter, take, get_or, cond, refl, sym, ap, ◌∙◌, subst, inl, inr, arith, suc}
 use Rattle.std.specs.declared.cmp.Ordering.{Ordering}
 use Rattle.std.specs.declared.cmp.Ordering.TheVariants.{Less, Equal, Greater}
-use Rattle.std.specs.Cmp.{nat_cmp_total}
 use Rattle.std.specs.Cmp.Lexicographic.{slice_cmp, nat_list_cmp_total}
 use Rattle.std.specs.List.{All}
 use Rattle.std.specs.List.Sorted.{IsStrictlySortedBy}
 use Rattle.std.specs.Ordering.{nat_cmp, ordering_then}
 use Rattle.std.proofs.lemmas.Bool.Decides.{nat_tests}
-use Rattle.std.proofs.lemmas.Cmp.{tied_itself}
 use Rattle.std.proofs.lemmas.List.{get_or-take, get_or_default, length-take, length_push, map-append}
 use Rattle.std.proofs.lemmas.List.Elements.{All-append, All-from_recursion, All-take, recursion_from_All}
 use Rattle.std.proofs.lemmas.Map.Keys.{Less-from_sorted}
@@ -17,6 +15,7 @@ use Rattle.basket_sets.specs.Itemset.{IsRising}
 use Rattle.basket_sets.specs.Order.{IsInReportOrder, report_order}
 use Rattle.basket_sets.proofs.theory.Members.{Contains-from_Member, Member, Member-append, Member-append_right, Member-map, All-from_Member, at_Member, sorted_append}
 use Rattle.basket_sets.proofs.theory.Rising.{Less-from_lt, cons_rises, lt-from_Less, nil_rises}
+use Rattle.basket_sets.proofs.theory.Subsets.{same_head, same_order}
 use Rattle.mine_supports.specs.Extensions.{AreGrouped, Group, extend, has_items, is_some, prefixes_of}
 use Rattle.mine_supports.specs.Sizes.{AreOfOneSize, AreOfSize, IsRegular}
 
@@ -48,13 +47,6 @@ pub all_some : (sets : List (List ℕ)) → AreOfOneSize sets → filter is_some
 all_some sets sized = each_some sized.0 sets sized.1 sized.2
 
 -- ---- order
-
--- sets of one size are in report order as they are in lexicographic order
-pub same_order : (a b : List ℕ) → length a ≡ length b → report_order a b ≡ slice_cmp nat_cmp a b
-same_order a b e = ap (λ n. ordering_then (nat_cmp n (length b)) (slice_cmp nat_cmp a b)) e ∙ ap (λ o. ordering_then o (slice_cmp nat_cmp a b)) (tied_itself nat_cmp_total (length b))
-
-same_head : (z : ℕ) (a b : List ℕ) → slice_cmp nat_cmp (z ∷ a) (z ∷ b) ≡ slice_cmp nat_cmp a b
-same_head z a b = ap (λ o. ordering_then o (slice_cmp nat_cmp a b)) (tied_itself nat_cmp_total z)
 
 then_less : (o p q : Ordering) → (o ≡ Equal → p ≡ Less → q ≡ Less) → ordering_then o p ≡ Less → ordering_then o q ≡ Less
 then_less Less p q f e = refl
@@ -94,8 +86,8 @@ front_less (x ∷ a) (y ∷ b) u v e differ h =
     (λ is less. front_less a b u v (omega (arith, e)) (λ same. differ (λ i. equal x y is i ∷ same i)) less) h
 
 -- what stands before an index of sets in order is less
-before_place : (sets : List (List ℕ)) (i : ℕ) (set d : List ℕ) → IsInReportOrder sets → i < length sets → Member set (take i sets) → report_order set (get_or sets i d) ≡ Less
-before_place sets i set d up here m =
+before_index : (sets : List (List ℕ)) (i : ℕ) (set d : List ℕ) → IsInReportOrder sets → i < length sets → Member set (take i sets) → report_order set (get_or sets i d) ≡ Less
+before_index sets i set d up here m =
     let at = Contains-from_Member set (take i sets) m in
     let low : at.0 < i = let below = at.1 in omega (arith, length-take i sets) in
     subst (λ s. report_order s (get_or sets i d) ≡ Less) (sym (get_or-take i sets at.0 set low) ∙ at.2)
@@ -195,7 +187,7 @@ are_before sets i set before ends regular here is are = record { long = long; le
 
     less : (other : List ℕ) → Member other ends → slice_cmp nat_cmp other set ≡ Less
     less other m =
-        sym (same_order other set (long other m)) ∙ ap (report_order other) is ∙ before_place sets i other set regular.1 here (taken other m)
+        sym (same_order other set (long other m)) ∙ ap (report_order other) is ∙ before_index sets i other set regular.1 here (taken other m)
 
 -- a greater set with the same prefix has a greater last item
 pub item_rises : (prefix items : List ℕ) (item : ℕ) → AreBefore (extend prefix items) (prefix ++ item ∷ []) → IsRising items → IsRising (items ++ item ∷ [])

@@ -20,23 +20,23 @@ nowhere items item none = elim (cases_Bool (has items item)) [
   | inr e ↦ e
 ]
 
--- an item is missing from rising ones that is above all before a place and below what stands at it
-pub missing : (items : List ℕ) (item place : ℕ) → IsRising items → ((k : ℕ) → k < place → k < length items → get_or items k 0 < item)
-    → (place < length items → item < get_or items place 0) → has items item ≡ false
-missing items item place up below after = nowhere items item (λ k within e. elim (cases_lt k place) [
+-- an item is missing from rising ones that is above all before an index and below what stands at it
+pub missing : (items : List ℕ) (item index : ℕ) → IsRising items → ((k : ℕ) → k < index → k < length items → get_or items k 0 < item)
+    → (index < length items → item < get_or items index 0) → has items item ≡ false
+missing items item index up below after = nowhere items item (λ k within e. elim (cases_lt k index) [
   | inl less ↦ let l = below k less within in absurd (omega arith)
-  | inr le ↦ let l = after (omega arith) in let more = non_decreasing_from_sorted items up place k 0 le within in absurd (omega arith)
+  | inr le ↦ let l = after (omega arith) in let more = non_decreasing_from_sorted items up index k 0 le within in absurd (omega arith)
 ])
 
--- only what stands before the place and at it needs to be looked at
-pub missing_at : (items : List ℕ) (item place : ℕ) → IsRising items → place ≤ length items → (0 < place → get_or items (place - 1) 0 < item)
-    → (place < length items → item < get_or items place 0) → has items item ≡ false
-missing_at items item place up short before after = missing items item place up
-    (λ k low here. let less = before (omega arith) in let le = non_decreasing_from_sorted items up k (place - 1) 0 (omega arith) (omega arith) in omega arith) after
+-- only what stands before the index and at it needs to be looked at
+pub missing_at : (items : List ℕ) (item index : ℕ) → IsRising items → index ≤ length items → (0 < index → get_or items (index - 1) 0 < item)
+    → (index < length items → item < get_or items index 0) → has items item ≡ false
+missing_at items item index up short before after = missing items item index up
+    (λ k low here. let less = before (omega arith) in let le = non_decreasing_from_sorted items up k (index - 1) 0 (omega arith) (omega arith) in omega arith) after
 
--- an item stands at one place of rising ones
-one_place : (items : List ℕ) (j k : ℕ) → IsRising items → j < length items → k < length items → get_or items j 0 ≡ get_or items k 0 → j ≡ k
-one_place items j k up here there e = elim (cases_lt j k) [
+-- an item stands at one index of rising ones
+one_index : (items : List ℕ) (j k : ℕ) → IsRising items → j < length items → k < length items → get_or items j 0 ≡ get_or items k 0 → j ≡ k
+one_index items j k up here there e = elim (cases_lt j k) [
   | inl less ↦ absurd (let l = rising_at items j k up less there in omega arith)
   | inr le ↦ elim (cases_eq j k) [ inl same ↦ same | inr differ ↦ absurd (let l = rising_at items k j up (omega arith) here in omega arith) ]
 ]
@@ -52,7 +52,7 @@ has_number used items numbers k up are within =
     let m = Member-from_filter (has used) item items (Member-from_has items item h) (has_place used k within) in
     let p = Member-from_map (λ n. get_or used n 0) item numbers (subst (Member item) (sym are.named) m) in
     let below = at_Member (λ n. n < length used) p.0 numbers (recursion_from_All (λ n. n < length used) numbers are.below) p.1 in
-    has-from_Member numbers k (subst (λ n. Member n numbers) (one_place used p.0 k up below within p.2) p.1))
+    has-from_Member numbers k (subst (λ n. Member n numbers) (one_index used p.0 k up below within p.2) p.1))
 
 -- one item more
 pub number_more : (used items numbers : List ℕ) (i number : ℕ) → i < length items → number < length used → get_or used number 0 ≡ get_or items i 0

@@ -1,5 +1,5 @@
 use Rattle.std.proofs.Common.{◌≡◌, ℕ, ◌<◌, ◌≤◌, ◌-◌, length, get_or, false}
-use Rattle.basket_csv.specs.Plain.{ends_field}
+use Rattle.basket_csv.specs.Field.{ends_field}
 use Rattle.basket_csv.proofs.field.field_end.Given as goal
 
 abbrev pub invariant-lanes : goal.invariant-lanes

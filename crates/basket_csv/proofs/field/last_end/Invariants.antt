@@ -1,5 +1,5 @@
 use Rattle.std.proofs.Common.{◌≡◌, ℕ, ◌<◌, get_or, false}
-use Rattle.basket_csv.specs.Plain.{ends_field}
+use Rattle.basket_csv.specs.Field.{ends_field}
 use Rattle.basket_csv.proofs.field.last_end.Given as goal
 
 abbrev pub invariant-loop-index : goal.invariant-loop-index

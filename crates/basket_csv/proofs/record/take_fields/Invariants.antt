@@ -1,7 +1,7 @@
 use Rattle.std.proofs.Common.{◌≡◌, [], length, map}
 use Rattle.csv.specs.Machine.{next_record}
 use Rattle.csv.specs.declared.parser.State.TheVariants as st
-use Rattle.basket_csv.specs.Records.{config_of}
+use Rattle.basket_csv.specs.Record.{config_of}
 use Rattle.basket_csv.proofs.record.take_fields.Given as goal
 
 abbrev pub invariant-fields : goal.invariant-fields

@@ -1,11 +1,13 @@
-use Rattle.std.proofs.Common.{◌∙◌, length, subst}
-use Rattle.basket_mining.specs.Classes.{IsJoins}
-use Rattle.mine_phases.specs.Classes.{IsWorkOfAll}
-use Rattle.basket_mining.proofs.MiningLemmas.{joins_are}
+use Rattle.std.proofs.Common.{◌∙◌, ap, length, subst, sym}
+use Rattle.std.specs.List.{range_with_len, sum_by}
+use Rattle.mine_classes.specs.Mined.{RanksAreFrequent}
+use Rattle.mine_vertical.specs.Joins.{class_joins, joins_of}
+use Rattle.basket_mining.proofs.MiningLemmas.{ranks_are_frequent}
 use Rattle.basket_mining.proofs.mining.by_eclat.Goals as goal
 
 pub returns-clause-work : goal.returns-clause-work
 returns-clause-work g c database minimum made =
-    let work = subst (λ k. IsWorkOfAll (IsJoins k) (length c.args.coded.now.items) c.in_ok-frequent.joins) c.in_ok-of_runs.ensures c.in_ok-frequent.ensures.work in
-    let count = joins_are database minimum c.args.coded.now made c.in_ok-frequent.joins c.coded_ranks_are_frequent.ensures c.class_joins_add_up.ensures work in
+    let coding = c.args.coded.now in
+    let work = c.in_ok-frequent.ensures.work (subst RanksAreFrequent (sym c.in_ok-of_runs.ensures) (ranks_are_frequent database minimum coding made)) ∙ (λ i. sum_by (class_joins (c.in_ok-of_runs.ensures i)) (range_with_len 0 (length coding.items))) in
+    let count = work ∙ c.class_joins_add_up.ensures coding ∙ ap joins_of made in
     c.of_joins.ensures ∙ (λ i. record { candidates = 0; joins = count i; trees = 0 })

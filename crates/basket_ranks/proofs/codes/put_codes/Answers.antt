@@ -3,12 +3,12 @@ use Rattle.std.proofs.lemmas.List.{length-set}
 use Rattle.basket_ranks.proofs.CodeLemmas.{coded_more}
 use Rattle.basket_ranks.proofs.codes.put_codes.Goals as goal
 
-pub loop-place-preserved : goal.loop-place-preserved
-loop-place-preserved c =
-    let now = c.loop-place.baskets in
-    let k = c.loop-place.place in
-    let below : k < length c.args.baskets.now = omega (arith, c.loop-place-test.true, c.loop-place.invariant.long) in
+pub loop-index-preserved : goal.loop-index-preserved
+loop-index-preserved c =
+    let now = c.loop-index.baskets in
+    let k = c.loop-index.index in
+    let below : k < length c.args.baskets.now = omega (arith, c.loop-index-test.true, c.loop-index.invariant.long) in
     record {
-      long = length-set now k _ ∙ c.loop-place.invariant.long;
-      coded = coded_more c.args.codes.now.items c.args.baskets.now now k c.index-baskets-place.result c.put_ranks.new.place below c.loop-place.invariant.coded c.put_ranks.ensures;
+      long = length-set now k _ ∙ c.loop-index.invariant.long;
+      coded = coded_more c.args.codes.now.items c.args.baskets.now now k c.index-baskets-index.result c.put_ranks.new.weighted below c.loop-index.invariant.coded c.put_ranks.ensures;
     }

@@ -1,9 +1,9 @@
-use Rattle.std.proofs.Common.{◌≡◌, ◌++◌, ℕ, List, [], Option, take, length, length-append, unwrap_or, Err, refl, sym, ap, ◌∙◌, subst, arith}
+use Rattle.std.proofs.Common.{◌≡◌, ◌++◌, ℕ, List, Option, take, length, length-append, unwrap_or, Err, sym, ap, ◌∙◌, subst, arith}
 use Rattle.std.proofs.lemmas.List.{length-take}
 use Rattle.std.proofs.lemmas.Result.{err_from_is_err_and}
 use Rattle.std.specs.Io.KnownBytes.{Consumes}
 use Rattle.basket_read.specs.declared.fault.ReadFault.TheVariants.{Read}
-use Rattle.std.proofs.KnownBytes.{Consumes-nil, Consumes-trans, Keeps-refl}
+use Rattle.std.proofs.KnownBytes.{Consumes-trans}
 use Rattle.basket_read.proofs.ReadLemmas.{ended, some_gathered, stopped, stops_failed, stops_fault}
 use Rattle.basket_read.proofs.batches.read_batches.Goals as goal
 
@@ -26,7 +26,7 @@ returns-then-failed-clause-read g c =
     let read = c.reading.invariant.read in
     let batch = take c.in_ok-count.count c.deref.result.now in
     let on = c.in_ok-take.ensures c.args.counting read.0 read.2 in
-    stops_failed _ _ _ _ (read.0 ++ batch) c.unwrap_or.result (sym c.failed.ensures ∙ c.if-failed.true) (taken_in _ _ _ read.0 _ _ c.in_ok-count.count c.deref.ensures.value read.1 c.in_ok-count.ensures.given) (Keeps-refl _)
+    stops_failed _ _ _ (read.0 ++ batch) c.unwrap_or.result (sym c.failed.ensures ∙ c.if-failed.true) (taken_in _ _ _ read.0 _ _ c.in_ok-count.count c.deref.ensures.value read.1 c.in_ok-count.ensures.given)
     (c.unwrap_or.ensures ∙ ap (λ found. unwrap_or found Read) (c.fault_so_far.ensures c.args.counting (read.0 ++ batch) on))
 
 pub returns-then-count-most-clause-read : goal.returns-then-count-most-clause-read
@@ -35,7 +35,7 @@ returns-then-count-most-clause-read g c =
     let batch = take c.in_ok-count.count c.deref.result.now in
     let on = c.in_ok-take.ensures c.args.counting read.0 read.2 in
     let working = sym c.failed.ensures ∙ c.if-failed.false in
-    ended c.args.counting _ _ _ _ (read.0 ++ batch) [] c.finish.result working (taken_in _ _ _ read.0 _ _ c.in_ok-count.count c.deref.ensures.value read.1 c.in_ok-count.ensures.given) (Consumes-nil _) refl
+    ended c.args.counting _ _ _ (read.0 ++ batch) c.finish.result working (taken_in _ _ _ read.0 _ _ c.in_ok-count.count c.deref.ensures.value read.1 c.in_ok-count.ensures.given)
     (c.in_ok-count.ensures.ended working c.if-count-most.true) (c.finish.ensures c.args.counting (read.0 ++ batch) on)
 
 pub returns-then-count-most-clause-some : goal.returns-then-count-most-clause-some

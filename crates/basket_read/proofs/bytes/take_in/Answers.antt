@@ -2,6 +2,7 @@ use Rattle.std.proofs.Common.{◌≡◌, ◌+◌, ◌<◌, ◌≤◌, ◌++◌, 
 use Rattle.std.specs.Prelude.{IfSome}
 use Rattle.std.specs.Io.KnownBytes.{Consumes, IsAtEnd}
 use Rattle.std.proofs.lemmas.List.{length-take-le}
+use Rattle.std.proofs.lemmas.Grind.{common_steps}
 use Rattle.basket_read.specs.Fimi.{MOST_BYTES}
 use Rattle.basket_read.specs.Bytes.{AreTakenOf}
 use Rattle.basket_read.proofs.bytes.take_in.Goals as goal
@@ -14,8 +15,4 @@ taken (Some all) (Some rest) bytes buffer count p e within end =
     let size = ap length e ∙ length-take-le count buffer within in (rest, p ∙ ap (λ l. l ++ rest) (sym e), λ few. end (omega arith))
 
 pub returns-clause-taken : goal.returns-clause-taken
-returns-clause-taken g c =
-    let working = sym c.failed.ensures ∙ c.if-failed.false in (
-      working,
-      taken _ _ c.truncate.new.self.items c.fill.new.buffer.items c.in_ok-count.count c.in_ok-count.ensures.given c.truncate.ensures.items c.in_ok-count.ensures.within (c.in_ok-count.ensures.ended working),
-    )
+returns-clause-taken g c = grind (arith, common_steps, taken)

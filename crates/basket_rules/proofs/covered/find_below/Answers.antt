@@ -1,6 +1,6 @@
 use Rattle.std.proofs.Common.{rules, ◌≡◌, length, get_or, ap, ◌∙◌, arith}
 use Rattle.std.proofs.lemmas.List.{get_or_default}
-use Rattle.basket_order.specs.declared.place_table.TheConstants.{NOWHERE}
+use Rattle.basket_order.specs.declared.index_table.TheConstants.{NOWHERE}
 use Rattle.basket_rules.specs.Listed.{set_at}
 use Rattle.basket_rules.proofs.CoveredLemmas.{found_below}
 use Rattle.basket_rules.proofs.covered.find_below.Goals as goal

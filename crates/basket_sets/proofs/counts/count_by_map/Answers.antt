@@ -23,27 +23,27 @@ add_to_map-requires-clause-distinct c = subst (IsDistinct nat_eq) (sym c.items.e
 pub add_to_map-requires-clause-fits : goal.add_to_map-requires-clause-fits
 add_to_map-requires-clause-fits c = λ item.
     let baskets = c.args.baskets.now in
-    let i = c.loop-place.place-index in
-    let known = ap (λ s. unwrap_or s 0) (c.loop-place.invariant item) in
+    let i = c.loop-weighted.weighted-index in
+    let known = ap (λ s. unwrap_or s 0) (c.loop-weighted.invariant item) in
     let fits = tally_fits (take i baskets) item in
-    let more = sum_by_more_le (λ (place : Weighted). place.weight) baskets i c.place-item.result c.loop-place-test.true in
-    let its = ap (λ (place : Weighted). place.weight) c.place-item.is in
+    let more = sum_by_more_le (λ (weighted : Weighted). weighted.weight) baskets i c.weighted-item.result c.loop-weighted-test.true in
+    let its = ap (λ (weighted : Weighted). weighted.weight) c.weighted-item.is in
     omega (arith, c.requires)
 
-pub loop-place-preserved : goal.loop-place-preserved
-loop-place-preserved c = λ item.
+pub loop-weighted-preserved : goal.loop-weighted-preserved
+loop-weighted-preserved c = λ item.
     let baskets = c.args.baskets.now in
-    let i = c.loop-place.place-index in
-    let place = c.place-item.result in
+    let i = c.loop-weighted.weighted-index in
+    let weighted = c.weighted-item.result in
     let before = take i baskets in
     c.in_ok-add_to_map.ensures item
-    ∙ (λ j. cond (has (c.items.ensures.items j) item) (slot_with place.weight (c.loop-place.invariant item j)) (c.loop-place.invariant item j))
-    ∙ tally_push before place item
-    ∙ ap (λ l. tally l item) (ap (λ p. before ++ p ∷ []) c.place-item.is ∙ sym (take_more baskets i place c.loop-place-test.true))
+    ∙ (λ j. cond (has (c.items.ensures.items j) item) (slot_with weighted.weight (c.loop-weighted.invariant item j)) (c.loop-weighted.invariant item j))
+    ∙ tally_push before weighted item
+    ∙ ap (λ l. tally l item) (ap (λ p. before ++ p ∷ []) c.weighted-item.is ∙ sym (take_more baskets i weighted c.loop-weighted-test.true))
 
 pub returns : goal.returns
 returns c =
     let baskets = c.args.baskets.now in
-    let known : (item : ℕ) → get nat_cmp c.loop-place.supports item ≡ tally baskets item = λ item. c.loop-place.invariant item ∙ ap (λ l. tally l item) (take_all c.loop-place.place-index baskets c.loop-place-test.false) in
-    IfOk-weaker c.collect.result _ _ (λ counts all. all ∙ supports_are baskets c.loop-place.supports.entries c.into_iter.ensures.into_iter_gives.5 known)
+    let known : (item : ℕ) → get nat_cmp c.loop-weighted.supports item ≡ tally baskets item = λ item. c.loop-weighted.invariant item ∙ ap (λ l. tally l item) (take_all c.loop-weighted.weighted-index baskets c.loop-weighted-test.false) in
+    IfOk-weaker c.collect.result _ _ (λ counts all. all ∙ supports_are baskets c.loop-weighted.supports.entries c.into_iter.ensures.into_iter_gives.5 known)
     (items_from_collect c.collect.result c.collect.ensures.ran (YieldsList-from_rest _ c.into_iter.ensures.into_iter_gives.0))

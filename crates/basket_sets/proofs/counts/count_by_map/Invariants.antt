@@ -4,5 +4,5 @@ use Rattle.std.specs.Ordering.{nat_cmp}
 use Rattle.basket_sets.specs.Counts.{tally}
 use Rattle.basket_sets.proofs.counts.count_by_map.Given as goal
 
-abbrev pub invariant-loop-place : goal.invariant-loop-place
-invariant-loop-place l = (item : ℕ) → get nat_cmp l.supports item ≡ tally (take l.place-index l.baskets) item
+abbrev pub invariant-loop-weighted : goal.invariant-loop-weighted
+invariant-loop-weighted l = (item : ℕ) → get nat_cmp l.supports item ≡ tally (take l.weighted-index l.baskets) item

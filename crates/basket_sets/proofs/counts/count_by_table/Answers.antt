@@ -15,8 +15,8 @@ nothing count item = elim (cases_lt item count) [
   | inr past ↦ get_or_past (replicate {A = Option ℕ} count None) item None (omega (arith, length-replicate {A = Option ℕ} count None))
 ]
 
-pub add_places-requires-clause-fits : goal.add_places-requires-clause-fits
-add_places-requires-clause-fits c = λ item.
+pub add_baskets-requires-clause-fits : goal.add_baskets-requires-clause-fits
+add_baskets-requires-clause-fits c = λ item.
     let made = c.deref_mut.ensures.value ∙ c.in_ok-table.ensures.items_if_clones_equal (λ y e. e) ∙ ap (replicate (c.args.greatest + 1)) c.empty.ensures in
     let none = ap (λ l. get_or l item None) made ∙ nothing (c.args.greatest + 1) item in
     subst (λ s. unwrap_or s 0 + total_of c.args.baskets.now ≤ MOST_WEIGHT) (sym none) (omega (arith, c.requires.light))
@@ -26,9 +26,9 @@ returns c =
     let table = c.deref.result.now in
     let made = c.deref_mut.ensures.value ∙ c.in_ok-table.ensures.items_if_clones_equal (λ y e. e) ∙ ap (replicate (c.args.greatest + 1)) c.empty.ensures in
     let empty : IsTable [] c.deref_mut.result.now = λ item below. ap (λ l. get_or l item None) made ∙ nothing (c.args.greatest + 1) item in
-    let same : length c.add_places.new.table ≡ length c.deref_mut.result.now = c.add_places.auto.table in
-    let written = c.deref.ensures.value ∙ take_at c.add_places.new.table _ c.in_ok-table.table.len (same ∙ c.deref_mut.ensures.len) in
-    let is : IsTable c.args.baskets.now table = subst (IsTable c.args.baskets.now) (sym written) (c.add_places.ensures.table [] empty) in
+    let same : length c.add_baskets.new.table ≡ length c.deref_mut.result.now = c.add_baskets.auto.table in
+    let written = c.deref.ensures.value ∙ take_at c.add_baskets.new.table _ c.in_ok-table.table.len (same ∙ c.deref_mut.ensures.len) in
+    let is : IsTable c.args.baskets.now table = subst (IsTable c.args.baskets.now) (sym written) (c.add_baskets.ensures.table [] empty) in
     let long : length table ≡ c.args.greatest + 1 = ap length written ∙ same ∙ ap length made ∙ length-replicate {A = Option ℕ} (c.args.greatest + 1) None in
     IfOk-weaker c.listed.result (λ entries. entries.items ≡ entries_of table) (λ counts. counts.items ≡ item_supports c.args.baskets.now)
     (λ entries e. e ∙ table_entries c.args.baskets.now table is (subst (λ n. AllBelow n (all_items c.args.baskets.now)) (sym long) c.requires.within)) c.listed.ensures

@@ -10,16 +10,16 @@ use Rattle.basket_sets.proofs.counts.greatest_item.Goals as goal
 use Rattle.basket_sets.proofs.counts.greatest_item.Goals.{in-Some, in_default}
 
 pub returns : goal.returns
-returns c = subst (λ l. AllBelow (c.loop-place.greatest + 1) (all_items l)) (take_all c.loop-place.place-index c.args.baskets.now (omega arith)) c.loop-place.invariant
+returns c = subst (λ l. AllBelow (c.loop-weighted.greatest + 1) (all_items l)) (take_all c.loop-weighted.weighted-index c.args.baskets.now (omega arith)) c.loop-weighted.invariant
 
-pub loop-place-preserved : goal.loop-place-preserved
-loop-place-preserved c =
-    let so_far = all_items (take c.loop-place.place-index c.args.baskets.now) in
+pub loop-weighted-preserved : goal.loop-weighted-preserved
+loop-weighted-preserved c =
+    let so_far = all_items (take c.loop-weighted.weighted-index c.args.baskets.now) in
     let items = c.items.result.now in
-    let basket = c.place-item.result.basket in
+    let basket = c.weighted-item.result.basket in
     let up = subst IsRising (sym c.items.ensures.items) c.items.ensures.rising in
-    let more = all_items_more c.args.baskets.now c.loop-place.place-index c.place-item.result c.loop-place-test.true
-    ∙ ap (λ p. so_far ++ p.basket) (sym c.place-item.is) in
+    let more = all_items_more c.args.baskets.now c.loop-weighted.weighted-index c.weighted-item.result c.loop-weighted-test.true
+    ∙ ap (λ p. so_far ++ p.basket) (sym c.weighted-item.is) in
     subst (λ l. AllBelow (c.match-last.greatest + 1) l) (sym more)
     (elim c.match-last.branch [
       | in-Some w ↦
@@ -28,10 +28,10 @@ loop-place-preserved c =
           let k = last_is_greatest items up x (ap (λ l. has l x) c.items.ensures.items ∙ h) in
           let e = get_or_default items (length items - 1) w.in-Some.last.now 0 (let b = w.in-Some.ensures.item.3.0 in omega arith) in
           omega (arith, w.max-greatest.ensures, w.greatest-is) in
-          below_more so_far basket c.loop-place.greatest c.match-last.greatest c.loop-place.invariant top (omega (arith, w.max-greatest.ensures, w.greatest-is)))
+          below_more so_far basket c.loop-weighted.greatest c.match-last.greatest c.loop-weighted.invariant top (omega (arith, w.max-greatest.ensures, w.greatest-is)))
       | in_default w ↦
           (let top : (x : ℕ) → has basket x ≡ true → x ≤ c.match-last.greatest = λ x h.
-          let place = Contains-from_Member x items (Member-from_has items x (ap (λ l. has l x) c.items.ensures.items ∙ h)) in
-          absurd (omega (arith, place.1, w.in_default.ensures.item.3)) in
-          below_more so_far basket c.loop-place.greatest c.match-last.greatest c.loop-place.invariant top (omega (arith, w.greatest-is)))
+          let at = Contains-from_Member x items (Member-from_has items x (ap (λ l. has l x) c.items.ensures.items ∙ h)) in
+          absurd (omega (arith, at.1, w.in_default.ensures.item.3)) in
+          below_more so_far basket c.loop-weighted.greatest c.match-last.greatest c.loop-weighted.invariant top (omega (arith, w.greatest-is)))
     ])

@@ -8,12 +8,12 @@ use Rattle.basket_sets.proofs.database.support.Goals as goal
 pub overflow_add-support : goal.overflow_add-support
 overflow_add-support c =
     let set = c.args.set.now in
-    let items = c.baskets-place-items.result.now in
-    let place = c.place-item.result in
-    let i = c.loop-place.place-index in
-    let more = sum_by_more_le (weight_at set) items i place (omega arith) in
+    let items = c.baskets-weighted-items.result.now in
+    let weighted = c.weighted-item.result in
+    let i = c.loop-weighted.weighted-index in
+    let more = sum_by_more_le (weight_at set) items i weighted (omega arith) in
     let falls = support_falls items set [] refl in
-    let adds : weight_at set (get_or items i place) ≡ place.weight =
-    ap (weight_at set) (sym c.place-item.is) ∙ ap (λ b. cond b place.weight 0) (sym c.if-holds.ensures) in
-    let light : total_of items ≤ MOST_WEIGHT = subst (λ l. total_of l ≤ MOST_WEIGHT) (sym c.baskets-place-items.ensures.baskets) c.baskets-place-items.ensures.database.light in
-    omega (arith, c.loop-place.invariant)
+    let adds : weight_at set (get_or items i weighted) ≡ weighted.weight =
+    ap (weight_at set) (sym c.weighted-item.is) ∙ ap (λ b. cond b weighted.weight 0) (sym c.if-holds.ensures) in
+    let light : total_of items ≤ MOST_WEIGHT = subst (λ l. total_of l ≤ MOST_WEIGHT) (sym c.baskets-weighted-items.ensures.baskets) c.baskets-weighted-items.ensures.database.light in
+    omega (arith, c.loop-weighted.invariant)

@@ -1,7 +1,8 @@
 use Rattle.std.proofs.Common.{◌∙◌, arith, sym}
 use Rattle.std.proofs.lemmas.Bool.{ltb-true}
 use Rattle.basket_sets.proofs.CountLemmas.{last_is_greatest}
-use Rattle.basket_sets.proofs.theory.Rising.{below_from_all, rising_distinct}
+use Rattle.basket_sets.proofs.theory.Rising.{rising_distinct}
+use Rattle.basket_sets.proofs.theory.Tests.{below_from_all}
 use Rattle.basket_sets.proofs.item_table.are_distinct_below.Goals as goal
 
 pub returns-then-is_rising-clause-distinct : goal.returns-then-is_rising-clause-distinct

@@ -6,18 +6,18 @@ use Rattle.basket_sets.proofs.itemset.rename.Goals as goal
 
 pub bounds-names-numbers : goal.bounds-names-numbers
 bounds-names-numbers c =
-    let is = c.loop-place.invariant.others c.loop-place.place (omega arith) in
-    subst (λ number. number < length c.args.names.now) (sym is) (c.requires _ (has_place c.args.numbers.now c.loop-place.place c.loop-place-test.true))
+    let is = c.loop-index.invariant.others c.loop-index.index (omega arith) in
+    subst (λ number. number < length c.args.names.now) (sym is) (c.requires _ (has_place c.args.numbers.now c.loop-index.index c.loop-index-test.true))
 
-pub loop-place-preserved : goal.loop-place-preserved
-loop-place-preserved c =
+pub loop-index-preserved : goal.loop-index-preserved
+loop-index-preserved c =
     let names = c.args.names.now in
     let before = c.args.numbers.now in
-    let now = c.loop-place.numbers in
-    let k = c.loop-place.place in
-    let named = named_more (λ number. get_or names number 0) now before k (omega (arith, c.loop-place-test.true, c.loop-place.auto.numbers)) c.loop-place-test.true c.loop-place.invariant.named in
-    let is = c.loop-place.invariant.others k (omega arith) in
+    let now = c.loop-index.numbers in
+    let k = c.loop-index.index in
+    let named = named_more (λ number. get_or names number 0) now before k (omega (arith, c.loop-index-test.true, c.loop-index.auto.numbers)) c.loop-index-test.true c.loop-index.invariant.named in
+    let is = c.loop-index.invariant.others k (omega arith) in
     record {
       named = ap (λ number. take (k + 1) (set now k (get_or names number 0))) is ∙ named;
-      others = λ later less. get_or-set_other now k later _ 0 (λ same. omega (arith, ap (λ n. n) same, less)) ∙ c.loop-place.invariant.others later (omega (arith, less));
+      others = λ later less. get_or-set_other now k later _ 0 (λ same. omega (arith, ap (λ n. n) same, less)) ∙ c.loop-index.invariant.others later (omega (arith, less));
     }

@@ -5,24 +5,24 @@ use mir.Val.{bool_byte}
 use Rattle.basket_sets.proofs.NameLemmas.{one_at_most, put_more}
 use Rattle.basket_sets.proofs.renumbering.renumber.Goals as goal
 
-pub loop-place-preserved : goal.loop-place-preserved
-loop-place-preserved g c =
+pub loop-index-preserved : goal.loop-index-preserved
+loop-index-preserved g c =
     let before = c.args.numbers.now in
-    let now = c.loop-place.numbers in
-    let k = c.loop-place.place in
-    let len = c.loop-place.len in
-    let was = c.loop-place.invariant in
+    let now = c.loop-index.numbers in
+    let k = c.loop-index.index in
+    let len = c.loop-index.len in
+    let was = c.loop-index.invariant in
     let name_of = g.N.Renumbering.name_of c.args.names.now in
     let counted = c.from-len.ensures ∙ ap bool_byte c.is_some.ensures in
     let most = one_at_most c.is_some.result in
     record {
       few = omega (arith, was.few, most, c.from-len.ensures);
       named = ap (λ n. take (len + c.from-len.result) (set now len n)) c.unwrap_or.ensures
-          ∙ put_more name_of before now k len c.name-name.result c.from-len.result c.loop-place-test.true (omega (arith, was.few, c.loop-place-test.true, c.loop-place.auto.numbers))
+          ∙ put_more name_of before now k len c.name-name.result c.from-len.result c.loop-index-test.true (omega (arith, was.few, c.loop-index-test.true, c.loop-index.auto.numbers))
           (c.name-name.ensures ∙ ap name_of (was.others k (omega arith))) counted was.named;
       others = λ later less. get_or-set_other now len later _ 0 (λ same. omega (arith, ap (λ n. n) same, less, was.few)) ∙ was.others later (omega (arith, less));
     }
 
 pub returns-clause-names : goal.returns-clause-names
 returns-clause-names g c =
-    ap (λ n. n) c.loop-place.invariant.named ∙ ap (filter_map (g.N.Renumbering.name_of c.args.names.now)) (take_all c.loop-place.place c.args.numbers.now (omega (arith, c.loop-place-test.false)))
+    ap (λ n. n) c.loop-index.invariant.named ∙ ap (filter_map (g.N.Renumbering.name_of c.args.names.now)) (take_all c.loop-index.index c.args.numbers.now (omega (arith, c.loop-index-test.false)))

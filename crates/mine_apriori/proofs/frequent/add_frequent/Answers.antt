@@ -13,7 +13,7 @@ use Rattle.mine_supports.proofs.theory.Frequent.{counts_first, counts_rest, coun
 use Rattle.mine_apriori.proofs.frequent.add_frequent.Goals as goal
 use Rattle.mine_apriori.proofs.frequent.add_frequent.Goals.{After-items-items}
 
--- the place of the prefix among those of the range
+-- the index of the prefix among those of the range
 abbrev at : After-items-items → ℕ
 at c = c.loop-number.number - c.args.range.start
 

@@ -9,46 +9,46 @@ use Rattle.mine_apriori.proofs.JoinStepLemmas.{group_more, group_parts}
 use Rattle.mine_apriori.proofs.join.candidates_in.Goals as goal
 use Rattle.mine_apriori.proofs.join.candidates_in.Goals.{After-deref_mut}
 
-below : (c : After-deref_mut) → c.loop-place.place < length c.args.level.now
-below c = omega (arith, c.loop-place-test.true, c.requires.within)
+below : (c : After-deref_mut) → c.loop-index.index < length c.args.level.now
+below c = omega (arith, c.loop-index-test.true, c.requires.within)
 
-prefix_is : (c : After-deref_mut) → c.items-prefix.result.now ≡ (get_or c.args.level.now c.loop-place.place no_group).prefix
-prefix_is c = c.items-prefix.ensures.items ∙ prefix_read c.args.level.now c.prefixes-in-loop-place.result.now c.loop-place.place c.index-prefixes-place.result c.prefixes-in-loop-place.ensures (below c) c.index-prefixes-place.is
+prefix_is : (c : After-deref_mut) → c.items-prefix.result.now ≡ (get_or c.args.level.now c.loop-index.index no_group).prefix
+prefix_is c = c.items-prefix.ensures.items ∙ prefix_read c.args.level.now c.prefixes-in-loop-index.result.now c.loop-index.index c.index-prefixes-index.result c.prefixes-in-loop-index.ensures (below c) c.index-prefixes-index.is
 
-list_is : (c : After-deref_mut) → c.index-lists-place.result ≡ (get_or c.args.level.now c.loop-place.place no_group).items
-list_is c = items_read c.args.level.now c.lists.result.now c.loop-place.place c.index-lists-place.result c.lists.ensures (below c) c.index-lists-place.is
+list_is : (c : After-deref_mut) → c.index-lists-index.result ≡ (get_or c.args.level.now c.loop-index.index no_group).items
+list_is c = items_read c.args.level.now c.lists.result.now c.loop-index.index c.index-lists-index.result c.lists.ensures (below c) c.index-lists-index.is
 
 pub join-requires-clause-parts : goal.join-requires-clause-parts
 join-requires-clause-parts c =
     let groups = c.args.level.now in
-    let place = c.loop-place.place in
-    let group = get_or groups place no_group in
+    let index = c.loop-index.index in
+    let group = get_or groups index no_group in
     let up = subst IsRising (list_is c) c.items-items.ensures.rising in
     subst (λ prefix. AreParts groups prefix c.items-items.result.now) (sym (prefix_is c))
     (subst (λ items. AreParts groups group.prefix items) (sym (c.items-items.ensures.items ∙ list_is c))
-    (group_parts groups place no_group c.requires.grouped c.requires.rising (below c) up))
+    (group_parts groups index no_group c.requires.grouped c.requires.rising (below c) up))
 
-pub loop-place-preserved : goal.loop-place-preserved
-loop-place-preserved c =
-    let before = (goal.at.loop-place-preserved c).After-deref_mut in
+pub loop-index-preserved : goal.loop-index-preserved
+loop-index-preserved c =
+    let before = (goal.at.loop-index-preserved c).After-deref_mut in
     let groups = c.args.level.now in
     let start = c.args.range.start in
     let end = c.args.range.end in
-    let place = c.loop-place.place in
+    let index = c.loop-index.index in
     let joined = slice_range groups start end in
-    let from : start ≤ place = omega arith in
-    let same = sym (range_at groups start end place no_group from c.loop-place-test.true) in
+    let from : start ≤ index = omega arith in
+    let same = sym (range_at groups start end index no_group from c.loop-index-test.true) in
     let prefix = prefix_is before ∙ ap (λ (group : Group). group.prefix) same in
     let items = c.items-items.ensures.items ∙ list_is before ∙ ap (λ (group : Group). group.items) same in
-    let next : (place - start) + 1 ≡ place + 1 - start = omega (arith, from) in
-    group_more (sets_of groups) joined c.loop-place.found c.in_ok-found.found (place - start) no_group
-    (omega (arith, from, c.loop-place-test.true, range_long groups start end c.requires.within)) c.loop-place.invariant
-    (c.in_ok-found.ensures ∙ (λ i. c.loop-place.found ++ filter has_items (joined_group (suc (length (prefix i))) (sets_of groups) (prefix i) (items i))))
+    let next : (index - start) + 1 ≡ index + 1 - start = omega (arith, from) in
+    group_more (sets_of groups) joined c.loop-index.found c.in_ok-found.found (index - start) no_group
+    (omega (arith, from, c.loop-index-test.true, range_long groups start end c.requires.within)) c.loop-index.invariant
+    (c.in_ok-found.ensures ∙ (λ i. c.loop-index.found ++ filter has_items (joined_group (suc (length (prefix i))) (sets_of groups) (prefix i) (items i))))
     ∙ ap (λ n. joined_groups (sets_of groups) (take n joined)) next
 
 pub returns : goal.returns
 returns c =
     let groups = c.args.level.now in
     let joined = slice_range groups c.args.range.start c.args.range.end in
-    c.loop-place.invariant ∙ ap (joined_groups (sets_of groups)) (take_all (c.loop-place.place - c.args.range.start) joined
-    (omega (arith, c.loop-place-test.false, range_long groups c.args.range.start c.args.range.end c.requires.within)))
+    c.loop-index.invariant ∙ ap (joined_groups (sets_of groups)) (take_all (c.loop-index.index - c.args.range.start) joined
+    (omega (arith, c.loop-index-test.false, range_long groups c.args.range.start c.args.range.end c.requires.within)))

@@ -4,5 +4,5 @@ use Rattle.mine_supports.specs.Extensions.{sets_of}
 use Rattle.mine_apriori.specs.Join.{joined_groups}
 use Rattle.mine_apriori.proofs.join.candidates_in.Given as goal
 
-abbrev pub invariant-loop-place : goal.invariant-loop-place
-invariant-loop-place l = l.found ≡ joined_groups (sets_of l.level) (take (l.place - l.fn.range.start) (slice_range l.level l.fn.range.start l.fn.range.end))
+abbrev pub invariant-loop-index : goal.invariant-loop-index
+invariant-loop-index l = l.found ≡ joined_groups (sets_of l.level) (take (l.index - l.fn.range.start) (slice_range l.level l.fn.range.start l.fn.range.end))

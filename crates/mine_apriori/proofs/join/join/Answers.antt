@@ -7,42 +7,42 @@ use Rattle.mine_apriori.specs.Join.{has_parts, joined_group}
 use Rattle.mine_apriori.proofs.JoinLemmas.{length_after}
 use Rattle.mine_apriori.proofs.JoinStepLemmas.{drop_rises, join_more}
 use Rattle.mine_apriori.proofs.join.join.Goals as goal
-use Rattle.mine_apriori.proofs.join.join.Goals.{After-room-1, After-deref-in-loop-place}
+use Rattle.mine_apriori.proofs.join.join.Goals.{After-room-1, After-deref-in-loop-index}
 
 -- the later items
-later_are : (c : After-room-1) → c.extend_from_slice.new.self.items ≡ drop (c.loop-place.place + 1) c.args.items.now
+later_are : (c : After-room-1) → c.extend_from_slice.new.self.items ≡ drop (c.loop-index.index + 1) c.args.items.now
 later_are c =
     c.in_ok-extend_from_slice.ensures.items
-    ∙ ap (λ l. l ++ take (length c.args.items.now - (c.loop-place.place + 1)) (drop (c.loop-place.place + 1) c.args.items.now)) c.clear.ensures.items
-    ∙ take_rest c.args.items.now (c.loop-place.place + 1)
+    ∙ ap (λ l. l ++ take (length c.args.items.now - (c.loop-index.index + 1)) (drop (c.loop-index.index + 1) c.args.items.now)) c.clear.ensures.items
+    ∙ take_rest c.args.items.now (c.loop-index.index + 1)
 
 pub keep_extensions-requires-clause-rising : goal.keep_extensions-requires-clause-rising
-keep_extensions-requires-clause-rising c = subst IsRising (sym (later_are c)) (drop_rises (c.loop-place.place + 1) c.args.items.now c.requires.parts.items_rise)
+keep_extensions-requires-clause-rising c = subst IsRising (sym (later_are c)) (drop_rises (c.loop-index.index + 1) c.args.items.now c.requires.parts.items_rise)
 
 -- and those of them with which the set has its subsets
-kept_are : (c : After-deref-in-loop-place) → c.extend_from_slice.new.self.items ≡ drop (c.loop-place.place + 1) c.args.items.now → c.keep_extensions.new.items.items
-    ≡ filter (has_parts (length c.args.prefix.now) (sets_of c.args.level.now) (c.args.prefix.now ++ get_or c.args.items.now c.loop-place.place 0 ∷ [])) (drop (c.loop-place.place + 1) c.args.items.now)
+kept_are : (c : After-deref-in-loop-index) → c.extend_from_slice.new.self.items ≡ drop (c.loop-index.index + 1) c.args.items.now → c.keep_extensions.new.items.items
+    ≡ filter (has_parts (length c.args.prefix.now) (sets_of c.args.level.now) (c.args.prefix.now ++ get_or c.args.items.now c.loop-index.index 0 ∷ [])) (drop (c.loop-index.index + 1) c.args.items.now)
 kept_are c later =
     let set = c.deref.ensures.value ∙ c.in_ok-put_extended.ensures in
-    let long : length c.deref.result.now - 1 ≡ length c.args.prefix.now = omega (arith, ap length set, length_after c.args.prefix.now (get_or c.args.items.now c.loop-place.place 0) (length c.args.prefix.now) refl) in
+    let long : length c.deref.result.now - 1 ≡ length c.args.prefix.now = omega (arith, ap length set, length_after c.args.prefix.now (get_or c.args.items.now c.loop-index.index 0) (length c.args.prefix.now) refl) in
     c.in_ok-keep_extensions.ensures ∙ (λ i. filter (has_parts (long i) (sets_of c.args.level.now) (set i)) (later i))
 
 pub with_items-requires-clause-items : goal.with_items-requires-clause-items
 with_items-requires-clause-items c =
-    let kept = kept_are (goal.at.with_items-requires-clause-items c).After-deref-in-loop-place (later_are (goal.at.with_items-requires-clause-items c).After-room-1) in
-    subst IsRising (sym (c.deref-in-loop-place-2.ensures.value ∙ kept))
-    (filter_rises (has_parts (length c.args.prefix.now) (sets_of c.args.level.now) (c.args.prefix.now ++ get_or c.args.items.now c.loop-place.place 0 ∷ [])) (drop (c.loop-place.place + 1) c.args.items.now)
-    (drop_rises (c.loop-place.place + 1) c.args.items.now c.requires.parts.items_rise))
+    let kept = kept_are (goal.at.with_items-requires-clause-items c).After-deref-in-loop-index (later_are (goal.at.with_items-requires-clause-items c).After-room-1) in
+    subst IsRising (sym (c.deref-in-loop-index-2.ensures.value ∙ kept))
+    (filter_rises (has_parts (length c.args.prefix.now) (sets_of c.args.level.now) (c.args.prefix.now ++ get_or c.args.items.now c.loop-index.index 0 ∷ [])) (drop (c.loop-index.index + 1) c.args.items.now)
+    (drop_rises (c.loop-index.index + 1) c.args.items.now c.requires.parts.items_rise))
 
-pub loop-place-preserved : goal.loop-place-preserved
-loop-place-preserved c =
+pub loop-index-preserved : goal.loop-index-preserved
+loop-index-preserved c =
     let groups = c.args.level.now in
     let prefix = c.args.prefix.now in
     let items = c.args.items.now in
-    let place = c.loop-place.place in
-    let found = c.loop-place.found in
-    let kept = kept_are (goal.at.loop-place-preserved c).After-deref-in-loop-place (later_are (goal.at.loop-place-preserved c).After-room-1) in
-    let rest = filter has_items (joined_group (suc (length prefix)) (sets_of groups) prefix (drop (place + 1) items)) in
-    let set = c.deref-in-loop-place.ensures.value ∙ c.in_ok-put_extended.ensures in
-    ap (λ l. l ++ rest) (c.in_ok-found.ensures ∙ (λ i. found ++ filter has_items (record { prefix = set i; items = (c.deref-in-loop-place-2.ensures.value ∙ kept) i } ∷ [])))
-    ∙ join_more groups prefix items c.requires.parts place c.loop-place-test.true found ∙ c.loop-place.invariant
+    let index = c.loop-index.index in
+    let found = c.loop-index.found in
+    let kept = kept_are (goal.at.loop-index-preserved c).After-deref-in-loop-index (later_are (goal.at.loop-index-preserved c).After-room-1) in
+    let rest = filter has_items (joined_group (suc (length prefix)) (sets_of groups) prefix (drop (index + 1) items)) in
+    let set = c.deref-in-loop-index.ensures.value ∙ c.in_ok-put_extended.ensures in
+    ap (λ l. l ++ rest) (c.in_ok-found.ensures ∙ (λ i. found ++ filter has_items (record { prefix = set i; items = (c.deref-in-loop-index-2.ensures.value ∙ kept) i } ∷ [])))
+    ∙ join_more groups prefix items c.requires.parts index c.loop-index-test.true found ∙ c.loop-index.invariant

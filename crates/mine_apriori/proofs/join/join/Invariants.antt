@@ -4,7 +4,7 @@ use Rattle.mine_apriori.specs.Join.{joined_group}
 use Rattle.mine_apriori.proofs.join.join.Given as goal
 
 -- what is found and what is still to be joined
-abbrev pub invariant-loop-place : goal.invariant-loop-place
-invariant-loop-place l =
-    l.found ++ filter has_items (joined_group (suc (length l.prefix)) (sets_of l.level) l.prefix (drop l.place l.items))
+abbrev pub invariant-loop-index : goal.invariant-loop-index
+invariant-loop-index l =
+    l.found ++ filter has_items (joined_group (suc (length l.prefix)) (sets_of l.level) l.prefix (drop l.index l.items))
     ≡ l.initial.found ++ filter has_items (joined_group (suc (length l.prefix)) (sets_of l.level) l.prefix l.items)

@@ -14,15 +14,15 @@ returns c =
     let groups = c.args.level.now in
     let set = c.args.set.now in
     let items = c.args.items.now.items in
-    let key = without c.args.place set in
-    let around = around_is c.args.place set in
+    let key = without c.args.index set in
+    let around = around_is c.args.index set in
     ap (λ v. v.items) c.swap.ensures.x_after ∙ elim c.match-find_near.branch [
       | in-Ok+in_ok-push_shared-in-Ok w ↦
           (let at = w.in-Ok.at in
           let long = ap length c.prefixes.ensures in
           let within = w.in-Ok.ensures.bound in
           let below : at < length groups = omega (arith, within, long, groups_long groups) in
-          let is : get_or (prefixes_of groups) at [] ≡ key = ap (λ l. get_or l at []) (sym c.prefixes.ensures) ∙ w.in-Ok.ensures.place ∙ around in
+          let is : get_or (prefixes_of groups) at [] ≡ key = ap (λ l. get_or l at []) (sym c.prefixes.ensures) ∙ w.in-Ok.ensures.index ∙ around in
           let read = w.items.ensures.items ∙ w.index-lists-at.is ∙ ap (λ l. get_or l at w.index-lists-at.result) w.lists.ensures
           ∙ get_or_default (lists_of groups) at w.index-lists-at.result [] (omega (arith, below, lists_long groups)) in
           ap (λ v. v.items) w.room-is ∙ w.in_ok-push_shared-in-Ok.ensures

@@ -5,7 +5,7 @@ use Rattle.mine_apriori.proofs.SearchLemmas.{compared, found_at, greater_from, i
 use Rattle.mine_apriori.proofs.search.find_near.Goals as goal
 use Rattle.mine_apriori.proofs.search.find_near.Goals.{After-compare_parts}
 
--- the place is within the list, and the set there compares as the one that was read
+-- the index is within the list, and the set there compares as the one that was read
 below : (c : After-compare_parts) → c.in-Some.at < length c.args.sets.now
 below c = omega (arith, c.loop-at.invariant.within, c.in-Some.ensures.before)
 
@@ -44,9 +44,9 @@ returns-in-Equal-clause-found c =
     let key = c.args.front.now ++ c.args.rest.now in
     is_there c.args.sets.now key c.in-Some.at (below here) (found_at c.args.sets.now key c.in-Some.at (answered here ∙ c.in-Equal.is))
 
-pub returns-in-Equal-clause-place : goal.returns-in-Equal-clause-place
-returns-in-Equal-clause-place c =
-    found_at c.args.sets.now (c.args.front.now ++ c.args.rest.now) c.in-Some.at (answered (goal.at.returns-in-Equal-clause-place c).After-compare_parts ∙ c.in-Equal.is)
+pub returns-in-Equal-clause-index : goal.returns-in-Equal-clause-index
+returns-in-Equal-clause-index c =
+    found_at c.args.sets.now (c.args.front.now ++ c.args.rest.now) c.in-Some.at (answered (goal.at.returns-in-Equal-clause-index c).After-compare_parts ∙ c.in-Equal.is)
 
 pub returns-clause-found : goal.returns-clause-found
 returns-clause-found c =

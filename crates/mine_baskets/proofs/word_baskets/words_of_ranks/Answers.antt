@@ -1,21 +1,12 @@
-use Rattle.std.proofs.Common.{◌≡◌, ◌++◌, ◌∷◌, [], take, sym, subst, ap, ◌∙◌, arith}
-use Rattle.std.proofs.lemmas.List.{map-append, take_all, take_more}
+use Rattle.std.proofs.Common.{◌≡◌, ◌++◌, ◌∷◌, [], take, sym, subst, ap, ◌∙◌}
+use Rattle.std.proofs.lemmas.List.{map-append, take_more}
 use Rattle.basket_sets.specs.declared.weighted.Weighted.{Weighted}
-use Rattle.basket_sets.specs.Counts.{AllBelow}
 use Rattle.basket_sets.specs.Database.{weighted}
 use Rattle.mine_baskets.specs.declared.words.Word.{Word}
 use Rattle.mine_baskets.specs.ListBaskets.{IsRankBasket}
 use Rattle.mine_baskets.specs.Words.{rank_bits, ranks_in, word_place, word_places}
 use Rattle.mine_baskets.proofs.word_baskets.words_of_ranks.Goals as goal
 use Rattle.mine_baskets.proofs.WordLemmas.{rank_bits_are}
-
-pub bits_of_ranks-bits-requires : goal.bits_of_ranks-bits-requires
-bits_of_ranks-bits-requires c =
-    let count = c.args.count in
-    let place = c.place-item.result in
-    let is : IsRankBasket count place = subst (IsRankBasket count) (sym c.place-item.is) (c.requires.ranked.places c.loop-place.place-index place c.loop-place-test.true) in
-    let below : AllBelow count c.items.result.now = subst (AllBelow count) (sym c.items.ensures.items) is.below in
-    λ rank h. let b = below rank h in omega (arith, b, c.requires.few)
 
 pub loop-place-preserved : goal.loop-place-preserved
 loop-place-preserved c =
@@ -31,6 +22,3 @@ loop-place-preserved c =
     ap (word_places count) c.in_ok-push.ensures.items ∙ map-append (word_place count) c.loop-place.words.items (word ∷ [])
     ∙ ap (λ l. l ++ word_place count word ∷ []) c.loop-place.invariant ∙ ap (λ (p : Weighted). take i all ++ p ∷ []) (same ∙ c.place-item.is)
     ∙ sym (take_more all i place here)
-
-pub returns : goal.returns
-returns c = c.loop-place.invariant ∙ take_all c.loop-place.place-index c.args.baskets.now c.loop-place-test.false

@@ -1,7 +1,7 @@
 use Rattle.std.proofs.Common.{◌∷◌, [], get_or, refl, take, subst, ap, ◌∙◌, arith}
 use Rattle.std.specs.List.{sum_by}
 use Rattle.std.proofs.lemmas.List.{take_more}
-use Rattle.std.proofs.lemmas.List.Sums.{sum_by-append, sum_by-cons, sum_by_more_le}
+use Rattle.std.proofs.lemmas.List.Sums.{sum_by-append, sum_by-cons}
 use Rattle.mine_baskets.specs.declared.words.Word.{Word}
 use Rattle.mine_baskets.specs.ListBaskets.{HaveSameWeights}
 use Rattle.mine_baskets.specs.Words.{word_place, word_places}
@@ -11,14 +11,6 @@ use Rattle.mine_baskets.proofs.theory.Weights.{word_more}
 
 abbrev none : Word
 none = record { bits = 0; weight = 0 }
-
-pub add-requires-clause-some : goal.add-requires-clause-some
-add-requires-clause-some c = (c.loop-word.invariant.some, c.requires.some c.loop-word.word-index none c.loop-word-test.true)
-
-pub add-requires-clause-light : goal.add-requires-clause-light
-add-requires-clause-light c =
-    let more = sum_by_more_le (λ (word : Word). word.weight) c.args.words.now c.loop-word.word-index none c.loop-word-test.true in
-    omega (arith, more, c.loop-word.invariant.light, c.requires.light)
 
 pub loop-word-preserved : goal.loop-word-preserved
 loop-word-preserved c =

@@ -1,4 +1,4 @@
-use Rattle.mine_classes.proofs.TogetherLemmas as lemmas
+use Rattle.mine_classes.proofs.theory.Together as lemmas
 use Rattle.mine_classes.proofs.laws.classes_are_listed.Goals as goal
 
 pub returns : goal.returns

@@ -1,4 +1,4 @@
-use Rattle.mine_classes.proofs.MinedLemmas as lemmas
+use Rattle.mine_classes.proofs.theory.Listed as lemmas
 use Rattle.mine_classes.proofs.laws.coded_ranks_are_frequent.Goals as goal
 
 pub returns : goal.returns

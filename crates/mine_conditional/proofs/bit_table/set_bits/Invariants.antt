@@ -1,5 +1,6 @@
-use Rattle.mine_conditional.proofs.BitLemmas.{HasBits}
+use Rattle.std.proofs.Common.{take}
+use Rattle.mine_conditional.specs.BitTable.{AreBits}
 use Rattle.mine_conditional.proofs.bit_table.set_bits.Given as goal
 
 abbrev pub invariant-loop-at : goal.invariant-loop-at
-invariant-loop-at l = HasBits l.kept l.at l.of
+invariant-loop-at l = AreBits (take l.at l.kept) l.of

@@ -12,7 +12,7 @@ pub returns-then-not-are_whole : goal.returns-then-not-are_whole
 returns-then-not-are_whole c =
     elim (cases_Bool (is_branch c.args.runs.now.baskets)) [
       | inl one ↦
-          (let whole = runs_by_full c.of_rank.result.0.now c.args.runs.now c.loop-rank.rank c.of_rank.result.1.now c.of_rank.ensures.runs c.of_rank.ensures.ranked (full_from_branch c.args.runs.now.baskets one c.loop-rank.rank) in
+          (let whole = runs_by_full c.args.runs.now c.loop-rank.rank c.of_rank-paths.result c.of_rank-paths.ensures.count c.of_rank-paths.ensures.weights c.of_rank-paths.ensures.ranked (full_from_branch c.args.runs.now.baskets one c.loop-rank.rank) in
           let is = c.are_whole.ensures ∙ whole in
           absurd (true≢false (sym is ∙ c.if-not-are_whole.true)))
       | inr several ↦ sym several
@@ -21,7 +21,7 @@ returns-then-not-are_whole c =
 pub loop-rank-preserved : goal.loop-rank-preserved
 loop-rank-preserved c = λ lower less.
     let rank = c.loop-rank.rank in
-    let full = full_by_runs c.of_rank.result.0.now c.args.runs.now rank c.of_rank.result.1.now c.of_rank.ensures.runs c.of_rank.ensures.ranked (sym c.are_whole.ensures ∙ c.if-not-are_whole.false) in
+    let full = full_by_runs c.args.runs.now rank c.of_rank-paths.result c.of_rank-paths.ensures.count c.of_rank-paths.ensures.weights c.of_rank-paths.ensures.ranked (sym c.are_whole.ensures ∙ c.if-not-are_whole.false) in
     elim (cases_lt lower rank) [
       | inl before ↦ c.loop-rank.invariant lower before
       | inr after ↦ (let same : lower ≡ rank = omega arith in subst (λ r. IsFullAt r c.args.runs.now.baskets) (sym same) full)

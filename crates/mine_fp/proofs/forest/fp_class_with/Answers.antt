@@ -20,13 +20,13 @@ pub returns-then-support-all-clause-class : goal.returns-then-support-all-clause
 returns-then-support-all-clause-class g c =
     let here = subst (λ (v : Coding). c.args.rank < length v.items) (sym c.forest.view_is) c.requires.rank in
     let not = rare c.forest.invariant c.args.rank (omega (arith, c.if-support-all.true, entry_support c.forest.invariant c.args.rank here c.index.ensures)) in
-    mining_none c.rare_ranks_have_no_class.ensures (subst (λ (v : Coding). is_frequent v.baskets v.minimum (c.args.rank ∷ []) ≡ false) c.forest.view_is not) c.in_ok-none.ensures c.requires.going
+    mining_none (subst (λ (v : Coding). is_frequent v.baskets v.minimum (c.args.rank ∷ []) ≡ false) c.forest.view_is not) c.in_ok-none.ensures c.requires.going
 
 pub returns-then-support-all-clause-trees : goal.returns-then-support-all-clause-trees
 returns-then-support-all-clause-trees g c =
     let here = subst (λ (v : Coding). c.args.rank < length v.items) (sym c.forest.view_is) c.requires.rank in
     let not = rare c.forest.invariant c.args.rank (omega (arith, c.if-support-all.true, entry_support c.forest.invariant c.args.rank here c.index.ensures)) in
-    sym (subst (λ (v : Coding). class_trees v c.args.rank ≡ 0) c.forest.view_is (rare_trees c.forest.inside.all.coded.now c.args.rank c.classes_are_listed.ensures c.rare_ranks_have_no_class.ensures not))
+    sym (subst (λ (v : Coding). class_trees v c.args.rank ≡ 0) c.forest.view_is (rare_trees c.forest.inside.all.coded.now c.args.rank not))
 
 pub below-requires-clause-long : goal.below-requires-clause-long
 below-requires-clause-long g c = omega (arith, entries c.forest.invariant, c.forest.inside.all.ranks.ok.0)
@@ -35,7 +35,7 @@ pub list-requires-clause-class : goal.list-requires-clause-class
 list-requires-clause-class g c =
     let here = subst (λ (v : Coding). c.args.rank < length v.items) (sym c.forest.view_is) c.requires.rank in (
       supports_in c.forest.inside.all.coded.now c.forest.inside.all.least,
-      class_of_rank c.forest.invariant c.args.rank here c.conditional_supports.ensures c.index.ensures (omega (arith, c.if-support-all.false)) c.in_ok-below.ensures.none c.in_ok-below.ensures.below,
+      class_of_rank c.forest.invariant c.args.rank here c.index.ensures (omega (arith, c.if-support-all.false)) c.in_ok-below.ensures.none c.in_ok-below.ensures.below,
     )
 
 pub list-requires-clause-lent : goal.list-requires-clause-lent
@@ -50,14 +50,14 @@ returns-clause-trees g c =
     let all = c.forest.inside.all in
     let here = subst (λ (v : Coding). c.args.rank < length v.items) (sym c.forest.view_is) c.requires.rank in
     let over = supports_in all.coded.now all.least in
-    let class = class_of_rank c.forest.invariant c.args.rank here c.conditional_supports.ensures c.index.ensures (omega (arith, c.if-support-all.false)) c.in_ok-below.ensures.none c.in_ok-below.ensures.below in
-    let made = trees_made c.forest.invariant c.args.rank here c.classes_are_listed.ensures c.index.ensures (omega (arith, c.if-support-all.false)) in
+    let class = class_of_rank c.forest.invariant c.args.rank here c.index.ensures (omega (arith, c.if-support-all.false)) c.in_ok-below.ensures.none c.in_ok-below.ensures.below in
+    let made = trees_made c.forest.invariant c.args.rank here c.index.ensures (omega (arith, c.if-support-all.false)) in
     IfOk-weaker c.list.result _ (λ mined. mined.1 ≡ class_trees c.args.forest.now c.args.rank)
     (λ mined work. omega (arith, work over class, c.in_ok-below.ensures.trees, c.none-trees.ensures) ∙ made ∙ ap (λ (v : Coding). class_trees v c.args.rank) c.forest.view_is) c.list.ensures.work
 
 pub returns-clause-few : goal.returns-clause-few
 returns-clause-few g c =
-    let few = trees_few c.args.forest.now c.args.rank c.classes_are_listed.ensures in
+    let few = trees_few c.args.forest.now c.args.rank in
     IfOk-weaker c.list.result (λ mined. mined.1 ≡ class_trees c.args.forest.now c.args.rank) (λ mined. mined.1 ≤ class_size c.args.forest.now c.args.rank) (λ mined made. omega (arith, made, few)) (returns-clause-trees g c)
 
 pub returns-clause-class : goal.returns-clause-class

@@ -16,18 +16,18 @@ rank_below before count at low here = omega (
 
 pub bounds-ranks-pairs : goal.bounds-ranks-pairs
 bounds-ranks-pairs c =
-    let at = c.loop-place.place in
-    let is = rest_at (named_pair (map (λ (name : ℕ × ℕ). name.0) c.args.ranks.now)) c.args.pairs.now c.loop-place.pairs at (0, 0) c.loop-place-test.true c.loop-place.invariant in
-    omega (arith, rank_below c.args.pairs.now (length c.args.ranks.now) at c.requires c.loop-place-test.true, ap (λ (pair : ℕ × ℕ). pair.0) is)
+    let at = c.loop-at.at in
+    let is = rest_at (named_pair (map (λ (name : ℕ × ℕ). name.0) c.args.ranks.now)) c.args.pairs.now c.loop-at.pairs at (0, 0) c.loop-at-test.true c.loop-at.invariant in
+    omega (arith, rank_below c.args.pairs.now (length c.args.ranks.now) at c.requires c.loop-at-test.true, ap (λ (pair : ℕ × ℕ). pair.0) is)
 
-pub loop-place-preserved : goal.loop-place-preserved
-loop-place-preserved c =
+pub loop-at-preserved : goal.loop-at-preserved
+loop-at-preserved c =
     let names = c.args.ranks.now in
     let items = map (λ (name : ℕ × ℕ). name.0) names in
-    let now = c.loop-place.pairs in
-    let at = c.loop-place.place in
+    let now = c.loop-at.pairs in
+    let at = c.loop-at.at in
     let pair = get_or now at (0, 0) in
-    let is = rest_at (named_pair items) c.args.pairs.now now at (0, 0) c.loop-place-test.true c.loop-place.invariant in
-    let within : pair.0 < length names = omega (arith, rank_below c.args.pairs.now (length names) at c.requires c.loop-place-test.true, ap (λ (pair : ℕ × ℕ). pair.0) is) in
+    let is = rest_at (named_pair items) c.args.pairs.now now at (0, 0) c.loop-at-test.true c.loop-at.invariant in
+    let within : pair.0 < length names = omega (arith, rank_below c.args.pairs.now (length names) at c.requires c.loop-at-test.true, ap (λ (pair : ℕ × ℕ). pair.0) is) in
     (λ i. set now at (sym (get_or-map (λ (name : ℕ × ℕ). name.0) names pair.0 (0, 0) 0 within) i, pair.1))
-    ∙ map_over_more (named_pair items) c.args.pairs.now now at pair c.loop-place-test.true c.loop-place.invariant (get_or_default now at (0, 0) pair (omega (arith, c.loop-place-test.true, c.loop-place.auto.pairs)))
+    ∙ map_over_more (named_pair items) c.args.pairs.now now at pair c.loop-at-test.true c.loop-at.invariant (get_or_default now at (0, 0) pair (omega (arith, c.loop-at-test.true, c.loop-at.auto.pairs)))

@@ -1,16 +1,6 @@
 use Rattle.std.proofs.Common.{◌-◌, set, ap, ◌∙◌, arith}
-use Rattle.std.proofs.lemmas.List.Sums.{sum_by_more_le}
-use Rattle.mine_baskets.specs.declared.span.Span.{Span}
 use Rattle.mine_pairs.proofs.theory.Runs.{heavier_is, other_run, same_run}
 use Rattle.mine_pairs.proofs.rank_runs.add_run.Goals as goal
-
-pub add_weight-requires : goal.add_weight-requires
-add_weight-requires c =
-    let runs = c.args.runs.now.items in
-    let some = c.requires.some c.if-same.true in
-    let more = sum_by_more_le (λ (run : Span). run.weight) runs (c.len-last.result - 1) c.index_mut.result.now (omega (arith, some, c.args.runs.now.ok, c.len-last.ensures)) in
-    let last = ap (λ (run : Span). run.weight) c.index_mut.ensures.value in
-    omega (arith, more, last, c.requires.light)
 
 pub returns-then-same : goal.returns-then-same
 returns-then-same c =

@@ -1,12 +1,13 @@
-use Rattle.std.proofs.Common.{◌≡◌, ◌+◌, ◌<◌, ◌≤◌, [], true, ℕ, length, get_or, take, refl, subst, sym, ap, ◌∙◌, arith}
+use Rattle.std.proofs.Common.{◌≡◌, ◌+◌, ◌<◌, ◌≤◌, [], true, ℕ, length, get_or, take, subst, sym, ap, ◌∙◌, arith}
 use Rattle.std.specs.Prelude.{sum_by}
 use Rattle.std.specs.List.{slice_range}
-use Rattle.std.proofs.lemmas.List.{length-map, length-replicate, get_or-map, get_or-replicate, with_items_is}
+use Rattle.std.proofs.lemmas.List.{length-map, get_or-map, with_items_is}
 use Rattle.basket_sets.specs.declared.weighted.Weighted.{Weighted}
 use Rattle.basket_sets.specs.Database.{MOST_WEIGHT}
+use Rattle.basket_sets.specs.Itemset.{IsRising}
 use Rattle.mine_baskets.specs.declared.span.Span.{Span}
 use Rattle.mine_baskets.specs.ListBaskets.{repeats_last}
-use Rattle.mine_pairs.specs.Runs.{AreRunsOf, HaveRuns, HaveRunsFrom, lists_in}
+use Rattle.mine_pairs.specs.Runs.{HaveRuns, HaveRunsFrom, lists_in}
 use Rattle.mine_baskets.specs.Span.{basket_at, baskets_at}
 use Rattle.mine_pairs.proofs.theory.Runs.{length-lists_in, length-range}
 use Rattle.mine_pairs.proofs.theory.RunLoops.{basket_more, next_again, next_are, rank_basket_at, runs_light, shared_again}
@@ -16,55 +17,45 @@ use Rattle.mine_baskets.proofs.theory.Neighbours.{some_repeats}
 abbrev none : Span
 none = record { start = 0; end = 0; weight = 0 }
 
+pub add_runs-requires-clause-whole : goal.add_runs-requires-clause-whole
+add_runs-requires-clause-whole c =
+    let inside = c.args.baskets.within c.loop-basket.basket-index none c.loop-basket-test.true in
+    omega (arith, inside.ordered, ap length c.of-path.ensures, length-range c.args.baskets.ranks.now (get_or c.args.baskets.spans.now c.loop-basket.basket-index none) inside)
+
 pub add_runs-requires-clause-rises : goal.add_runs-requires-clause-rises
-add_runs-requires-clause-rises c = (rank_basket_at c.args.ranks.now c.requires.ranked.0 c.args.baskets.now c.loop-basket.basket-index none c.requires.ranked.1.places c.loop-basket-test.true).rises
+add_runs-requires-clause-rises c = subst IsRising (sym c.of-path.ensures)
+    (rank_basket_at c.args.baskets.ranks.now c.args.baskets.count c.args.baskets.spans.now c.loop-basket.basket-index none c.args.baskets.ranked.places c.loop-basket-test.true).rises
 
 pub add_runs-requires-clause-long : goal.add_runs-requires-clause-long
 add_runs-requires-clause-long c = ap length c.deref_mut.ensures.value ∙ sym (length-lists_in c.loop-basket.of.items) ∙ c.loop-basket.invariant.runs.long
 
-pub loop-basket-init : goal.loop-basket-init
-loop-basket-init c =
-    let empty = c.in_ok-of.ensures in
-    record {
-      runs = record {
-        long = ap length empty ∙ length-replicate c.args.range.count [];
-        are = λ n here. subst (AreRunsOf c.args.ranks.now [] (c.args.range.first + n)) (sym (ap (λ l. get_or l n []) empty ∙ get_or-replicate c.args.range.count n [] [] here)) (record {
-          within = λ k d low. absurd (omega arith);
-          places = λ k d low. absurd (omega arith);
-          weights = λ test. refl;
-        });
-      };
-      again = λ k n low. absurd (omega arith);
-    }
-
 pub add_runs-requires-clause-there : goal.add_runs-requires-clause-there
 add_runs-requires-clause-there c = λ k n low inside here at.
-    let ranks = c.args.ranks.now in
+    let ranks = c.args.baskets.ranks.now in
     let path = c.of-path.result.now in
     let lists = lists_in c.loop-basket.of.items in
     let below : n < length lists = omega (arith, here, ap length c.deref_mut.ensures.value, length-lists_in c.loop-basket.of.items) in
-    let again = shared_again ranks c.args.range.first lists c.loop-basket.last.now path c.shared.result c.shared.ensures.in_first c.shared.ensures.same c.loop-basket.invariant.again k n low below
-    (ap (λ p. get_or p k 0) c.of-path.ensures ∙ at) in
+    let again = shared_again ranks c.args.range.first lists c.loop-basket.last.now path c.shared.result c.shared.ensures.in_first c.shared.ensures.same c.loop-basket.invariant.again k n low below at in
     subst (λ l. 0 < length (get_or (lists_in l) n [])) (sym c.deref_mut.ensures.value) (some_repeats ranks (get_or lists n []) (take k path) again)
 
 pub add_runs-requires-clause-light : goal.add_runs-requires-clause-light
 add_runs-requires-clause-light c = λ n low.
-    let ranks = c.args.ranks.now in
-    let baskets = c.args.baskets.now in
+    let ranks = c.args.baskets.ranks.now in
+    let baskets = c.args.baskets.spans.now in
     let i = c.loop-basket.basket-index in
     let test = c.loop-basket-test.true in
     let runs = get_or (lists_in c.loop-basket.of.items) n [] in
     let here : n < c.args.range.count = omega (arith, low, ap length c.deref_mut.ensures.value, length-lists_in c.loop-basket.of.items, c.loop-basket.invariant.runs.long) in
-    let light = runs_light ranks (baskets_at ranks baskets) i (basket_at ranks none) (c.args.range.first + n) runs (omega (arith, length-map baskets (basket_at ranks), test)) c.requires.ranked.1.light (c.loop-basket.invariant.runs.are n here) in
+    let light = runs_light ranks (baskets_at ranks baskets) i (basket_at ranks none) (c.args.range.first + n) runs (omega (arith, length-map baskets (basket_at ranks), test)) c.args.baskets.ranked.light (c.loop-basket.invariant.runs.are n here) in
     let is = get_or-map (basket_at ranks) baskets i none (basket_at ranks none) test in
     subst (λ l. sum_by (λ (run : Span). run.weight) (get_or (lists_in l) n []) + (get_or baskets i none).weight ≤ MOST_WEIGHT) (sym c.deref_mut.ensures.value)
     (subst (λ (p : Weighted). sum_by (λ (run : Span). run.weight) runs + p.weight ≤ MOST_WEIGHT) is light)
 
 pub loop-basket-preserved : goal.loop-basket-preserved
 loop-basket-preserved c =
-    let ranks = c.args.ranks.now in
-    let baskets = c.args.baskets.now in
-    let count = c.requires.ranked.0 in
+    let ranks = c.args.baskets.ranks.now in
+    let baskets = c.args.baskets.spans.now in
+    let count = c.args.baskets.count in
     let first = c.args.range.first in
     let i = c.loop-basket.basket-index in
     let here = c.loop-basket-test.true in
@@ -75,11 +66,11 @@ loop-basket-preserved c =
     let old = lists_in vec.items in
     let new = lists_in c.add_runs.new.of in
     let inv = c.loop-basket.invariant in
-    let inside = c.requires.within i none here in
-    let is = rank_basket_at ranks count baskets i none c.requires.ranked.1.places here in
+    let inside = c.args.baskets.within i none here in
+    let is = rank_basket_at ranks count baskets i none c.args.baskets.ranked.places here in
     let back = with_items_is vec c.add_runs.new.of (omega (arith, vec.ok, c.add_runs.auto.of, c.deref_mut.ensures.len)) in
     let have : HaveRuns path basket shared (length path) first old new = subst (λ l. HaveRuns path basket shared (length path) first (lists_in l) new) c.deref_mut.ensures.value
-    (subst (λ n. HaveRuns path basket shared n first (lists_in c.deref_mut.result.now) new) (sym (length-range ranks basket inside)) c.in_ok-add_runs.ensures) in
+    (subst (λ p. HaveRuns p basket shared (length p) first (lists_in c.deref_mut.result.now) new) c.of-path.ensures c.in_ok-add_runs.ensures) in
     let are = λ (n : ℕ) (below : n < length old). inv.runs.are n (omega (arith, below, inv.runs.long)) in
     let again = λ (k n : ℕ) (before : k < shared) (within : k < length path) (below : n < length old) (at : get_or path k 0 ≡ first + n).
     subst (λ p. repeats_last (baskets_at ranks (get_or old n [])) (take k p) ≡ true) c.of-path.ensures

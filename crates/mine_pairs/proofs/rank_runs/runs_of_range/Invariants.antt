@@ -7,6 +7,6 @@ use Rattle.mine_pairs.proofs.rank_runs.runs_of_range.Given as goal
 -- each rank of the last basket has a last run there
 abbrev pub invariant-loop-basket : goal.invariant-loop-basket
 invariant-loop-basket l = record {
-  runs : HaveRunsFrom l.range.first l.range.count l.ranks (take l.basket-index (baskets_at l.ranks l.baskets)) (lists_in l.of.items);
-  again : (k n : ℕ) → k < length l.last → n < length (lists_in l.of.items) → get_or l.last k 0 ≡ l.range.first + n → repeats_last (baskets_at l.ranks (get_or (lists_in l.of.items) n [])) (take k l.last) ≡ true;
+  runs : HaveRunsFrom l.range.first l.range.count l.baskets.ranks.now (take l.basket-index (baskets_at l.baskets.ranks.now l.baskets.spans.now)) (lists_in l.of.items);
+  again : (k n : ℕ) → k < length l.last → n < length (lists_in l.of.items) → get_or l.last k 0 ≡ l.range.first + n → repeats_last (baskets_at l.baskets.ranks.now (get_or (lists_in l.of.items) n [])) (take k l.last) ≡ true;
 }

@@ -2,7 +2,7 @@ use Rattle.std.proofs.Common.{◌≡◌, ◌+◌, ◌-◌, ◌<◌, [], ℕ, Lis
 use Rattle.std.specs.declared.alloc.Global.{Global}
 use Rattle.std.specs.declared.vec.Vec.{Vec}
 use Rattle.std.specs.Vec.{with_items}
-use Rattle.std.proofs.lemmas.List.{get_or-map, length-map, map-set, take_all, take_at}
+use Rattle.std.proofs.lemmas.List.{get_or-map, length-map, map-set, take_at}
 use Rattle.basket_sets.specs.Counts.{AllBelow}
 use Rattle.mine_pairs.specs.Pairs.{lists_of}
 use Rattle.mine_pairs.specs.Sums.{WithBasket}
@@ -68,11 +68,6 @@ loop-index-preserved c =
     (row_more c.args.first c.args.weight ranks _ lists index row c.requires.rises c.loop-index-test.true (within w) (rank_is w) c.loop-index.invariant new
     (length_of c.loop-index.rows ∙ c.loop-index.auto.rows ∙ sym (length_of c.args.rows.now)) (c.requires.rows row (within w)) (c.count_below.auto.row ∙ ap length (at_row w))
     (subst (λ l. WithBasket (take index ranks) c.args.weight l new) (at_row w) c.count_below.ensures))
-
-pub returns-after-loop-index : goal.returns-after-loop-index
-returns-after-loop-index c =
-    subst (λ l. WithPairs c.args.first l c.args.ranks.now c.args.weight (lists_of c.args.rows.now) (lists_of c.loop-index.rows))
-    (take_all c.loop-index.index c.args.ranks.now (omega (arith, c.loop-index-test.false))) c.loop-index.invariant
 
 pub returns-then-row-rows : goal.returns-then-row-rows
 returns-then-row-rows c =

@@ -1,11 +1,11 @@
 use Rattle.std.proofs.Common.{◌<◌, [], ℕ, length, subst, sym, ap, ◌∙◌, arith}
 use Rattle.std.specs.declared.alloc.Global.{Global}
 use Rattle.std.specs.declared.vec.Vec.{Vec}
-use Rattle.std.proofs.lemmas.List.{length-map, take_all}
+use Rattle.std.proofs.lemmas.List.{length-map}
 use Rattle.basket_sets.specs.declared.weighted.Weighted.{Weighted}
 use Rattle.basket_sets.specs.Database.{weighted}
 use Rattle.mine_pairs.specs.Pairs.{lists_of}
-use Rattle.mine_pairs.specs.Triangle.{HaveCounts, WithPairs}
+use Rattle.mine_pairs.specs.Triangle.{WithPairs}
 use Rattle.mine_pairs.proofs.TriangleLemmas.{counts_light, counts_more}
 use Rattle.mine_pairs.proofs.triangle.count_pairs.Goals as goal
 
@@ -28,9 +28,3 @@ loop-index-preserved g c =
     counts_more baskets c.loop-index.index (weighted [] 0) c.args.first now here c.loop-index.invariant new
     (length-map c.count_basket.new.rows items ∙ c.count_basket.auto.rows ∙ sym (length-map c.loop-index.rows items))
     (subst (λ (p : Weighted). WithPairs c.args.first p.basket p.basket p.weight now new) c.basket_at-weight.ensures.basket c.count_basket.ensures)
-
-pub returns : goal.returns
-returns g c =
-    let baskets = g.B.RankedBaskets.baskets c.args.baskets.now in
-    subst (λ l. HaveCounts l c.args.first (lists_of c.loop-index.rows))
-    (take_all c.loop-index.index baskets (omega (arith, c.loop-index-test.false, c.basket_count-index-end.ensures))) c.loop-index.invariant

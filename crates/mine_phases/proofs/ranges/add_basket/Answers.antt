@@ -4,5 +4,5 @@ use Rattle.mine_phases.proofs.ranges.add_basket.Goals as goal
 
 pub bounds-steps-rank : goal.bounds-steps-rank
 bounds-steps-rank c =
-    let here = all_below_at (length c.args.steps.now) c.args.ranks.now c.loop-place.place c.requires c.loop-place-test.true in
-    omega (arith, here, c.loop-place.auto.steps)
+    let here = all_below_at (length c.args.steps.now) c.args.ranks.now c.loop-index.index c.requires c.loop-index-test.true in
+    omega (arith, here, c.loop-index.auto.steps)

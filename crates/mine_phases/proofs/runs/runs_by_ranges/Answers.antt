@@ -7,7 +7,7 @@ use Rattle.std.proofs.lemmas.List.Folds.{flat_map-map}
 use Rattle.std.proofs.lemmas.Result.{IfOk-weaker}
 use Rattle.basket_sets.specs.declared.weighted.Weighted.{Weighted}
 use Rattle.mine_baskets.specs.declared.span.Span.{Span}
-use Rattle.mine_baskets.specs.Span.{baskets_at}
+use Rattle.mine_baskets.specs.Baskets.{baskets_in}
 use Rattle.mine_pairs.specs.declared.rank_range.RankRange.{RankRange}
 use Rattle.mine_pairs.specs.Runs.{AreRunsOf, HaveRunsFrom, lists_in}
 use Rattle.mine_pairs.specs.Triangle.{ranks_in}
@@ -43,8 +43,8 @@ runs_joined ranks baskets count ranges values of are has is =
 
 pub returns : goal.returns
 returns g c =
-    let ranks = c.args.ranks.now in
-    let baskets = baskets_at ranks c.args.baskets.now in
+    let ranks = c.args.baskets.ranks.now in
+    let baskets = baskets_in c.args.baskets in
     let count = length c.args.coded.now.items in
     IfOk-weaker c.in_a_row.result _ (λ of. HaveRunsFrom 0 count ranks baskets (lists_in of.items))
     (λ of is. runs_joined ranks baskets count c.in_ok-ranges.ranges.items c.in_ok-lists.lists.items of c.in_ok-ranges.ensures.ranges c.in_ok-lists.ensures is) c.in_a_row.ensures

@@ -1,14 +1,14 @@
 use Rattle.std.proofs.Common.{◌++◌, ◌∷◌, [], get_or, sym, ap, ◌∙◌, arith}
 use Rattle.std.specs.Prelude.{bit_and}
 use Rattle.std.proofs.lemmas.List.{length-set, take_more_set}
-use Rattle.mine_rows.proofs.BitLemmas.{both_more, shared_most_of, shared_step}
+use Rattle.mine_rows.proofs.BitLemmas.{both_more, shared_most, shared_step}
 use Rattle.mine_rows.proofs.bits.put_shared.Goals as goal
 
 pub overflow_add-ones : goal.overflow_add-ones
 overflow_add-ones c =
     let x = c.args.x.now in
     let y = c.args.y.now in
-    let most = shared_most_of x y (λ k. (c.type_inv.y k).fits) in
+    let most = shared_most x y (λ k. (c.type_inv.x k).fits) in
     let step = shared_step x y c.loop-at.at c.requires.same (omega (arith, c.loop-at-test.true, c.loop-at.invariant.long)) in
     omega (arith, most, step, c.loop-at.invariant.ones, c.from-ones.ensures, c.requires.few)
 

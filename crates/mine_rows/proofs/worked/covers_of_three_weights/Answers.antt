@@ -1,5 +1,5 @@
 use Rattle.std.proofs.Common.{[], ◌∷◌, ap, ◌∙◌}
-use Rattle.mine_rows.specs.Cover.{all_places, cover_weight}
+use Rattle.mine_rows.specs.Cover.{all_tids, cover_weight}
 use Rattle.mine_rows.proofs.WorkedLemmas.{all_rise, ends_rise}
 use Rattle.mine_rows.proofs.worked.covers_of_three_weights.Goals as goal
 
@@ -12,6 +12,6 @@ first-requires-2-clause-rises g c = ends_rise
 pub returns : goal.returns
 returns g c =
     let weights = c.in_ok-weights.weights in (
-      c.count.ensures weights (all_places weights) (0 ∷ 1 ∷ 2 ∷ []) c.in_ok-all.ensures ∙ ap (λ l. cover_weight l (0 ∷ 1 ∷ 2 ∷ [])) c.in_ok-weights.ensures,
-      c.count-2.ensures weights (all_places weights) (0 ∷ 2 ∷ []) c.in_ok-ends.ensures ∙ ap (λ l. cover_weight l (0 ∷ 2 ∷ [])) c.in_ok-weights.ensures,
+      c.count.ensures weights (all_tids weights) (0 ∷ 1 ∷ 2 ∷ []) c.in_ok-all.ensures ∙ ap (λ l. cover_weight l (0 ∷ 1 ∷ 2 ∷ [])) c.in_ok-weights.ensures,
+      c.count-2.ensures weights (all_tids weights) (0 ∷ 2 ∷ []) c.in_ok-ends.ensures ∙ ap (λ l. cover_weight l (0 ∷ 2 ∷ [])) c.in_ok-weights.ensures,
     )

@@ -15,14 +15,13 @@ returns-in_err-add_longer g c =
     let inside : c.loop-at.at < length (g.P.Projected.ranks c.args.base.now) = omega (arith, c.loop-at-test.true, c.len-at-end.ensures) in
     record {
       done = fails _ _ _ _ _ _ p.0 p.1
-          (λ limit e node is.
-          let turn = turn_at g.P.Projected.ranks g.met.P.Projected.ranks_are is c.loop-at.at inside in
-          let within = turn_within turn _ _ (c.loop-at.invariant.found node is) in
-          let (same, why) = c.add_longer.ensures.too_many limit (c.in_err-add_longer.was ∙ ap Err (sym p.2 ∙ e)) in
-          record { limit_is = same ∙ c.loop-at.invariant.limit; why = elim why [ inl done ↦ inl done | inr less ↦ inr (omega (arith, within.1, less)) ] })
           (λ node is.
           let turn = turn_at g.P.Projected.ranks g.met.P.Projected.ranks_are is c.loop-at.at inside in
-          let within = turn_within turn _ _ (c.loop-at.invariant.found node is) in omega (arith, within.0, c.add_longer.ensures.at_most))
+          let within = turn_within turn _ _ (c.loop-at.invariant.found node is) in (
+            λ limit e. (let (same, why) = c.add_longer.ensures.too_many limit (c.in_err-add_longer.was ∙ ap Err (sym p.2 ∙ e)) in
+                record { limit_is = same ∙ c.loop-at.invariant.limit; why = elim why [ inl done ↦ inl done | inr less ↦ inr (omega (arith, within.1, less)) ] }),
+            omega (arith, within.0, c.add_longer.ensures.at_most),
+          ))
           (c.add_longer.ensures.limit ∙ c.loop-at.invariant.limit);
     }
 
@@ -34,20 +33,16 @@ returns-in_err-choose g c =
     let one : Counted = record { set = with_item c.item-item.result (set_at now.sets c.args.index); count = c.support-support.result } in
     record {
       done = fails _ _ _ _ _ _ p.0 p.1
-          (λ limit e node is.
-          let turn = turn_at g.P.Projected.ranks g.met.P.Projected.ranks_are is c.loop-at.at inside in
-          let part = c.loop-at.invariant.found node is in
-          let within = turn_within turn _ _ part in
-          let many = bounds turn (c.requires.straight node is.given) part c.loop-at.invariant.start c.len-end.ensures in
-          let more = ap length c.in_ok-add_longer.ensures.sets ∙ length-append now.sets (one ∷ []) in
-          let (same, why) = c.choose.ensures.too_many limit (c.in_err-choose.was ∙ ap Err (sym p.2 ∙ e)) in
-          record { limit_is = same ∙ c.add_longer.ensures.limit ∙ c.loop-at.invariant.limit; why = elim why [ inl done ↦ inl done | inr less ↦ inr (omega (arith, within.1, less, many, more)) ] })
           (λ node is.
           let turn = turn_at g.P.Projected.ranks g.met.P.Projected.ranks_are is c.loop-at.at inside in
           let part = c.loop-at.invariant.found node is in
           let within = turn_within turn _ _ part in
           let many = bounds turn (c.requires.straight node is.given) part c.loop-at.invariant.start c.len-end.ensures in
-          omega (arith, within.0, c.in_ok-add_longer.ensures.told, c.choose.ensures.at_most, many))
+          let more = ap length c.in_ok-add_longer.ensures.sets ∙ length-append now.sets (one ∷ []) in (
+            λ limit e. (let (same, why) = c.choose.ensures.too_many limit (c.in_err-choose.was ∙ ap Err (sym p.2 ∙ e)) in
+                record { limit_is = same ∙ c.add_longer.ensures.limit ∙ c.loop-at.invariant.limit; why = elim why [ inl done ↦ inl done | inr less ↦ inr (omega (arith, within.1, less, many, more)) ] }),
+            omega (arith, within.0, c.in_ok-add_longer.ensures.told, c.choose.ensures.at_most, many),
+          ))
           (c.choose.ensures.limit ∙ c.add_longer.ensures.limit ∙ c.loop-at.invariant.limit);
     }
 

@@ -14,24 +14,23 @@ returns-in_err-longer-clause-done g t c =
     let p = err_from_is_err_and c.from_residual.result c.from_residual.ensures.1 in
     let inside : c.loop-at.at < length (g.P.Projected.ranks c.args.base.now) = omega (arith, c.loop-at-test.true, c.len-at-end.ensures) in
     fails _ _ _ _ _ _ p.0 p.1
-    (λ limit e node is.
-    let turn = turn_at g.P.Projected.ranks g.met.P.Projected.ranks_are is c.loop-at.at inside in
-    let within = turn_within turn _ _ (c.loop-at.invariant.found node is) in
-    let (same, why) = c.add_longer.ensures.too_many limit (c.in_err-longer.was ∙ ap Err (sym p.2 ∙ e)) in
-    record { limit_is = same ∙ c.loop-at.invariant.limit; why = elim why [ inl done ↦ inl done | inr less ↦ inr (omega (arith, within.1, less)) ] })
     (λ node is.
     let turn = turn_at g.P.Projected.ranks g.met.P.Projected.ranks_are is c.loop-at.at inside in
-    let within = turn_within turn _ _ (c.loop-at.invariant.found node is) in omega (arith, within.0, c.add_longer.ensures.at_most))
+    let within = turn_within turn _ _ (c.loop-at.invariant.found node is) in (
+      λ limit e. (let (same, why) = c.add_longer.ensures.too_many limit (c.in_err-longer.was ∙ ap Err (sym p.2 ∙ e)) in
+          record { limit_is = same ∙ c.loop-at.invariant.limit; why = elim why [ inl done ↦ inl done | inr less ↦ inr (omega (arith, within.1, less)) ] }),
+      omega (arith, within.0, c.add_longer.ensures.at_most),
+    ))
     (c.add_longer.ensures.limit ∙ c.loop-at.invariant.limit)
 
 pub returns-in_err-below-clause-done : goal.returns-in_err-below-clause-done
 returns-in_err-below-clause-done g t c =
     let p = err_from_is_err_and c.from_residual-in_err-below.result c.from_residual-in_err-below.ensures.1 in
     let inside : c.loop-at.at < length (g.P.Projected.ranks c.args.base.now) = omega (arith, c.loop-at-test.true, c.len-at-end.ensures) in
-    fails _ _ _ _ _ _ p.0 p.1 (λ limit e. absurd (let other = sym p.2 ∙ e in cc))
+    fails _ _ _ _ _ _ p.0 p.1
     (λ node is.
     let turn = turn_at g.P.Projected.ranks g.met.P.Projected.ranks_are is c.loop-at.at inside in
-    let within = turn_within turn _ _ (c.loop-at.invariant.found node is) in omega (arith, within.0, c.in_ok-longer.ensures.told))
+    let within = turn_within turn _ _ (c.loop-at.invariant.found node is) in (λ limit e. absurd (let other = sym p.2 ∙ e in cc), omega (arith, within.0, c.in_ok-longer.ensures.told)))
     (c.add_longer.ensures.limit ∙ c.loop-at.invariant.limit)
 
 pub extend-requires : goal.extend-requires
@@ -43,7 +42,7 @@ extend-requires g t c = λ κs lives.
     let now = c.loop-at.mined in
     let one : Counted = record { set = with_item c.item-item.result (set_at now.sets c.args.index); count = c.support-support.result } in
     let at = reached g.P.Projected.number g.T.Tally.told_of g.T.Tally.limit_of g.T.Tally.is_over in
-    let with_one = at (record { sets = c.add_longer.new.self.sets; steps = c.narrowed.new.steps }) c.add_longer.new.tally in
+    let with_one = at (record { sets = c.add_longer.new.self.sets; steps = c.projected.new.steps }) c.add_longer.new.tally in
     let adds = adds_one one (node.over.work (rank ∷ node.set)) (at now c.loop-at.tally) with_one c.in_ok-longer.ensures.sets
     (omega (arith, c.in_ok-below.ensures.work node is.given, ap g.P.Projected.number c.add_longer.ensures.steps)) c.in_ok-longer.ensures.told c.in_ok-longer.ensures.going_on
     (omega (arith, c.in_ok-below.ensures.work node is.given, c.in_ok-below.ensures.little)) c.loop-at.invariant.going in
@@ -63,23 +62,18 @@ returns-in_err-extend-clause-done g t c =
     let one : Counted = record { set = with_item c.item-item.result (set_at now.sets c.args.index); count = c.support-support.result } in
     let done = c.extend.ensures.done in
     fails _ _ _ _ _ _ p.0 p.1
-    (λ limit e node is.
+    (λ node is.
     let turn = turn_at g.P.Projected.ranks g.met.P.Projected.ranks_are is c.loop-at.at inside in
     let part = c.loop-at.invariant.found node is in
     let below = extended turn c.args.index c.requires.found refl (c.item-item.ensures node is.given) (c.support-support.ensures node is.given) part
     c.in_ok-longer.ensures.index c.in_ok-longer.ensures.sets in
     let inner : IsOf g.P.Projected.gives c.in-Some.inner _ (child node rank) = record { given = (rw c.in-Some.is at c.in_ok-below.ensures.below) node is.given; is = below.inner } in
     let within = turn_within turn _ _ part in
-    let more = ap length c.in_ok-longer.ensures.sets ∙ length-append now.sets (one ∷ []) in
-    let many = done.too_many limit (c.in_err-extend.was ∙ ap Err (sym p.2 ∙ e)) (child node rank) inner in
-    record { limit_is = many.limit_is ∙ c.add_longer.ensures.limit ∙ c.loop-at.invariant.limit; why = elim many.why [ inl done ↦ inl done | inr less ↦ inr (omega (arith, within.1, less, more)) ] })
-    (λ node is.
-    let turn = turn_at g.P.Projected.ranks g.met.P.Projected.ranks_are is c.loop-at.at inside in
-    let part = c.loop-at.invariant.found node is in
-    let below = extended turn c.args.index c.requires.found refl (c.item-item.ensures node is.given) (c.support-support.ensures node is.given) part
-    c.in_ok-longer.ensures.index c.in_ok-longer.ensures.sets in
-    let within = turn_within turn _ _ part in
-    omega (arith, within.0, c.in_ok-longer.ensures.told, done.at_most (child node rank) (record { given = (rw c.in-Some.is at c.in_ok-below.ensures.below) node is.given; is = below.inner })))
+    let more = ap length c.in_ok-longer.ensures.sets ∙ length-append now.sets (one ∷ []) in (
+      λ limit e. (let many = done.too_many limit (c.in_err-extend.was ∙ ap Err (sym p.2 ∙ e)) (child node rank) inner in
+          record { limit_is = many.limit_is ∙ c.add_longer.ensures.limit ∙ c.loop-at.invariant.limit; why = elim many.why [ inl done ↦ inl done | inr less ↦ inr (omega (arith, within.1, less, more)) ] }),
+      omega (arith, within.0, c.in_ok-longer.ensures.told, done.at_most (child node rank) inner),
+    ))
     (done.limit ∙ c.add_longer.ensures.limit ∙ c.loop-at.invariant.limit)
 
 pub loop-at-preserved : goal.loop-at-preserved
@@ -89,7 +83,7 @@ loop-at-preserved g t c =
     let now = c.loop-at.mined in
     let one : Counted = record { set = with_item c.item-item.result (set_at now.sets c.args.index); count = c.support-support.result } in
     let at = reached g.P.Projected.number g.T.Tally.told_of g.T.Tally.limit_of g.T.Tally.is_over in
-    let with_one = at (record { sets = c.add_longer.new.self.sets; steps = c.narrowed.new.steps }) c.add_longer.new.tally in
+    let with_one = at (record { sets = c.add_longer.new.self.sets; steps = c.projected.new.steps }) c.add_longer.new.tally in
     let found : (node : Node) → IsOf g.P.Projected.gives c.args.base.now (set_at c.args.mined.now.sets c.args.index) node
     → FindsPart node (c.loop-at.at + 1) (at c.args.mined.now c.args.tally.now) (at c.match-below.mined c.match-below.tally)
     = λ node is.
@@ -107,7 +101,7 @@ loop-at-preserved g t c =
           (w.in_ok-extend.ensures.done.found (child node rank) (record { given = (rw w.in-Some.is at c.in_ok-below.ensures.below) node is.given; is = all.inner })))
       | in_default w ↦
           subst (λ m. FindsAll with_one (at m c.match-below.tally) (child node rank)) (sym w.mined-is)
-          (subst (λ s. FindsAll with_one (at (record { sets = c.add_longer.new.self.sets; steps = c.narrowed.new.steps }) s) (child node rank)) (sym w.tally-is)
+          (subst (λ s. FindsAll with_one (at (record { sets = c.add_longer.new.self.sets; steps = c.projected.new.steps }) s) (child node rank)) (sym w.tally-is)
           (finds_none (child node rank) ((rw w.in_default.is at c.in_ok-below.ensures.none) node is.given) with_one adds.going))
     ] in
     turn_adds turn one _ (at now c.loop-at.tally) with_one _ all.found part adds below

@@ -9,7 +9,7 @@ use Rattle.mine_vertical.proofs.eclat.eclat_class_with.Goals as goal
 pub returns-then-support-least-clause-class : goal.returns-then-support-least-clause-class
 returns-then-support-least-clause-class g c =
     let not = rare c.args.vertical.now c.least-least.result c.runs-runs.result.now.baskets c.least-least.ensures c.runs-runs.ensures.weights c.args.rank (omega (arith, c.if-support-least.true, c.support-support.ensures)) in
-    mining_none c.rare_ranks_have_no_class.ensures not c.in_ok-none.ensures c.requires.going
+    mining_none not c.in_ok-none.ensures c.requires.going
 
 pub returns-then-support-least-clause-joins : goal.returns-then-support-least-clause-joins
 returns-then-support-least-clause-joins g c = λ each.
@@ -24,7 +24,7 @@ list-requires-clause-class g c =
     let long : length c.in_ok-local.siblings.items ≤ c.len.result = omega (arith, c.len.ensures) in
     let are = c.in_ok-local.ensures.siblings in (
       over coding least,
-      class_is coding least all c.least-least.ensures c.runs-runs.ensures.weights g.R.Row.stands _ c.args.rank c.in_ok-local.local c.conditional_supports.ensures c.coded-coded.ensures.coding are
+      class_is coding least all c.least-least.ensures c.runs-runs.ensures.weights g.R.Row.stands _ c.args.rank c.in_ok-local.local c.coded-coded.ensures.coding are
           c.coded-coded.ensures.coded refl (sym c.in_ok-new.ensures.ok) long c.requires.rank c.support-support.result c.support-support.ensures (omega (arith, c.if-support-least.false)),
     )
 
@@ -37,7 +37,7 @@ returns-clause-joins g c =
     let are = c.in_ok-local.ensures.siblings in
     IfOk-weaker c.list.result _ _ (λ mined work each.
     let is = work (over coding least)
-    (class_is coding least all c.least-least.ensures c.runs-runs.ensures.weights g.R.Row.stands _ c.args.rank c.in_ok-local.local c.conditional_supports.ensures c.coded-coded.ensures.coding are
+    (class_is coding least all c.least-least.ensures c.runs-runs.ensures.weights g.R.Row.stands _ c.args.rank c.in_ok-local.local c.coded-coded.ensures.coding are
     c.coded-coded.ensures.coded refl (sym c.in_ok-new.ensures.ok) long c.requires.rank c.support-support.result c.support-support.ensures (omega (arith, c.if-support-least.false))) in
     let joins = joins_are coding least all c.least-least.ensures c.runs-runs.ensures.weights c.args.rank each c.requires.rank in
     omega (arith, is, joins, c.in_ok-local.ensures.joins, c.none-joins.ensures)) c.list.ensures.work

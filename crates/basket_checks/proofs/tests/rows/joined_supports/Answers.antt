@@ -1,6 +1,6 @@
 use Rattle.std.proofs.Common.{List, ℕ, [], ◌∷◌}
 use Rattle.basket_sets.proofs.theory.Rising.{rising-rises}
-use Rattle.mine_rows.specs.Cover.{all_places, common}
+use Rattle.mine_rows.specs.Cover.{all_tids, common}
 use Rattle.basket_checks.proofs.tests.rows.joined_supports.Goals as goal
 
 -- the covers of 1, 2 and 3
@@ -24,7 +24,7 @@ first-requires-3-clause-rises g c = rising-rises three
 
 pub joined-requires-3 : goal.joined-requires-3
 joined-requires-3 g c =
-    let all = all_places c.in_ok-weights.weights in (
+    let all = all_tids c.in_ok-weights.weights in (
       one,
       common one two,
       common one three,

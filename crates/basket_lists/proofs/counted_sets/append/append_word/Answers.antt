@@ -26,5 +26,5 @@ returns-in-Some-clause-sets c coding all other =
     let others = c.args.other_plain.now in
     let one : Counted = record { set = c.items.result.now; count = c.count.result } in
     let same : one ≡ kept coding others c.args.other =
-    (λ i. record { set = c.items.ensures.items i; count = c.count.ensures i }) ∙ sym (kept_elsewhere coding others c.args.other c.in-Some.place c.in-Some.ensures.elsewhere) in
+    (λ i. record { set = c.items.ensures.items i; count = c.count.ensures i }) ∙ sym (kept_elsewhere coding others c.args.other c.in-Some.index c.in-Some.ensures.elsewhere) in
     on_ok_weaker c.push_elsewhere.result (λ sets. sets ∙ ap (λ last. map (kept coding c.args.plain.now) c.args.words.now.items ++ last ∷ []) same) (c.push_elsewhere.ensures.sets coding all)

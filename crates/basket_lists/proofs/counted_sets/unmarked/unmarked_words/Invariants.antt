@@ -5,9 +5,9 @@ use Rattle.basket_lists.proofs.UnmarkedLemmas.{AreUnmarkedBelow}
 use Rattle.basket_lists.proofs.counted_sets.unmarked.unmarked_words.Given as goal
 
 -- the words so far were taken
-abbrev pub invariant-loop-place : goal.invariant-loop-place
-invariant-loop-place l = record {
+abbrev pub invariant-loop-index : goal.invariant-loop-index
+invariant-loop-index l = record {
   words : (coding : Coding) → All (IsKept coding l.other_plain) l.others → All (IsKept coding l.plain) l.words.items;
   sets : (coding : Coding) → All (IsKept coding l.other_plain) l.others
-      → AreUnmarkedBelow l.marks (map (kept coding l.other_plain) l.others) l.place (map (kept coding l.plain) l.words.items);
+      → AreUnmarkedBelow l.marks (map (kept coding l.other_plain) l.others) l.index (map (kept coding l.plain) l.words.items);
 }

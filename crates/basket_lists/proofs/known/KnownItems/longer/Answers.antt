@@ -2,57 +2,57 @@ use Rattle.std.proofs.Common.{◌≡◌, ℕ, ◌+◌, ◌*◌, ◌^◌, ◌<◌
 use Rattle.basket_lists.specs.declared.packed.Packed.{Packed}
 use Rattle.basket_lists.specs.Known.{FitsWord, IsBetween, IsWordOf, longer_number}
 use Rattle.basket_lists.specs.Packed.{Coding, IsCoding, IsLonger, IsPacked, code_of, number_of, size_of}
-use Rattle.basket_lists.proofs.PlaceLemmas.{longer_fits, longer_is, longer_small}
+use Rattle.basket_lists.proofs.LongerLemmas.{longer_fits, longer_is, longer_small}
 use Rattle.basket_lists.proofs.known.KnownItems.longer.Goals as goal
 
 -- the values that the function has, and what they are
-module _ (coding : Coding) (is : IsCoding coding) (packed : Packed) (set : IsPacked coding packed) (item count place size number above bits most : ℕ) (known : place < length coding.items)
-    (named : get_or coding.items place 0 ≡ item) (size_is : size ≡ size_of coding (code_of coding packed)) (of_packed : number ≡ number_of coding (code_of coding packed))
-    (between : IsBetween coding.item_bits size number place above) (bits_are : bits ≡ coding.item_bits) (most_is : most ≡ coding.most) (room : size < most) where
-  is_between : IsBetween coding.item_bits (size_of coding (code_of coding packed)) (number_of coding (code_of coding packed)) place above
-  is_between = subst (λ n. IsBetween coding.item_bits (size_of coding (code_of coding packed)) n place above) of_packed (subst (λ s. IsBetween coding.item_bits s number place above) size_is between)
+module _ (coding : Coding) (is : IsCoding coding) (packed : Packed) (set : IsPacked coding packed) (item count index size number above bits most : ℕ) (known : index < length coding.items)
+    (named : get_or coding.items index 0 ≡ item) (size_is : size ≡ size_of coding (code_of coding packed)) (of_packed : number ≡ number_of coding (code_of coding packed))
+    (between : IsBetween coding.item_bits size number index above) (bits_are : bits ≡ coding.item_bits) (most_is : most ≡ coding.most) (room : size < most) where
+  is_between : IsBetween coding.item_bits (size_of coding (code_of coding packed)) (number_of coding (code_of coding packed)) index above
+  is_between = subst (λ n. IsBetween coding.item_bits (size_of coding (code_of coding packed)) n index above) of_packed (subst (λ s. IsBetween coding.item_bits s number index above) size_is between)
 
   has_room : size_of coding (code_of coding packed) < coding.most
   has_room = omega (arith, size_is, most_is, room)
 
-  same : longer_number coding.item_bits number place (above * bits) ≡ longer_number coding.item_bits (number_of coding (code_of coding packed)) place (above * coding.item_bits)
-  same = ap (λ n. longer_number coding.item_bits n place (above * bits)) of_packed ∙ ap (λ b. longer_number coding.item_bits (number_of coding (code_of coding packed)) place (above * b)) bits_are
+  same : longer_number coding.item_bits number index (above * bits) ≡ longer_number coding.item_bits (number_of coding (code_of coding packed)) index (above * coding.item_bits)
+  same = ap (λ n. longer_number coding.item_bits n index (above * bits)) of_packed ∙ ap (λ b. longer_number coding.item_bits (number_of coding (code_of coding packed)) index (above * b)) bits_are
 
-  pub is_small : longer_number coding.item_bits number place (above * bits) < 2 ^ 121
-  is_small = subst (λ n. n < 2 ^ 121) (sym same) (longer_small coding is packed set place item count above known named is_between has_room)
+  pub is_small : longer_number coding.item_bits number index (above * bits) < 2 ^ 121
+  is_small = subst (λ n. n < 2 ^ 121) (sym same) (longer_small coding is packed set index item count above known named is_between has_room)
 
-  module _ (longer : ℕ) (longer_number_is : longer ≡ longer_number coding.item_bits number place (above * bits)) (fits : count < 2 ^ coding.count_bits) where
+  module _ (longer : ℕ) (longer_number_is : longer ≡ longer_number coding.item_bits number index (above * bits)) (fits : count < 2 ^ coding.count_bits) where
     pub fits_word : FitsWord coding (size + 1) longer count
     fits_word = record {
       sized = omega (arith, size_is, has_room);
       numbered = subst (λ s. longer < 2 ^ ((s + 1) * coding.item_bits)) (sym size_is)
           (subst (λ n. n < 2 ^ ((size_of coding (code_of coding packed) + 1) * coding.item_bits)) (sym (longer_number_is ∙ same))
-          (longer_fits coding is packed set place item count above known named is_between has_room));
+          (longer_fits coding is packed set index item count above known named is_between has_room));
       counted = fits;
     }
 
     pub is_longer : (word : Packed) → IsWordOf coding (size + 1) longer count word → IsLonger coding packed item count word
-    is_longer word made = longer_is coding is packed set place item count above known named is_between has_room word
-        (subst (λ s. IsWordOf coding (s + 1) (longer_number coding.item_bits (number_of coding (code_of coding packed)) place (above * coding.item_bits)) count word) size_is
+    is_longer word made = longer_is coding is packed set index item count above known named is_between has_room word
+        (subst (λ s. IsWordOf coding (s + 1) (longer_number coding.item_bits (number_of coding (code_of coding packed)) index (above * coding.item_bits)) count word) size_is
         (subst (λ n. IsWordOf coding (size + 1) n count word) (longer_number_is ∙ same) made))
 
-pub with_place-longer-requires-clause-room : goal.with_place-longer-requires-clause-room
-with_place-longer-requires-clause-room c =
-    is_small c.args.self.now (subst IsCoding c.self.view_is c.self.invariant) c.args.packed.now c.requires c.args.item c.args.count c.in_ok-place.field-0 c.code_size-size.result c.number-number.result
-    c.in_ok-above.above c.self.inside.item_bits c.self.inside.most c.in_ok-place.ensures.within c.in_ok-place.ensures.is c.code_size-size.ensures
+pub with_digit-longer-requires-clause-room : goal.with_digit-longer-requires-clause-room
+with_digit-longer-requires-clause-room c =
+    is_small c.args.self.now (subst IsCoding c.self.view_is c.self.invariant) c.args.packed.now c.requires c.args.item c.args.count c.in_ok-index.field-0 c.code_size-size.result c.number-number.result
+    c.in_ok-above.above c.self.inside.item_bits c.self.inside.most c.in_ok-index.ensures.within c.in_ok-index.ensures.is c.code_size-size.ensures
     c.number-number.ensures c.in_ok-above.ensures (ap (λ (k : Coding). k.item_bits) c.self.view_is) (ap (λ (k : Coding). k.most) c.self.view_is) c.if-size-self.false
 
 pub word-requires : goal.word-requires
 word-requires c = record {
-  fits = fits_word c.args.self.now (subst IsCoding c.self.view_is c.self.invariant) c.args.packed.now c.requires c.args.item c.args.count c.in_ok-place.field-0 c.code_size-size.result
-      c.number-number.result c.in_ok-above.above c.self.inside.item_bits c.self.inside.most c.in_ok-place.ensures.within c.in_ok-place.ensures.is
+  fits = fits_word c.args.self.now (subst IsCoding c.self.view_is c.self.invariant) c.args.packed.now c.requires c.args.item c.args.count c.in_ok-index.field-0 c.code_size-size.result
+      c.number-number.result c.in_ok-above.above c.self.inside.item_bits c.self.inside.most c.in_ok-index.ensures.within c.in_ok-index.ensures.is
       c.code_size-size.ensures c.number-number.ensures c.in_ok-above.ensures (ap (λ (k : Coding). k.item_bits) c.self.view_is) (ap (λ (k : Coding). k.most) c.self.view_is) c.if-size-self.false
-      c.with_place-longer.result c.with_place-longer.ensures (c.if-not-has_room.ensures refl);
+      c.with_digit-longer.result c.with_digit-longer.ensures (c.if-not-has_room.ensures refl);
 }
 
 pub returns : goal.returns
 returns c =
-    is_longer c.args.self.now (subst IsCoding c.self.view_is c.self.invariant) c.args.packed.now c.requires c.args.item c.args.count c.in_ok-place.field-0 c.code_size-size.result c.number-number.result
-    c.in_ok-above.above c.self.inside.item_bits c.self.inside.most c.in_ok-place.ensures.within c.in_ok-place.ensures.is c.code_size-size.ensures
-    c.number-number.ensures c.in_ok-above.ensures (ap (λ (k : Coding). k.item_bits) c.self.view_is) (ap (λ (k : Coding). k.most) c.self.view_is) c.if-size-self.false c.with_place-longer.result
-    c.with_place-longer.ensures (c.if-not-has_room.ensures refl) c.word.result c.word.ensures
+    is_longer c.args.self.now (subst IsCoding c.self.view_is c.self.invariant) c.args.packed.now c.requires c.args.item c.args.count c.in_ok-index.field-0 c.code_size-size.result c.number-number.result
+    c.in_ok-above.above c.self.inside.item_bits c.self.inside.most c.in_ok-index.ensures.within c.in_ok-index.ensures.is c.code_size-size.ensures
+    c.number-number.ensures c.in_ok-above.ensures (ap (λ (k : Coding). k.item_bits) c.self.view_is) (ap (λ (k : Coding). k.most) c.self.view_is) c.if-size-self.false c.with_digit-longer.result
+    c.with_digit-longer.ensures (c.if-not-has_room.ensures refl) c.word.result c.word.ensures

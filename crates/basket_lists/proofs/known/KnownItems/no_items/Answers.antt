@@ -1,12 +1,12 @@
 use Rattle.std.proofs.Common.{◌≡◌, ℕ, ◌*◌, [], length, sym, ap, subst, arith, true≢false}
 use Rattle.std.proofs.lemmas.Nat.{pow_pos}
-use Rattle.basket_lists.specs.Packed.{Coding, code_of, digits, items_at, number_of, places_of, size_of}
+use Rattle.basket_lists.specs.Packed.{Coding, code_of, digits, items_at, number_of, indexes_of, size_of}
 use Rattle.basket_sets.specs.Itemset.{AllBelow, IsRising}
 use Rattle.basket_sets.proofs.theory.Rising.{nil_rises}
 use Rattle.basket_lists.proofs.known.KnownItems.no_items.Goals as goal
 
--- a code of no items has no places
-none_at : (coding : Coding) (code : ℕ) → size_of coding code ≡ 0 → places_of coding code ≡ []
+-- a code of no items has no indexes
+none_at : (coding : Coding) (code : ℕ) → size_of coding code ≡ 0 → indexes_of coding code ≡ []
 none_at coding code none = ap (λ s. digits coding.item_bits s (number_of coding code)) none
 
 pub returns-clause-packed : goal.returns-clause-packed
@@ -14,7 +14,7 @@ returns-clause-packed c =
     let coding = c.args.self.now in
     let code = code_of coding c.word.result in
     let word = c.word.ensures in
-    let none : places_of coding code ≡ [] = none_at coding code word.sized in
+    let none : indexes_of coding code ≡ [] = none_at coding code word.sized in
     record {
       code = record {
         size = omega (arith, word.sized);

@@ -3,31 +3,31 @@ use Rattle.std.proofs.lemmas.Bool.{cases_eq}
 use Rattle.std.proofs.lemmas.List.{get_or_default, length-take-le, same_lists}
 use Rattle.basket_lists.specs.Packed.{Coding, IsCoding, IsPacked, code_of, number_of, set_of, size_of}
 use Rattle.basket_lists.specs.declared.packed.Packed.{Packed}
-use Rattle.basket_lists.proofs.PlaceLemmas.{digit_item, digit_known, rest_next, set_length}
+use Rattle.basket_lists.proofs.LongerLemmas.{digit_item, digit_known, rest_next, set_length}
 use Rattle.basket_lists.proofs.known.KnownItems.put.Goals as goal
 
--- the number of the places of the items that are left
+-- the number of the indexes of the items that are left
 rest_at : (coding : Coding) (code size left rest : ℕ) → rest ≡ number_of coding code / 2 ^ ((size - left) * coding.item_bits) → size ≡ size_of coding code
     → rest ≡ number_of coding code / 2 ^ ((size_of coding code - left) * coding.item_bits)
 rest_at coding code size left rest is same = is ∙ ap (λ s. number_of coding code / 2 ^ ((s - left) * coding.item_bits)) same
 
--- its lowest digit is the place of a known item
-known_place : (coding own : Coding) (packed : Packed) (size left rest digit : ℕ) (items : List ℕ) → IsCoding own → own ≡ coding → IsPacked coding packed
+-- its lowest digit is the index of a known item
+known_index : (coding own : Coding) (packed : Packed) (size left rest digit : ℕ) (items : List ℕ) → IsCoding own → own ≡ coding → IsPacked coding packed
     → 0 < left → left ≤ size → size ≡ size_of coding (code_of coding packed) → rest ≡ number_of coding (code_of coding packed) / 2 ^ ((size - left) * coding.item_bits)
     → digit ≡ rest % 2 ^ own.item_bits → items ≡ own.items → digit < length items
-known_place coding own packed size left rest digit items is same set some few sized at low all =
+known_index coding own packed size left rest digit items is same set some few sized at low all =
     let known = digit_known coding (subst IsCoding same is) packed set left rest some (omega (arith, few, sized)) (rest_at coding (code_of coding packed) size left rest at sized) in
     omega (arith, low, known, ap (λ (k : Coding). rest % 2 ^ k.item_bits) same, ap (λ (k : Coding). length k.items) same, ap length all)
 
 pub offset_bounds-items-low_bits : goal.offset_bounds-items-low_bits
 offset_bounds-items-low_bits c =
-    let inside = known_place c.args.self.now _ c.args.packed.now c.code_size-size.result c.loop-left.left c.loop-left.rest c.low_bits.result c.deref-items.result.now c.self.invariant c.self.view_is c.requires
+    let inside = known_index c.args.self.now _ c.args.packed.now c.code_size-size.result c.loop-left.left c.loop-left.rest c.low_bits.result c.deref-items.result.now c.self.invariant c.self.view_is c.requires
     c.loop-left-test.true c.loop-left.invariant.few c.code_size-size.ensures c.loop-left.invariant.rest c.low_bits.ensures c.deref-items.ensures.value in
     search (rules, inside)
 
 pub bounds-items-low_bits : goal.bounds-items-low_bits
 bounds-items-low_bits c =
-    known_place c.args.self.now _ c.args.packed.now c.code_size-size.result c.loop-left.left c.loop-left.rest c.low_bits.result c.deref-items.result.now c.self.invariant c.self.view_is c.requires
+    known_index c.args.self.now _ c.args.packed.now c.code_size-size.result c.loop-left.left c.loop-left.rest c.low_bits.result c.deref-items.result.now c.self.invariant c.self.view_is c.requires
     c.loop-left-test.true c.loop-left.invariant.few c.code_size-size.ensures c.loop-left.invariant.rest c.low_bits.ensures c.deref-items.ensures.value
 
 pub loop-left-preserved : goal.loop-left-preserved

@@ -2,8 +2,8 @@ use Rattle.std.proofs.Common.{◌++◌, ◌∷◌, [], length, sym, ap, ◌∙�
 use Rattle.std.specs.Prelude.{All}
 use Rattle.std.proofs.lemmas.List.{length-append}
 use Rattle.basket_lists.specs.declared.set_span.SetSpan.{SetSpan}
-use Rattle.basket_lists.specs.Plain.{IsPlaceOfSet, placed_sets}
-use Rattle.basket_lists.proofs.PlainLemmas.{IsAtEnd, on_any_error, places_pushed, placed_sets-append, placed_sets_pushed}
+use Rattle.basket_lists.specs.Plain.{IsSpanOfSet, spanned_sets}
+use Rattle.basket_lists.proofs.PlainLemmas.{IsAtEnd, on_any_error, spans_pushed, spanned_sets-append, spanned_sets_pushed}
 use Rattle.basket_lists.proofs.plain.PlainSets.push.Goals as goal
 
 -- the set stands at the end
@@ -18,32 +18,32 @@ at_end c =
 pub invariant_of-self-2 : goal.invariant_of-self-2
 invariant_of-self-2 c =
     let items = c.self.inside.items.items in
-    let places = c.self.inside.places.items in
-    let place : SetSpan = record { start = c.in_ok-start.start; end = c.in_ok-end.end; count = c.args.count } in
-    let all = places_pushed items c.args.set.now places place c.self.invariant c.requires (at_end c) in
-    subst (λ l. All (IsPlaceOfSet l) c.push.new.self.items) (sym c.in_ok-extend_from_slice.ensures.items)
-    (subst (All (IsPlaceOfSet (items ++ c.args.set.now))) (sym c.in_ok-push.ensures.items) all)
+    let spans = c.self.inside.spans.items in
+    let span : SetSpan = record { start = c.in_ok-start.start; end = c.in_ok-end.end; count = c.args.count } in
+    let all = spans_pushed items c.args.set.now spans span c.self.invariant c.requires (at_end c) in
+    subst (λ l. All (IsSpanOfSet l) c.push.new.self.items) (sym c.in_ok-extend_from_slice.ensures.items)
+    (subst (All (IsSpanOfSet (items ++ c.args.set.now))) (sym c.in_ok-push.ensures.items) all)
 
 pub returns-clause-pushed : goal.returns-clause-pushed
 returns-clause-pushed c =
     let items = c.self.inside.items.items in
-    let places = c.self.inside.places.items in
-    let place : SetSpan = record { start = c.in_ok-start.start; end = c.in_ok-end.end; count = c.args.count } in
-    ap (λ l. placed_sets l c.push.new.self.items) c.in_ok-extend_from_slice.ensures.items ∙ ap (placed_sets (items ++ c.args.set.now)) c.in_ok-push.ensures.items
-    ∙ placed_sets_pushed items c.args.set.now places place c.self.invariant (at_end c)
+    let spans = c.self.inside.spans.items in
+    let span : SetSpan = record { start = c.in_ok-start.start; end = c.in_ok-end.end; count = c.args.count } in
+    ap (λ l. spanned_sets l c.push.new.self.items) c.in_ok-extend_from_slice.ensures.items ∙ ap (spanned_sets (items ++ c.args.set.now)) c.in_ok-push.ensures.items
+    ∙ spanned_sets_pushed items c.args.set.now spans span c.self.invariant (at_end c)
     ∙ ap (λ sets. sets ++ record { set = c.args.set.now; count = c.args.count } ∷ []) c.self.view_is
 
 pub returns-in_err-end-clause-kept : goal.returns-in_err-end-clause-kept
 returns-in_err-end-clause-kept c =
     let items = c.self.inside.items.items in
-    let places = c.self.inside.places.items in
+    let spans = c.self.inside.spans.items in
     on_any_error c.from_residual-in_err-end.result
-    (ap (λ l. placed_sets l places) c.in_ok-extend_from_slice.ensures.items ∙ placed_sets-append items c.args.set.now places c.self.invariant ∙ c.self.view_is)
+    (ap (λ l. spanned_sets l spans) c.in_ok-extend_from_slice.ensures.items ∙ spanned_sets-append items c.args.set.now spans c.self.invariant ∙ c.self.view_is)
 
 pub returns-in_err-push-clause-kept : goal.returns-in_err-push-clause-kept
 returns-in_err-push-clause-kept c =
     let items = c.self.inside.items.items in
-    let places = c.self.inside.places.items in
+    let spans = c.self.inside.spans.items in
     on_any_error c.from_residual-in_err-push.result
-    (ap (λ l. placed_sets l c.push.new.self.items) c.in_ok-extend_from_slice.ensures.items ∙ ap (placed_sets (items ++ c.args.set.now)) c.in_err-push.ensures.items
-    ∙ placed_sets-append items c.args.set.now places c.self.invariant ∙ c.self.view_is)
+    (ap (λ l. spanned_sets l c.push.new.self.items) c.in_ok-extend_from_slice.ensures.items ∙ ap (spanned_sets (items ++ c.args.set.now)) c.in_err-push.ensures.items
+    ∙ spanned_sets-append items c.args.set.now spans c.self.invariant ∙ c.self.view_is)

@@ -6,7 +6,7 @@ use Rattle.basket_lists.proofs.sets.SetsIterator.next.Goals as goal
 pub returns-clause-steps : goal.returns-clause-steps
 returns-clause-steps c =
     let all = c.self.inside.list.now in
-    let place = c.self.inside.place in
+    let index = c.self.inside.index in
     let none : Counted = record { set = []; count = 0 } in
-    let inside : place < length all = omega (arith, c.self.invariant, c.if-self-len.false, c.len.ensures) in
-    (get_or all place none, sym c.self.view_is ∙ drop_more all place none inside, c.counted.ensures)
+    let inside : index < length all = omega (arith, c.self.invariant, c.if-self-len.false, c.len.ensures) in
+    (get_or all index none, sym c.self.view_is ∙ drop_more all index none inside, c.counted.ensures)

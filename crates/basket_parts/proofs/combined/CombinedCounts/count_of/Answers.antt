@@ -13,21 +13,21 @@ pub returns-in-Ok : goal.returns-in-Ok
 returns-in-Ok c =
     let lines = c.self.inside.lines.items in
     let set = c.args.set.now in
-    let place = c.in-Ok.place in
+    let index = c.in-Ok.index in
     let line = c.index.result.now in
-    let below : place < length lines = omega (arith, c.in-Ok.ensures.bound, ap length c.deref.ensures.value) in
+    let below : index < length lines = omega (arith, c.in-Ok.ensures.bound, ap length c.deref.ensures.value) in
     let compared = always_returns_same _ _ _ (λ a r f k. search (rules, of_calls)) in
-    let at = subst (λ (l : List CountedLine). HoldsAt (λ (y : CountedLine). report_order y.set set ≡ Equal) l place) c.deref.ensures.value
+    let at = subst (λ (l : List CountedLine). HoldsAt (λ (y : CountedLine). report_order y.set set ≡ Equal) l index) c.deref.ensures.value
     (c.in-Ok.ensures.position (λ y. report_order y.set set) compared) in
     subst (λ l. Some line.count ≡ count_if l set) c.self.view_is
-    (found_count lines set place line c.self.invariant.in_order below c.index.ensures at)
+    (found_count lines set index line c.self.invariant.in_order below c.index.ensures at)
 
 pub returns-in-Err : goal.returns-in-Err
 returns-in-Err c =
     let lines = c.self.inside.lines.items in
     let set = c.args.set.now in
-    let place = c.in-Err.field-0 in
+    let index = c.in-Err.field-0 in
     let compared = always_returns_same _ _ _ (λ a r f k. search (rules, of_calls)) in
-    let at = subst (λ (l : List CountedLine). IsBinarySearchResult (λ (y : CountedLine). report_order y.set set) l (Err place)) c.deref.ensures.value
+    let at = subst (λ (l : List CountedLine). IsBinarySearchResult (λ (y : CountedLine). report_order y.set set) l (Err index)) c.deref.ensures.value
     (c.in-Err.ensures.position (λ y. report_order y.set set) compared) in
-    subst (λ l. None ≡ count_if l set) c.self.view_is (missing_count lines set place c.self.invariant.in_order at)
+    subst (λ l. None ≡ count_if l set) c.self.view_is (missing_count lines set index c.self.invariant.in_order at)

@@ -1,6 +1,4 @@
 use Rattle.std.proofs.Common.{◌≡◌, ◌⊎◌, ◌++◌, [], true, false, ap, inl, inr, ◌∙◌, arith}
-use Rattle.std.proofs.lemmas.List.Sums.{sum_by-append}
-use Rattle.basket_sets.specs.Support.{total_of, weight_at}
 use Rattle.basket_read.proofs.GatheredLemmas.{joined}
 use Rattle.basket_read.proofs.gathered.GatheredBaskets.append.Goals as goal
 use Rattle.basket_read.proofs.gathered.GatheredBaskets.append.Goals.{else-other-via-then-other+else-not-counts, else-other-via-else-other}
@@ -10,11 +8,6 @@ append-requires c = omega (arith, c.weight.ensures, c.weight-2.ensures, c.satura
 
 pub append-requires-2-clause-light : goal.append-requires-2-clause-light
 append-requires-2-clause-light c = omega (arith, c.weight.ensures, c.weight-2.ensures, c.saturating_add-weight.ensures, c.if-weight-gt-MAX_WEIGHT.false)
-
-pub count-requires : goal.count-requires
-count-requires c =
-    let kept = ap total_of c.in_ok-append-2.ensures.ok ∙ sum_by-append (weight_at []) c.args.self.now.baskets c.args.other.baskets in
-    omega (arith, c.in_ok-append.ensures.total, c.weight.ensures, c.weight-2.ensures, c.saturating_add-weight.ensures, c.if-weight-gt-MAX_WEIGHT.false)
 
 pub returns-clause-baskets : goal.returns-clause-baskets
 returns-clause-baskets c = λ counting apart baskets more h k _.

@@ -1,11 +1,10 @@
-use Rattle.std.proofs.Common.{sym, ap, ◌∙◌, inl, inr}
-use Rattle.basket_read.specs.Fimi.{fault_in}
-use Rattle.basket_read.specs.declared.input.Beginning.TheVariants.{Empty, Decided}
-use Rattle.basket_read.proofs.InputLemmas.{at_beginning, fault_few}
+use Rattle.std.proofs.Common.{sym, arith}
+use Rattle.std.proofs.lemmas.Grind.{common_steps}
+use Rattle.basket_read.proofs.InputLemmas.{text_so_far, fault_few, no_bytes, half_a_mark}
 use Rattle.basket_read.proofs.input.Input.fault_so_far.Goals as goal
 
-pub returns-in-Empty : goal.returns-in-Empty
-returns-in-Empty c = λ counting bytes r. elim c.in-Empty.is [
-  | inl e ↦ sym (ap fault_in (at_beginning c.args.self.now counting bytes r Empty e).0)
-  | inr e ↦ sym (fault_few bytes r.few ∙ (at_beginning c.args.self.now counting bytes r Decided e).1.faultless)
-]
+pub returns-then-self : goal.returns-then-self
+returns-then-self c = λ counting bytes r. grind (arith, common_steps, fault_few, text_so_far, no_bytes)
+
+pub returns : goal.returns
+returns c = λ counting bytes r. sym (half_a_mark c.args.self.now counting bytes r c.if-self.false c.if-self-eq0.false)

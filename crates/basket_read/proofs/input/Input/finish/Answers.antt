@@ -1,8 +1,7 @@
-use Rattle.std.proofs.Common.{ap, sym, subst, ◌∙◌}
-use Rattle.basket_read.specs.Fimi.{baskets_of, answer_of, if_light, text_of}
+use Rattle.std.proofs.Common.{ap, sym, subst}
+use Rattle.basket_read.specs.Fimi.{baskets_of, answer_of, text_of}
 use Rattle.basket_read.specs.Fault.{ReturnsBy}
 use Rattle.basket_read.specs.GatheredBaskets.{Gathers}
-use Rattle.basket_read.specs.Input.{text_after}
 use Rattle.basket_read.proofs.InputLemmas.{text_is}
 use Rattle.basket_read.proofs.input.Input.finish.Goals as goal
 
@@ -12,6 +11,5 @@ returns-in-Some c = λ counting bytes r _. ap (λ f. answer_of f (baskets_of (te
 pub returns : goal.returns
 returns c = λ counting bytes r.
     let none = sym (c.in_default.ensures counting bytes r) in
-    subst (ReturnsBy (Gathers counting) c.finish.result)
-    (ap (λ l. if_light (baskets_of l)) (text_is c.args.self counting bytes r none) ∙ sym (ap (λ f. answer_of f (baskets_of (text_of bytes))) none))
-    (c.finish.ensures counting (text_after c.args.self.beginning bytes) r.text)
+    subst (ReturnsBy (Gathers counting) c.finish.result) (sym (ap (λ f. answer_of f (baskets_of (text_of bytes))) none))
+    (c.finish.ensures counting (text_of bytes) (text_is c.args.self counting bytes r none))

@@ -10,8 +10,8 @@ use Rattle.basket_read.proofs.theory.Grammar.{take_next}
 use Rattle.basket_read.proofs.InputLemmas.{settled_in_piece}
 use Rattle.basket_read.proofs.input.Input.take.Goals as goal
 
-pub returns-in-Decided : goal.returns-in-Decided
-returns-in-Decided g c = λ counting bytes r.
+pub returns-then-self : goal.returns-then-self
+returns-then-self g c = λ counting bytes r.
     subst (λ l. MatchResult c.take_text.result (λ _. IsInputSoFar c.take_text.new.self counting l) (λ fault. ReturnsFault fault (settled_fault l)))
     (ap (λ l. (bytes ++ take c.loop-index.index c.args.piece.now) ++ l)
     (take_all (length c.args.piece.now - c.loop-index.index) (drop c.loop-index.index c.args.piece.now) (omega (arith, length-drop c.loop-index.index c.args.piece.now)))

@@ -1,4 +1,5 @@
-use Rattle.std.proofs.Common.{false, ◌++◌, Err, ap}
+use Rattle.std.proofs.Common.{false, ◌++◌, Err, ap, arith}
+use Rattle.std.proofs.lemmas.Grind.{common_steps}
 use Rattle.basket_read.proofs.InputLemmas.{settled_stays, faultless_input}
 use Rattle.basket_read.proofs.parts.FimiParts.feed.Goals as goal
 
@@ -15,9 +16,7 @@ returns-in-Ok-clause-exact c = λ bytes fed.
     faultless_input c.take.new.self false (bytes ++ c.args.piece.now) (c.in-Ok.ensures false bytes (rw c.in_default.is at fed))
 
 pub returns-in-Ok-clause-fed : goal.returns-in-Ok-clause-fed
-returns-in-Ok-clause-fed c = λ bytes fed _.
-    rw c.in_default.is
-    (c.in-Ok.ensures false bytes (rw c.in_default.is at fed))
+returns-in-Ok-clause-fed c = λ bytes fed _. grind (arith, common_steps)
 
 pub returns-in-Err-clause-exact : goal.returns-in-Err-clause-exact
 returns-in-Err-clause-exact c = λ bytes fed. c.in-Err.ensures false bytes (rw c.in_default.is at fed)

@@ -14,8 +14,8 @@ returns-clause-ok c =
     let copy = c.in_ok-items.ensures.ok ∙ c.as_slice.ensures ∙ c.self.view_is ∙ sym c.items.ensures.items in
     elim c.match-binary_search.branch [
       | in-Err+in_ok-insert w ↦
-          (ap (λ v. v.items) w.items-is ∙ w.in_ok-insert.ensures.ok ∙ ap (λ l. insert l w.in-Err.place item) copy
-          ∙ (with_put items item w.in-Err.place up w.in-Err.ensures.position).1)
+          (ap (λ v. v.items) w.items-is ∙ w.in_ok-insert.ensures.ok ∙ ap (λ l. insert l w.in-Err.index item) copy
+          ∙ (with_put items item w.in-Err.index up w.in-Err.ensures.position).1)
       | in_default w ↦ (ap (λ v. v.items) w.items-is ∙ copy ∙ with_found items item w.in_default.field-0 up w.in_default.ensures.position)
     ] ∙ ap (with_item item) c.items.ensures.items
 

@@ -10,9 +10,9 @@ use Rattle.mine_fp.specs.Tree.{front, node_of}
 use Rattle.mine_fp.proofs.tree.FpTree.base.Goals as goal
 use Rattle.mine_fp.proofs.tree.FpTree.base.Goals.{in-Some+in_ok-to_vec+in_ok-push, in_default}
 
--- a place of a base, without where its path lies in memory
+-- an entry of a base, without where its path lies in memory
 abbrev shown : Vec ℕ Global × ℕ → List ℕ × ℕ
-shown place = (place.0.items, place.1)
+shown entry = (entry.0.items, entry.1)
 
 pub loop-node-preserved : goal.loop-node-preserved
 loop-node-preserved c =

@@ -1,22 +1,25 @@
-use Rattle.std.proofs.Common.{◌≡◌, ◌<◌, [], get_or, length, subst, sym, ap, ◌∙◌, arith, zero-add}
-use Rattle.std.specs.declared.alloc.Global.{Global}
-use Rattle.std.specs.declared.vec.Vec.{Vec}
-use Rattle.mine_baskets.specs.declared.span.Span.{Span}
+use Rattle.std.proofs.Common.{◌<◌, subst, sym}
 use Rattle.mine_baskets.specs.ListBaskets.{RankBaskets}
 use Rattle.mine_baskets.specs.Span.{baskets_at}
-use Rattle.mine_pairs.specs.Runs.{AreRunsOf, lists_in}
-use Rattle.mine_pairs.proofs.theory.Runs.{length-lists_in, list_at}
+use Rattle.mine_pairs.specs.Runs.{AreRunsOf}
+use Rattle.mine_pairs.proofs.theory.Runs.{runs_at}
+use Rattle.mine_pairs.proofs.theory.Sums.{paths_light}
 use Rattle.mine_pairs.proofs.runs.Runs.of_rank.Goals as goal
 
-pub returns-clause-runs : goal.returns-clause-runs
-returns-clause-runs c =
+pub invariant_of-result : goal.invariant_of-result
+invariant_of-result c =
     let inside = c.self.inside in
-    let rank = c.args.rank in
-    let here : rank < inside.count = subst (λ (v : RankBaskets). rank < v.ranks) (sym c.self.view_is) c.requires in
-    let below : rank < length inside.of.items = omega (arith, here, c.self.invariant.1.long, length-lists_in inside.of.items) in
-    let list : c.deref-2.result.now ≡ get_or (lists_in inside.of.items) rank [] =
-    c.deref-2.ensures.value ∙ ap (λ (v : Vec Span Global). v.items) c.index.ensures ∙ sym (list_at inside.of.items rank c.index.result.now below) in
-    rw c.deref.ensures.value
-    (subst (AreRunsOf inside.ranks.items c.args.self.now.baskets rank) (sym list)
-    (subst (λ (v : RankBaskets). AreRunsOf inside.ranks.items v.baskets rank (get_or (lists_in inside.of.items) rank [])) c.self.view_is
-    (subst (λ r. AreRunsOf inside.ranks.items (baskets_at inside.ranks.items inside.baskets.items) r (get_or (lists_in inside.of.items) rank [])) (zero-add rank) (c.self.invariant.1.are rank here))))
+    let here = subst (λ (v : RankBaskets). c.args.rank < v.ranks) (sym c.self.view_is) c.requires in
+    let baskets = baskets_at inside.ranks.items inside.baskets.items in
+    let are = runs_at inside.ranks.items c.deref.result.now baskets inside.count inside.of.items c.args.rank c.index.result.now c.deref-2.result.now c.self.invariant.1 here c.index.ensures c.deref-2.ensures.value c.deref.ensures.value in
+    record {
+      within = are.within;
+      ranked = record { places = are.places; light = paths_light baskets c.args.rank (baskets_at c.deref.result.now c.deref-2.result.now) are.weights c.self.invariant.0.light };
+    }
+
+pub returns-clause-weights : goal.returns-clause-weights
+returns-clause-weights c =
+    let inside = c.self.inside in
+    let here = subst (λ (v : RankBaskets). c.args.rank < v.ranks) (sym c.self.view_is) c.requires in
+    (subst (λ (v : RankBaskets). AreRunsOf c.deref.result.now v.baskets c.args.rank c.deref-2.result.now) c.self.view_is
+    (runs_at inside.ranks.items c.deref.result.now (baskets_at inside.ranks.items inside.baskets.items) inside.count inside.of.items c.args.rank c.index.result.now c.deref-2.result.now c.self.invariant.1 here c.index.ensures c.deref-2.ensures.value c.deref.ensures.value)).weights

@@ -7,16 +7,16 @@ use Rattle.mine_pieces.specs.WorkerResult.{numbers_of}
 use Rattle.mine_phases.proofs.Ranks.{ranks_before}
 use Rattle.mine_phases.proofs.classes.Classes.add_classes.Given as goal
 
-abbrev pub invariant-loop-place : goal.invariant-loop-place
-invariant-loop-place g l = record {
+abbrev pub invariant-loop-index : goal.invariant-loop-index
+invariant-loop-index g l = record {
   scratch : IsScratchOf l.self.ranks l.scratch;
   going : l.tally.over ≡ false;
   limit : l.tally.limit ≡ l.initial.tally.limit;
-  turn : l.place % l.self.pieces ≡ l.claimed;
-  numbers : numbers_of l.values.items ≡ numbers_of l.initial.values.items ++ ranks_before (g.M.ClassMiner.coding_of l.self.miner.now) l.self.pieces l.claimed l.place;
-  each : AreMined (g.M.ClassMiner.coding_of l.self.miner.now) (g.M.ClassMiner.is_work l.self.miner.now) l.values.items;
-  told : l.tally.told ≡ l.initial.tally.told + sum_by (class_size (g.M.ClassMiner.coding_of l.self.miner.now)) (ranks_before (g.M.ClassMiner.coding_of l.self.miner.now) l.self.pieces l.claimed l.place);
+  turn : l.index % l.self.pieces ≡ l.claimed;
+  numbers : numbers_of l.values.items ≡ numbers_of l.initial.values.items ++ ranks_before (g.M.ClassMiner.coding_of l.self.miner.now) l.self.pieces l.claimed l.index;
+  each : AreMined (g.M.ClassMiner.coding_of l.self.miner.now) (g.M.ClassMiner.exact l.self.miner.now) (g.M.ClassMiner.work_of l.self.miner.now) l.values.items;
+  told : l.tally.told ≡ l.initial.tally.told + sum_by (class_size (g.M.ClassMiner.coding_of l.self.miner.now)) (ranks_before (g.M.ClassMiner.coding_of l.self.miner.now) l.self.pieces l.claimed l.index);
 }
 
-abbrev pub decreases-loop-place : goal.decreases-loop-place
-decreases-loop-place g l = l.self.ranks - l.place
+abbrev pub decreases-loop-index : goal.decreases-loop-index
+decreases-loop-index g l = l.self.ranks - l.index

@@ -4,5 +4,5 @@ use Rattle.basket_sets.specs.Itemset.{has}
 use Rattle.mine_rows.specs.Bits.{words_of}
 use Rattle.mine_rows.proofs.bit_rows.BitRowRow.cover.Given as goal
 
-abbrev pub invariant-loop-place : goal.invariant-loop-place
-invariant-loop-place l = (cover : List ℕ) → l.self.words.items ≡ words_of (length l.weights) cover → l.places.items ≡ filter (has cover) (range_with_len 0 l.place)
+abbrev pub invariant-loop-tid : goal.invariant-loop-tid
+invariant-loop-tid l = (cover : List ℕ) → l.self.words.items ≡ words_of (length l.weights) cover → l.tids.items ≡ filter (has cover) (range_with_len 0 l.tid)

@@ -9,6 +9,6 @@ returns c = record {
   above = all_cover c.args.weights.now;
   covers = record { rises = c.requires.rises; below = c.requires.below };
   inside = within_all c.args.weights.now c.args.cover.now (record { rises = c.requires.rises; below = c.requires.below });
-  missing = c.in_ok-missing_places.ensures ∙ ap (λ n. lacking (range_with_len 0 n) c.args.cover.now) c.places.ensures;
+  missing = c.in_ok-missing_tids.ensures ∙ ap (λ n. lacking (range_with_len 0 n) c.args.cover.now) c.count.ensures;
   count = c.weight.ensures.sum;
 }

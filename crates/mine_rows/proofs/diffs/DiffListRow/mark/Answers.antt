@@ -14,5 +14,5 @@ clear-requires c =
 pub returns : goal.returns
 returns c =
     let missing = c.args.self.now.missing.items in
-    same_marks c.args._weights.now (λ place. not (has c.deref.result.now place) && true) (λ place. not (has missing place)) c.clear.new.self
-    (λ place. and-true (not (has c.deref.result.now place)) ∙ ap (λ l. not (has l place)) c.deref.ensures.value) (c.clear.ensures c.args._weights.now (λ place. true) c.requires.marks)
+    same_marks c.args._weights.now (λ tid. not (has c.deref.result.now tid) && true) (λ tid. not (has missing tid)) c.clear.new.self
+    (λ tid. and-true (not (has c.deref.result.now tid)) ∙ ap (λ l. not (has l tid)) c.deref.ensures.value) (c.clear.ensures c.args._weights.now (λ tid. true) c.requires.marks)

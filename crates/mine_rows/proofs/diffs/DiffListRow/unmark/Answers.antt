@@ -1,6 +1,7 @@
 use Rattle.std.proofs.Common.{◌||◌, true, length, not, subst, sym, ap, ◌∙◌}
 use Rattle.basket_sets.specs.Itemset.{AllBelow, has}
-use Rattle.mine_rows.proofs.MarkLemmas.{always_one, same_marks}
+use Rattle.std.proofs.Math.Bool.{or-not_self}
+use Rattle.mine_rows.proofs.MarkLemmas.{same_marks}
 use Rattle.mine_rows.proofs.RowLemmas.{missing_covers}
 use Rattle.mine_rows.proofs.diffs.DiffListRow.unmark.Goals as goal
 
@@ -12,5 +13,5 @@ mark-requires-clause-below c =
 pub returns : goal.returns
 returns c =
     let missing = c.args.self.now.missing.items in
-    same_marks c.args.weights.now (λ place. has c.deref.result.now place || not (has missing place)) (λ place. true) c.mark.new.self
-    (λ place. ap (λ l. has l place || not (has missing place)) c.deref.ensures.value ∙ always_one (has missing place)) (c.mark.ensures (λ place. not (has missing place)) c.requires.marks)
+    same_marks c.args.weights.now (λ tid. has c.deref.result.now tid || not (has missing tid)) (λ tid. true) c.mark.new.self
+    (λ tid. ap (λ l. has l tid || not (has missing tid)) c.deref.ensures.value ∙ or-not_self (has missing tid)) (c.mark.ensures (λ tid. not (has missing tid)) c.requires.marks)

@@ -8,28 +8,28 @@ use Rattle.mine_rows.proofs.marks.Marks.clear.Goals as goal
 
 pub index_mut-requires : goal.index_mut-requires
 index_mut-requires c =
-    let below = c.requires (get_or c.args.places.now c.loop-place.place-index 0) (has_place c.args.places.now c.loop-place.place-index c.loop-place-test.true) in
-    omega (arith, below, c.loop-place.invariant.long, c.loop-place.self.weights.ok.0)
+    let below = c.requires (get_or c.args.tids.now c.loop-tid.tid-index 0) (has_place c.args.tids.now c.loop-tid.tid-index c.loop-tid-test.true) in
+    omega (arith, below, c.loop-tid.invariant.long, c.loop-tid.self.weights.ok.0)
 
-pub loop-place-preserved : goal.loop-place-preserved
-loop-place-preserved c =
-    let items = c.loop-place.self.weights.items in
-    let places = c.args.places.now in
-    let i = c.loop-place.place-index in
-    let place = get_or places i 0 in
-    let here = c.loop-place-test.true in
-    let below = c.requires place (has_place places i here) in
+pub loop-tid-preserved : goal.loop-tid-preserved
+loop-tid-preserved c =
+    let items = c.loop-tid.self.weights.items in
+    let tids = c.args.tids.now in
+    let i = c.loop-tid.tid-index in
+    let tid = get_or tids i 0 in
+    let here = c.loop-tid-test.true in
+    let below = c.requires tid (has_place tids i here) in
     record {
-      long = length-set items place 0 ∙ c.loop-place.invariant.long;
+      long = length-set items tid 0 ∙ c.loop-tid.invariant.long;
       marked = λ weights test is.
-          let so_far = c.loop-place.invariant.marked weights test is in
+          let so_far = c.loop-tid.invariant.marked weights test is in
           record {
-            long = length-set items place 0 ∙ so_far.long;
-            at = λ k. one_cleared weights places items test i k here (omega (arith, below, c.loop-place.invariant.long)) (so_far.at k);
+            long = length-set items tid 0 ∙ so_far.long;
+            at = λ k. one_cleared weights tids items test i k here (omega (arith, below, c.loop-tid.invariant.long)) (so_far.at k);
           };
     }
 
 pub returns : goal.returns
 returns c = λ weights test is.
-    subst (λ l. IsMarked weights (λ place. not (has l place) && test place) c.loop-place.self) (take_all c.loop-place.place-index c.args.places.now c.loop-place-test.false)
-    (c.loop-place.invariant.marked weights test is)
+    subst (λ l. IsMarked weights (λ tid. not (has l tid) && test tid) c.loop-tid.self) (take_all c.loop-tid.tid-index c.args.tids.now c.loop-tid-test.false)
+    (c.loop-tid.invariant.marked weights test is)

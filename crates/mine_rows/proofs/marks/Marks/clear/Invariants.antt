@@ -3,8 +3,8 @@ use Rattle.basket_sets.specs.Itemset.{has}
 use Rattle.mine_rows.specs.Marks.{IsMarked}
 use Rattle.mine_rows.proofs.marks.Marks.clear.Given as goal
 
-abbrev pub invariant-loop-place : goal.invariant-loop-place
-invariant-loop-place l = record {
+abbrev pub invariant-loop-tid : goal.invariant-loop-tid
+invariant-loop-tid l = record {
   long : length l.self.weights.items ≡ length l.initial.self.weights.items;
-  marked : (weights : List ℕ) (test : ℕ → Bool) → IsMarked weights test l.initial.self → IsMarked weights (λ place. not (has (take l.place-index l.places) place) && test place) l.self;
+  marked : (weights : List ℕ) (test : ℕ → Bool) → IsMarked weights test l.initial.self → IsMarked weights (λ tid. not (has (take l.tid-index l.tids) tid) && test tid) l.self;
 }

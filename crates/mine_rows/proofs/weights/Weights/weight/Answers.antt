@@ -8,38 +8,38 @@ use Rattle.mine_rows.proofs.weights.Weights.weight.Goals as goal
 
 pub index-requires : goal.index-requires
 index-requires c =
-    let here = cover_at c.args.self.now c.args.places.now c.loop-place.place-index c.requires.below c.loop-place-test.true in
+    let here = cover_at c.args.self.now c.args.tids.now c.loop-tid.tid-index c.requires.below c.loop-tid-test.true in
     omega (arith, here, ap length c.self.view_is)
 
 pub overflow_add-weight : goal.overflow_add-weight
 overflow_add-weight c =
     let weights = c.args.self.now in
-    let places = c.args.places.now in
-    let i = c.loop-place.place-index in
-    let place = get_or places i 0 in
-    let here = cover_at weights places i c.requires.below c.loop-place-test.true in
-    let added = c.index.ensures ∙ ap (λ l. get_or l place c.index.result.now) c.self.view_is ∙ get_or_default weights place c.index.result.now 0 here in
-    let more = sum_by_more_le (λ p. get_or weights p 0) places i 0 c.loop-place-test.true in
-    let light = cover_light weights places c.requires.rises c.requires.below in
+    let tids = c.args.tids.now in
+    let i = c.loop-tid.tid-index in
+    let tid = get_or tids i 0 in
+    let here = cover_at weights tids i c.requires.below c.loop-tid-test.true in
+    let added = c.index.ensures ∙ ap (λ l. get_or l tid c.index.result.now) c.self.view_is ∙ get_or_default weights tid c.index.result.now 0 here in
+    let more = sum_by_more_le (λ p. get_or weights p 0) tids i 0 c.loop-tid-test.true in
+    let light = cover_light weights tids c.requires.rises c.requires.below in
     let most = subst (λ l. sum l ≤ MOST_WEIGHT) c.self.view_is c.self.invariant.light in
-    omega (arith, c.loop-place.invariant, added, more, light, most)
+    omega (arith, c.loop-tid.invariant, added, more, light, most)
 
-pub loop-place-preserved : goal.loop-place-preserved
-loop-place-preserved c =
+pub loop-tid-preserved : goal.loop-tid-preserved
+loop-tid-preserved c =
     let weights = c.args.self.now in
-    let places = c.args.places.now in
-    let i = c.loop-place.place-index in
-    let place = get_or places i 0 in
-    let here = cover_at weights places i c.requires.below c.loop-place-test.true in
-    let added = c.index.ensures ∙ ap (λ l. get_or l place c.index.result.now) c.self.view_is ∙ get_or_default weights place c.index.result.now 0 here in
-    ap (λ n. n + c.index.result.now) c.loop-place.invariant ∙ ap (λ n. cover_weight weights (take i places) + n) added
-    ∙ sym (sum_by_more (λ p. get_or weights p 0) places i 0 c.loop-place-test.true)
+    let tids = c.args.tids.now in
+    let i = c.loop-tid.tid-index in
+    let tid = get_or tids i 0 in
+    let here = cover_at weights tids i c.requires.below c.loop-tid-test.true in
+    let added = c.index.ensures ∙ ap (λ l. get_or l tid c.index.result.now) c.self.view_is ∙ get_or_default weights tid c.index.result.now 0 here in
+    ap (λ n. n + c.index.result.now) c.loop-tid.invariant ∙ ap (λ n. cover_weight weights (take i tids) + n) added
+    ∙ sym (sum_by_more (λ p. get_or weights p 0) tids i 0 c.loop-tid-test.true)
 
 pub returns-clause-within : goal.returns-clause-within
 returns-clause-within c =
     let weights = c.args.self.now in
-    let places = c.args.places.now in
-    let part = sum_by-take-le (λ p. get_or weights p 0) places c.loop-place.place-index in
-    let light = cover_light weights places c.requires.rises c.requires.below in
+    let tids = c.args.tids.now in
+    let part = sum_by-take-le (λ p. get_or weights p 0) tids c.loop-tid.tid-index in
+    let light = cover_light weights tids c.requires.rises c.requires.below in
     let most = subst (λ l. sum l ≤ MOST_WEIGHT) c.self.view_is c.self.invariant.light in
-    omega (arith, c.loop-place.invariant, part, light, most)
+    omega (arith, c.loop-tid.invariant, part, light, most)

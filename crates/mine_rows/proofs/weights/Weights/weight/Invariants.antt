@@ -2,5 +2,5 @@ use Rattle.std.proofs.Common.{◌≡◌, take}
 use Rattle.mine_rows.specs.Cover.{cover_weight}
 use Rattle.mine_rows.proofs.weights.Weights.weight.Given as goal
 
-abbrev pub invariant-loop-place : goal.invariant-loop-place
-invariant-loop-place l = l.weight ≡ cover_weight l.self (take l.place-index l.places)
+abbrev pub invariant-loop-tid : goal.invariant-loop-tid
+invariant-loop-tid l = l.weight ≡ cover_weight l.self (take l.tid-index l.tids)

@@ -8,29 +8,16 @@ pub returns-then-self : goal.returns-then-self
 returns-then-self c = λ cover is words ones.
     ones ∙ ones_weigh c.args.self.now cover (ap are_ones (sym c.self.view_is) ∙ sym c.self.invariant.ones_are ∙ c.if-self.true) is
 
-pub weight_by_planes-requires-clause-few : goal.weight_by_planes-requires-clause-few
-weight_by_planes-requires-clause-few c =
+pub weight_by_planes-requires : goal.weight_by_planes-requires
+weight_by_planes-requires c =
     let (cover, is, words, ones) = c.requires.cover in
     let keeps = subst (λ l. KeepsWeights l c.self.inside.are_ones) c.self.view_is c.self.invariant in
-    kept_few c.args.self.now c.self.inside.are_ones c.args.planes.now keeps c.requires.planes cover c.args.words.now.items is words
-
-pub weight_by_planes-requires-clause-wide : goal.weight_by_planes-requires-clause-wide
-weight_by_planes-requires-clause-wide c =
-    let (cover, is, words, ones) = c.requires.cover in
-    let keeps = subst (λ l. KeepsWeights l c.self.inside.are_ones) c.self.view_is c.self.invariant in
-    kept_wide c.args.self.now c.self.inside.are_ones c.args.planes.now keeps c.requires.planes cover c.args.words.now.items is words c.if-self.false
-
-pub weight_by_planes-requires-clause-narrow : goal.weight_by_planes-requires-clause-narrow
-weight_by_planes-requires-clause-narrow c =
-    let (cover, is, words, ones) = c.requires.cover in
-    let keeps = subst (λ l. KeepsWeights l c.self.inside.are_ones) c.self.view_is c.self.invariant in
-    kept_narrow c.args.self.now c.self.inside.are_ones c.args.planes.now keeps c.requires.planes cover c.args.words.now.items is words c.if-self.false
-
-pub weight_by_planes-requires-clause-light : goal.weight_by_planes-requires-clause-light
-weight_by_planes-requires-clause-light c =
-    let (cover, is, words, ones) = c.requires.cover in
-    let keeps = subst (λ l. KeepsWeights l c.self.inside.are_ones) c.self.view_is c.self.invariant in
-    kept_light c.args.self.now c.self.inside.are_ones c.args.planes.now keeps c.requires.planes cover c.args.words.now.items is words c.if-self.false
+    record {
+      few = kept_few c.args.self.now c.self.inside.are_ones c.args.planes.now keeps c.requires.planes cover c.args.words.now.items is words;
+      wide = kept_wide c.args.self.now c.self.inside.are_ones c.args.planes.now keeps c.requires.planes cover c.args.words.now.items is words c.if-self.false;
+      narrow = kept_narrow c.args.self.now c.self.inside.are_ones c.args.planes.now keeps c.requires.planes cover c.args.words.now.items is words c.if-self.false;
+      light = kept_light c.args.self.now c.self.inside.are_ones c.args.planes.now keeps c.requires.planes cover c.args.words.now.items is words c.if-self.false;
+    }
 
 pub returns : goal.returns
 returns c = λ cover is words ones.

@@ -15,7 +15,7 @@ use Rattle.mine_search.proofs.classes.Class.list.Goals.{in-Some+in_ok-extend, in
 pub returns-in_err-add-clause-class : goal.returns-in_err-add-clause-class
 returns-in_err-add-clause-class g c =
     let (over, is) = c.requires.class in
-    let some = class_some is.over_coding c.args.self.rank (is_frequent_rank is) c.lists_have_class_size.ensures in
+    let some = class_some is.over_coding c.args.self.rank (is_frequent_rank is) in
     let p = err_from_is_err_and c.from_residual-in_err-add.result c.from_residual-in_err-add.ensures.1 in
     mining_fails p.1
     (λ limit e.
@@ -33,7 +33,7 @@ pub returns-in_err-extend-clause-class : goal.returns-in_err-extend-clause-class
 returns-in_err-extend-clause-class g c =
     let (over, is) = c.requires.class in
     let first = first_is is.over_coding c.args.self.rank c.requires.rank c.in_ok-mined.ensures.sets c.in_ok-add.ensures.sets c.in_ok-set.ensures.ok c.item.ensures is.supported in
-    let many = as_many is.over_coding c.args.self.rank (is_frequent_rank is) c.lists_have_class_size.ensures in
+    let many = as_many is.over_coding c.args.self.rank (is_frequent_rank is) in
     let p = err_from_is_err_and c.from_residual-in_err-extend.result c.from_residual-in_err-extend.ensures.1 in
     let inner : IsOf g.P.Projected.gives c.in-Some.inner _ (of_rank over c.args.self.rank) = record { given = is.some c.in-Some.inner c.in-Some.is; is = first.inner } in
     mining_fails p.1
@@ -64,7 +64,7 @@ returns g c =
           (finds_none (of_rank over rank) (is.none w.in_default.is) mid going))
     ] in
     let all = all_found class.over_coding rank (first known class) (found known class) in
-    let many = as_many class.over_coding rank (is_frequent_rank class) c.lists_have_class_size.ensures in
+    let many = as_many class.over_coding rank (is_frequent_rank class) in
     let long = ap length all ∙ length-map (class_sets known rank) (found_at known) in
     record {
       class = (let f = found known class in record {

@@ -1,6 +1,6 @@
 use Rattle.std.proofs.Common.{◌<◌, length, ap, arith}
 use Rattle.std.proofs.lemmas.List.{length_push}
-use Rattle.mine_supports.specs.BlockCounts.{placed}
+use Rattle.mine_supports.specs.BlockCounts.{numbered}
 use Rattle.mine_supports.proofs.PrefixLemmas.{next_prefix}
 use Rattle.mine_supports.proofs.block.Block.add_prefixes.Goals as goal
 
@@ -16,5 +16,5 @@ loop-depth-preserved c =
     record {
       long = omega (arith, more, length_push old next.kept, inv.long);
       short = omega (arith, more, length_push old next.kept, inv.long, within);
-      prefixes = next_prefix (placed c.args.self.now) items old c.push_kept.new.self.lists.items c.row.result.now depth inv.long within c.row.ensures next inv.prefixes;
+      prefixes = next_prefix (numbered c.args.self.now) items old c.push_kept.new.self.lists.items c.row.result.now depth inv.long within c.row.ensures next inv.prefixes;
     }

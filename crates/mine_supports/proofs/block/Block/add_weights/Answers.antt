@@ -2,29 +2,29 @@ use Rattle.std.proofs.Common.{◌≡◌, [], ◌∷◌, ◌++◌, ◌+◌, ◌<�
 use Rattle.std.proofs.Math.ListN.{set as set_at}
 use Rattle.std.proofs.lemmas.List.{length-map, length-take, map-append, take_all, take_more}
 use Rattle.basket_sets.proofs.theory.Support.{support_falls}
-use Rattle.mine_supports.specs.BlockCounts.{placed}
+use Rattle.mine_supports.specs.BlockCounts.{numbered}
 use Rattle.mine_supports.specs.Counter.{AreAdded}
 use Rattle.mine_supports.specs.Extensions.{extend}
 use Rattle.mine_supports.proofs.CounterLemmas.{more_added, none_yet, one_added}
 use Rattle.mine_supports.proofs.block.Block.add_weights.Goals as goal
 
 pub loop-number-init : goal.loop-number-init
-loop-number-init c set are = none_yet (placed c.args.self.now) c.args.start c.args.counts.now
+loop-number-init c set are = none_yet (numbered c.args.self.now) c.args.start c.args.counts.now
 
 pub overflow_add-counts-in-loop-number : goal.overflow_add-counts-in-loop-number
 overflow_add-counts-in-loop-number c =
     let items = c.args.items.now in
     let number = c.loop-number.number in
-    let set = c.requires.places.0 in
-    let is = c.weight.ensures set c.requires.places.1 in
-    let falls = support_falls (placed c.args.self.now) (set ++ get_or items number 0 ∷ []) [] refl in
-    let same = (c.loop-number.invariant set c.requires.places.1).after (c.args.start + number) (omega (arith, length-map (take number items) (λ item. set ++ item ∷ []), length-take number items)) in
+    let set = c.requires.tids.0 in
+    let is = c.weight.ensures set c.requires.tids.1 in
+    let falls = support_falls (numbered c.args.self.now) (set ++ get_or items number 0 ∷ []) [] refl in
+    let same = (c.loop-number.invariant set c.requires.tids.1).after (c.args.start + number) (omega (arith, length-map (take number items) (λ item. set ++ item ∷ []), length-take number items)) in
     let light = c.requires.light number c.loop-number-test.true in
     record { fits = omega (arith, is, falls, same, light) }
 
 pub loop-number-preserved : goal.loop-number-preserved
 loop-number-preserved c set are =
-    let baskets = placed c.args.self.now in
+    let baskets = numbered c.args.self.now in
     let items = c.args.items.now in
     let start = c.args.start in
     let number = c.loop-number.number in
@@ -42,5 +42,5 @@ loop-number-preserved c set are =
 
 pub returns : goal.returns
 returns c set are =
-    subst (λ l. AreAdded (extend set l) (placed c.args.self.now) c.args.start c.args.counts.now c.loop-number.counts) (take_all c.loop-number.number c.args.items.now (omega (arith, c.loop-number-test.false)))
+    subst (λ l. AreAdded (extend set l) (numbered c.args.self.now) c.args.start c.args.counts.now c.loop-number.counts) (take_all c.loop-number.number c.args.items.now (omega (arith, c.loop-number-test.false)))
     (c.loop-number.invariant set are)

@@ -6,13 +6,13 @@ use Rattle.std.proofs.lemmas.List.Sums.{sum_by-take-le}
 use Rattle.basket_sets.specs.Itemset.{has}
 use Rattle.basket_sets.specs.Support.{weight_at}
 use Rattle.mine_supports.specs.Needed.{is_needed, needed}
-use Rattle.mine_supports.specs.TidWord.{ArePlacesOf}
+use Rattle.mine_supports.specs.TidWord.{AreTidsOf}
 use Rattle.mine_supports.specs.Rows.{AreRows}
 use Rattle.mine_supports.specs.UsedItems.{AreNumbers}
 use Rattle.mine_supports.proofs.NeededLemmas.{needed_total}
-use Rattle.mine_supports.proofs.PlaceLemmas.{all_more}
+use Rattle.mine_supports.proofs.TidLemmas.{all_more}
 use Rattle.mine_supports.proofs.block.Block.of.Goals as goal
-use Rattle.mine_supports.proofs.block.Block.of.Goals.{then-len-least+in_ok-add_place, else-len-least}
+use Rattle.mine_supports.proofs.block.Block.of.Goals.{then-len-least+in_ok-add_tid, else-len-least}
 
 pub loop-read-preserved : goal.loop-read-preserved
 loop-read-preserved c =
@@ -28,7 +28,7 @@ loop-read-preserved c =
     let tested = ap (is_needed used least) (sym c.index-baskets-read.is) in
     let more = filter_more (is_needed used least) baskets read basket c.loop-read-test.true in
     elim c.if-len-least.branch [
-      | then-len-least+in_ok-add_place w ↦
+      | then-len-least+in_ok-add_tid w ↦
           (let one : needed used least (take (read + 1) baskets) ≡ kept ++ basket ∷ [] =
           more ∙ ap (λ b. kept ++ cond b (get_or baskets read basket ∷ []) []) (tested ∙ le-leb least (length (filter (has used) basket.basket)) (omega (arith, count, w.if-len-least.true, c.len.ensures))) ∙ ap (λ b. kept ++ b ∷ []) (sym c.index-baskets-read.is) in
           record {
@@ -38,9 +38,9 @@ loop-read-preserved c =
             room = omega (arith, inv.room, ap (λ r. r.words * 64) w.rows-is, w.push.ensures.room);
             rows = subst (AreRows used (needed used least (take (read + 1) baskets))) (sym w.rows-is)
                 (subst (λ l. AreRows used l w.push.new.self) (sym one) (w.push.ensures.rows used kept basket c.in_ok-rows.ensures.rising inv.long inv.rows (subst (AreNumbers used basket.basket) (sym w.deref.ensures.value) numbers)));
-            places = subst (λ v. ArePlacesOf (needed used least (take (read + 1) baskets)) [] v.items) (sym w.places-is)
-                (subst (λ l. ArePlacesOf l [] w.add_place.new.places.items) (sym one)
-                (all_more kept basket c.loop-read.len c.loop-read.places.items w.add_place.new.places.items inv.long w.in_ok-add_place.ensures inv.places));
+            tids = subst (λ v. AreTidsOf (needed used least (take (read + 1) baskets)) [] v.items) (sym w.tids-is)
+                (subst (λ l. AreTidsOf l [] w.add_tid.new.tids.items) (sym one)
+                (all_more kept basket c.loop-read.len c.loop-read.tids.items w.add_tid.new.tids.items inv.long w.in_ok-add_tid.ensures inv.tids));
           })
       | else-len-least w ↦
           (let same : needed used least (take (read + 1) baskets) ≡ kept =
@@ -51,7 +51,7 @@ loop-read-preserved c =
             long = w.len-is ∙ inv.long ∙ sym (ap length same);
             room = omega (arith, inv.room, ap (λ r. r.words * 64) w.rows-is);
             rows = subst (AreRows used (needed used least (take (read + 1) baskets))) (sym w.rows-is) (subst (λ l. AreRows used l c.loop-read.rows) (sym same) inv.rows);
-            places = subst (λ v. ArePlacesOf (needed used least (take (read + 1) baskets)) [] v.items) (sym w.places-is) (subst (λ l. ArePlacesOf l [] c.loop-read.places.items) (sym same) inv.places);
+            tids = subst (λ v. AreTidsOf (needed used least (take (read + 1) baskets)) [] v.items) (sym w.tids-is) (subst (λ l. AreTidsOf l [] c.loop-read.tids.items) (sym same) inv.tids);
           })
     ]
 
@@ -62,6 +62,6 @@ invariant_of-result c =
     let part = sum_by-take-le (weight_at []) baskets c.loop-read.read in
     record {
       rows_of = c.loop-read.invariant.rows;
-      places_of = c.loop-read.invariant.places;
+      tids_of = c.loop-read.invariant.tids;
       light = omega (arith, few, part, c.requires.light);
     }

@@ -1,6 +1,6 @@
 use Rattle.std.proofs.Common.{◌≡◌, ◌≤◌, ◌-◌, ◌*◌, [], length, min, take}
 use Rattle.mine_supports.specs.Needed.{needed}
-use Rattle.mine_supports.specs.TidWord.{ArePlacesOf}
+use Rattle.mine_supports.specs.TidWord.{AreTidsOf}
 use Rattle.mine_supports.specs.Rows.{AreRows}
 use Rattle.mine_supports.proofs.block.Block.of.Given as goal
 
@@ -11,7 +11,7 @@ invariant-loop-read l = record {
   long : l.len ≡ length (needed l.used l.least (take l.read l.baskets));
   room : min l.most (length l.baskets) ≤ l.rows.words * 64;
   rows : AreRows l.used (needed l.used l.least (take l.read l.baskets)) l.rows;
-  places : ArePlacesOf (needed l.used l.least (take l.read l.baskets)) [] l.places.items;
+  tids : AreTidsOf (needed l.used l.least (take l.read l.baskets)) [] l.tids.items;
 }
 
 abbrev pub decreases-loop-read : goal.decreases-loop-read

@@ -4,7 +4,7 @@ use Rattle.std.proofs.lemmas.List.{get_or_default, take_all}
 use Rattle.std.proofs.lemmas.List.Sums.{sum_by-take-le}
 use Rattle.basket_sets.specs.Itemset.{contains}
 use Rattle.basket_sets.specs.Support.{support_of, total_of, weight_at}
-use Rattle.mine_supports.specs.BlockCounts.{placed}
+use Rattle.mine_supports.specs.BlockCounts.{numbered}
 use Rattle.mine_supports.specs.Needed.{IsAtLeast}
 use Rattle.mine_supports.specs.Prefixes.{ArePrefixes}
 use Rattle.mine_supports.specs.Counter.{AreAdded, IsShared}
@@ -13,7 +13,7 @@ use Rattle.mine_supports.proofs.PrefixLemmas.{prefixes_shared}
 use Rattle.mine_supports.proofs.CounterLemmas.{all_added, group_added, next_start, next_within, none_yet, some_list}
 use Rattle.mine_supports.proofs.theory.Extensions.{groups_back, groups_long, items_read, lists_long, no_group, prefix_read}
 use Rattle.mine_supports.proofs.NeededLemmas.{needed_support, needed_total, sets_used}
-use Rattle.mine_supports.proofs.PlaceLemmas.{list_used}
+use Rattle.mine_supports.proofs.TidLemmas.{list_used}
 use Rattle.mine_supports.proofs.counter.RowCounter.add_block.Goals as goal
 use Rattle.mine_supports.proofs.counter.RowCounter.add_block.Goals.{After-add-arg-1}
 
@@ -28,7 +28,7 @@ loop-number-init c =
     let first = get_or c.prefixes-prefixes.result.now 0 [] in
     record {
       starts = refl;
-      added = none_yet (placed c.in_ok-block.block) 0 c.args.counts.now;
+      added = none_yet (numbered c.in_ok-block.block) 0 c.args.counts.now;
       prefixes = c.in_ok-shared.ensures first;
     }
 
@@ -67,8 +67,8 @@ add-requires-clause-prefixes c =
     ∙ get_or_default prefixes (number - 1) c.index-prefixes-saturating_sub.result [] within in
     let prefix = c.items-in-loop-number.ensures.items ∙ sym c.items-in-loop-number-2.ensures.items in
     let shared = subst (λ l. IsShared l c.items-in-loop-number-2.result.now count) before (subst (λ l. IsShared c.items.result.now l count) prefix c.shared_items.ensures) in
-    subst (ArePrefixes (placed c.in_ok-block.block) c.items-in-loop-number-2.result.now) (sym c.truncate.ensures)
-    (prefixes_shared (placed c.in_ok-block.block) (get_or prefixes (number - 1) []) c.items-in-loop-number-2.result.now count old shared c.loop-number.invariant.prefixes)
+    subst (ArePrefixes (numbered c.in_ok-block.block) c.items-in-loop-number-2.result.now) (sym c.truncate.ensures)
+    (prefixes_shared (numbered c.in_ok-block.block) (get_or prefixes (number - 1) []) c.items-in-loop-number-2.result.now count old shared c.loop-number.invariant.prefixes)
 
 pub add-requires-clause-within : goal.add-requires-clause-within
 add-requires-clause-within c =
@@ -101,7 +101,7 @@ loop-number-preserved c =
     let groups = c.self.inside.sets.now in
     let number = c.loop-number.number in
     let start = c.loop-number.start in
-    let baskets = placed c.in_ok-block.block in
+    let baskets = numbered c.in_ok-block.block in
     let old = c.args.counts.now in
     let counts = c.loop-number.counts in
     let new = c.add.new.counts in
@@ -130,7 +130,7 @@ returns-clause-added c k inside within =
     let same = (λ i. groups_of (c.prefixes-prefixes.ensures i) (c.lists-items-items.ensures i)) ∙ groups_back groups in
     let end = take_all number groups (omega (arith, c.loop-number-test.false, ap length c.lists-items-items.ensures, lists_long groups)) in
     let all = ap (λ l. sets_of (take number l)) same ∙ ap sets_of end in
-    let added = all_added (sets_of groups) (placed block) c.args.counts.now c.loop-number.counts (subst (λ s. AreAdded s (placed block) 0 c.args.counts.now c.loop-number.counts) all c.loop-number.invariant.added) in
+    let added = all_added (sets_of groups) (numbered block) c.args.counts.now c.loop-number.counts (subst (λ s. AreAdded s (numbered block) 0 c.args.counts.now c.loop-number.counts) all c.loop-number.invariant.added) in
     let here : k < length (sets_of groups) = omega (arith, inside, ap length c.self.view_is) in
     let used = c.in_ok-block.ensures.used in
     let uses = subst (λ u. contains u (get_or (sets_of groups) k []) ≡ true) (sym used.0) (sets_used groups c.self.inside.used c.self.invariant.0 c.self.invariant.1 k [] here) in

@@ -6,7 +6,7 @@ pub returns : goal.returns
 returns c = record {
   kept = c.put_kept.new.kept;
   pushed = c.in_ok-push.ensures.items;
-  keeps = λ places last.
+  keeps = λ tids last.
       let kept = c.put_kept.new.kept in
       subst (λ l. AreKept c.args.row.now l kept.items) (c.last.ensures kept ∙ sym (last kept)) c.in_ok-put_kept.ensures;
 }

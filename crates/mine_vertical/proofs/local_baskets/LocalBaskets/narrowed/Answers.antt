@@ -12,24 +12,23 @@ use Rattle.mine_vertical.proofs.NarrowedLemmas.{chosen_ranked, chosen_within, co
 use Rattle.mine_vertical.proofs.local_baskets.LocalBaskets.narrowed.Goals as goal
 
 pub items_at-requires : goal.items_at-requires
-items_at-requires g c = λ place h.
+items_at-requires g c = λ tid h.
     let local = c.args.self.now in
     let (set, cover) = c.requires.cover in
-    omega (arith, cover_inside local set place (Member-from_has (cover_of (baskets_in local) set) place (subst (λ l. has l place ≡ true) cover h)), ap length c.deref.ensures.value)
+    omega (arith, cover_inside local set tid (Member-from_has (cover_of (baskets_in local) set) tid (subst (λ l. has l tid ≡ true) cover h)), ap length c.deref.ensures.value)
 
-pub coded-requires-clause-within : goal.coded-requires-clause-within
-coded-requires-clause-within g c =
+pub invariant_of-chosen : goal.invariant_of-chosen
+invariant_of-chosen g c =
     let (set, cover) = c.requires.cover in
-    subst (λ numbers. All (IsWithin (length numbers)) c.deref-4.result.now) (sym c.deref-3.ensures.value)
-    (chosen_within c.args.self.now set c.deref-4.result.now (c.deref-4.ensures.value ∙ c.in_ok-spans.ensures no_span ∙ (λ i. map (λ place. get_or (c.deref.ensures.value i) place no_span) (cover i))))
-
-pub coded-requires-clause-ranked : goal.coded-requires-clause-ranked
-coded-requires-clause-ranked g c =
-    let (set, cover) = c.requires.cover in
-    let count : c.in_ok-local.local ≡ length c.args.self.now.ranks.items = omega (arith, c.in_ok-local.ensures, c.in_ok-place.ensures, c.len.ensures, c.deref-2.ensures.len, ap length c.deref-2.ensures.value) in
-    let ranked = chosen_ranked c.args.self.now set c.deref-4.result.now (c.deref-4.ensures.value ∙ c.in_ok-spans.ensures no_span ∙ (λ i. map (λ place. get_or (c.deref.ensures.value i) place no_span) (cover i))) in
-    subst (λ numbers. AreRankBaskets (record { ranks = c.in_ok-local.local; baskets = baskets_at numbers c.deref-4.result.now })) (sym c.deref-3.ensures.value)
-    (subst (λ n. AreRankBaskets (record { ranks = n; baskets = baskets_at c.args.self.now.numbers.items c.deref-4.result.now })) (sym count) ranked)
+    let numbers = c.args.self.now.numbers.items in
+    let spans = c.deref-4.result.now in
+    let are = c.deref-4.ensures.value ∙ c.in_ok-spans.ensures no_span ∙ (λ i. map (λ tid. get_or (c.deref.ensures.value i) tid no_span) (cover i)) in
+    let count : c.in_ok-count.count ≡ length c.args.self.now.ranks.items = omega (arith, c.in_ok-count.ensures, c.len.ensures, c.deref-2.ensures.len, ap length c.deref-2.ensures.value) in
+    record {
+      within = subst (λ numbers. All (IsWithin (length numbers)) spans) (sym c.deref-3.ensures.value) (chosen_within c.args.self.now set spans are);
+      ranked = subst (λ numbers. AreRankBaskets (record { ranks = c.in_ok-count.count; baskets = baskets_at numbers spans })) (sym c.deref-3.ensures.value)
+          (subst (λ n. AreRankBaskets (record { ranks = n; baskets = baskets_at numbers spans })) (sym count) (chosen_ranked c.args.self.now set spans are));
+    }
 
 pub with_siblings-requires-clause-long : goal.with_siblings-requires-clause-long
 with_siblings-requires-clause-long g c =
@@ -40,7 +39,7 @@ returns-clause-narrowed g c = λ set cover.
     let local = c.args.self.now in
     let kept = c.args.kept.now in
     let chosen = c.deref-4.result.now in
-    narrowed_is local set chosen (c.deref-4.ensures.value ∙ c.in_ok-spans.ensures no_span ∙ (λ i. map (λ place. get_or (c.deref.ensures.value i) place no_span) (cover i))) kept c.in_ok-made.made.0
+    narrowed_is local set chosen (c.deref-4.ensures.value ∙ c.in_ok-spans.ensures no_span ∙ (λ i. map (λ tid. get_or (c.deref.ensures.value i) tid no_span) (cover i))) kept c.in_ok-made.made.0
     (ap (λ v. v.items) c.in_ok-made.ensures.ranks ∙ c.in_ok-ranks.ensures 0 ∙ ap (λ l. named l kept) c.deref-2.ensures.value)
     (λ test. ap (λ numbers. weight_where test (map (coded_place kept) (baskets_at numbers chosen))) (sym c.deref-3.ensures.value)
     ∙ c.in_ok-below.ensures.weights test ∙ c.in_ok-merged.ensures.weights test ∙ ap (weight_where test) (sym c.in_ok-made.ensures.baskets))

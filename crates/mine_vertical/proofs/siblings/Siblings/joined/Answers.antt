@@ -56,13 +56,13 @@ loop-other-preserved g c =
     let here : i < length others = subst (λ l. i < length (take c.args.at l)) c.deref-2.ensures.value c.loop-other-test.true in
     let at : other ≡ get_or others i other = c.other-item.is ∙ ap (λ l. get_or (take c.args.at l) i other) c.deref-2.ensures.value in
     let k = c.loop-other.kept in
-    let list = c.make_place.new.list.items in
+    let list = c.reach.new.list.items in
     let both = c.join.new.both in
-    let inside : k < length list = c.in_ok-make_place.ensures.within in
+    let inside : k < length list = c.in_ok-reach.ensures.within in
     let long = length-set list k both in
     let below = take k c.loop-other.list.items in
-    let same : take k (set list k both) ≡ below = take-set list k both ∙ c.in_ok-make_place.ensures.before in
-    let more : take (k + 1) (set list k both) ≡ below ++ both ∷ [] = take_more_set list k both inside ∙ ap (λ l. l ++ both ∷ []) c.in_ok-make_place.ensures.before in
+    let same : take k (set list k both) ≡ below = take-set list k both ∙ c.in_ok-reach.ensures.before in
+    let more : take (k + 1) (set list k both) ≡ below ++ both ∷ [] = take_more_set list k both inside ∙ ap (λ l. l ++ both ∷ []) c.in_ok-reach.ensures.before in
     record {
       joins = omega (arith, c.loop-other.invariant.joins, c.in_ok-frequent.ensures.joins);
       within = elim c.if-frequent.branch [

@@ -1,5 +1,0 @@
-use Rattle.basket_counts.proofs.GrammarLemmas as lemmas
-use Rattle.basket_counts.proofs.laws.prefixes_are_good.Goals as goal
-
-pub returns : goal.returns
-returns c = lemmas.prefixes_are_good

@@ -1,0 +1,237 @@
+-- LocalNumbers of ranks in a rising list.
+use Rattle.std.proofs.Common.{◌≡◌, ℕ, unwrap_or, ◌+◌, ◌<◌, ◌≤◌, Bool, true, false, ◌||◌, List, [], ◌∷◌, ◌++◌, Option, Some, None, length, take, get_or, set, map, cond, eqb, refl, sym, ap, ◌∙◌, subst, inl, inr, arith, add-zero, zero-add, zero, suc}
+use Rattle.std.specs.Prelude.{All, replicate}
+use Rattle.std.specs.List.{AllByRecursion, cons_option, filter_map}
+use Rattle.std.specs.Option.{is_some, option_to_list}
+use mir.Val.{bool_byte}
+use Rattle.std.proofs.lemmas.Bool.{cases_Bool, cases_eq, cases_lt, eq-eqb, ne_eqb, true≢false}
+use Rattle.std.proofs.lemmas.List.{append-nil, ext_get_or, get_or_default, get_or-replicate, get_or-set_same, get_or-set_other, get_or-take, length-replicate, length-take, map-append, take-set, take_more, take_more_set}
+use Rattle.std.proofs.lemmas.List.Elements.{All-from_recursion, recursion_from_All}
+use Rattle.basket_sets.specs.declared.weighted.Weighted.{Weighted}
+use Rattle.basket_ranks.specs.Codes.{coded, coded_place, rank_from, rank_of}
+use Rattle.basket_ranks.proofs.theory.Coding.{coded_place_is, coded_total, from_ranks, into_ranks, ranks_rise}
+use Rattle.basket_sets.specs.Database.{MOST_WEIGHT, weighted}
+use Rattle.basket_sets.specs.Itemset.{IsRising, has}
+use Rattle.basket_sets.proofs.theory.Members.{Member, Contains-from_Member}
+use Rattle.basket_sets.proofs.theory.Rising.{Member-from_has, has-from_Member, cons_rises, first_below, nil_rises, rest_rises, same_rising}
+use Rattle.basket_sets.proofs.theory.Tests.{Member-at, rising_at}
+use Rattle.mine_baskets.specs.declared.span.Span.{Span}
+use Rattle.mine_baskets.specs.ListBaskets.{AreRankBaskets, IsRankBasket}
+use Rattle.mine_conditional.specs.LocalNumbers.{AreNumbers, HasNumbers, by_table, table_numbers}
+use Rattle.mine_baskets.specs.Span.{IsWithin, baskets_at}
+use Rattle.basket_sets.proofs.theory.Rising.{has_more}
+use Rattle.mine_baskets.proofs.theory.Neighbours.{pushed_basket}
+
+pub index_le : (xs : List ℕ) (k : ℕ) → IsRising xs → k < length xs → k ≤ get_or xs k 0
+index_le xs zero up here = omega arith
+index_le xs (suc k) up here = let less = rising_at xs k (suc k) up (omega arith) here in let rest = index_le xs k up (omega arith) in omega arith
+
+-- ---- the place of a rank
+
+neither : (a b : Bool) → (a || b) ≡ false → (a ≡ false) × (b ≡ false)
+neither true b h = absurd (true≢false h)
+neither false b h = (refl, h)
+
+rank_from_at : (number : ℕ) (kept : List ℕ) (k : ℕ) → IsRising kept → k < length kept → rank_from number kept (get_or kept k 0) ≡ Some (number + k)
+rank_from_at number [] k up here = absurd (omega arith)
+rank_from_at number (x ∷ kept) zero up here = ap (λ b. cond b (Some number) (rank_from (number + 1) kept x)) (eq-eqb x x refl) ∙ ap Some (sym (add-zero number))
+rank_from_at number (x ∷ kept) (suc k) up here =
+    let within : k < length kept = omega arith in
+    let above = first_below x kept up (get_or kept k 0) (Member-at kept k within) in
+    ap (λ b. cond b (Some number) (rank_from (number + 1) kept (get_or kept k 0))) (ne_eqb x (get_or kept k 0) (λ same. absurd (omega arith)))
+    ∙ rank_from_at (number + 1) kept k (rest_rises x kept up) within ∙ (let e : number + 1 + k ≡ number + suc k = omega arith in ap Some e)
+
+pub rank_from_none : (number : ℕ) (kept : List ℕ) (rank : ℕ) → has kept rank ≡ false → rank_from number kept rank ≡ None
+rank_from_none number [] rank missing = refl
+rank_from_none number (x ∷ kept) rank missing =
+    let both = neither (eqb x rank) (has kept rank) missing in
+    ap (λ b. cond b (Some number) (rank_from (number + 1) kept rank)) both.0 ∙ rank_from_none (number + 1) kept rank both.1
+
+pub rank_at : (kept : List ℕ) (k : ℕ) → IsRising kept → k < length kept → rank_of kept (get_or kept k 0) ≡ Some k
+rank_at kept k up here = rank_from_at 0 kept k up here ∙ ap Some (zero-add k)
+
+-- ---- tables
+
+module _ {T : Type 0} (made_of : Option ℕ → T) (kept : List ℕ) (up : IsRising kept) where
+  -- what a table has at a rank is made of the rank's number
+  pub table_at : (table : List T) (rank : ℕ) → HasNumbers made_of kept table → get_or table rank (made_of None) ≡ made_of (rank_of kept rank)
+  table_at table rank has_each = elim (cases_Bool (has kept rank)) [
+    | inl e ↦
+        (let c = Contains-from_Member rank kept (Member-from_has kept rank e) in
+        let at : get_or kept c.0 0 ≡ rank = get_or_default kept c.0 0 rank c.1 ∙ c.2 in
+        ap (λ r. get_or table r (made_of None)) (sym at) ∙ has_each.at c.0 c.1 ∙ ap made_of (sym (ap (rank_of kept) (sym at) ∙ rank_at kept c.0 up c.1)))
+    | inr e ↦ has_each.none rank e ∙ ap made_of (sym (rank_from_none 0 kept rank e))
+  ]
+
+  -- one number more is put there
+  pub number_more : (i : ℕ) (table : List T) → i < length kept → get_or kept i 0 < length table → HasNumbers made_of (take i kept) table
+      → HasNumbers made_of (take (i + 1) kept) (set table (get_or kept i 0) (made_of (Some i)))
+  number_more i table here inside are = record {
+    at = λ k below. (let within : k < i + 1 = omega (arith, below, length-take (i + 1) kept) in
+        let same = get_or-take (i + 1) kept k 0 within in
+        ap (λ r. get_or new r (made_of None)) same ∙ (elim (cases_lt k i) [
+          | inl less ↦ (let rises = rising_at kept k i up less here in
+              let before = get_or-take i kept k 0 less in
+              get_or-set_other table (get_or kept i 0) (get_or kept k 0) (made_of (Some i)) (made_of None) (λ e. absurd (omega arith))
+              ∙ ap (λ r. get_or table r (made_of None)) (sym before) ∙ are.at k (omega (arith, length-take i kept)))
+          | inr last ↦ (let is : i ≡ k = omega arith in
+              subst (λ j. get_or new (get_or kept j 0) (made_of None) ≡ made_of (Some j)) is (get_or-set_same table (get_or kept i 0) (made_of (Some i)) (made_of None) inside))
+        ]));
+    none = λ rank missing.
+        let both = neither (has (take i kept) rank) (eqb (get_or kept i 0) rank) (sym (has_more kept i rank here) ∙ missing) in
+        get_or-set_other table (get_or kept i 0) rank (made_of (Some i)) (made_of None) (λ same. true≢false (sym (eq-eqb (get_or kept i 0) rank (sym same)) ∙ both.1)) ∙ are.none rank both.0;
+  }
+    where
+      new : List T
+      new = set table (get_or kept i 0) (made_of (Some i))
+
+pub all_none : {T : Type 0} (none : T) (count : ℕ) (table : List T) → length table ≡ count → ((rank : ℕ) → get_or table rank none ≡ none) → table ≡ replicate count none
+all_none none count table long none_at = ext_get_or none table (replicate count none) (long ∙ sym (length-replicate count none))
+    (λ rank here. none_at rank ∙ sym (get_or-replicate count rank none none (omega arith)))
+
+-- ---- a basket's places
+
+filter_map-push : (h : ℕ → Option ℕ) (xs : List ℕ) (x : ℕ) → filter_map h (xs ++ x ∷ []) ≡ filter_map h xs ++ option_to_list (h x)
+filter_map-push h [] x = at (h x)
+  where
+    at : (o : Option ℕ) → cons_option o [] ≡ option_to_list o
+    at None = refl
+    at (Some y) = refl
+filter_map-push h (first ∷ xs) x = ap (cons_option (h first)) (filter_map-push h xs x) ∙ at (h first)
+  where
+    at : (o : Option ℕ) → cons_option o (filter_map h xs ++ option_to_list (h x)) ≡ cons_option o (filter_map h xs) ++ option_to_list (h x)
+    at None = refl
+    at (Some y) = refl
+
+pub numbers_more : (h : ℕ → Option ℕ) (basket : List ℕ) (i : ℕ) → i < length basket
+    → filter_map h (take (i + 1) basket) ≡ filter_map h (take i basket) ++ option_to_list (h (get_or basket i 0))
+numbers_more h basket i here = ap (filter_map h) (take_more basket i 0 here) ∙ filter_map-push h (take i basket) (get_or basket i 0)
+
+-- what is put down for one rank more, over which the next is put where there is nothing for it
+pub slot_put : (now front : List ℕ) (len : ℕ) (slot : Option ℕ) (more : ℕ) → len < length now → more ≡ bool_byte (is_some slot) → take len now ≡ front
+    → take (len + more) (set now len (unwrap_or slot 0)) ≡ front ++ option_to_list slot
+slot_put now front len None more room count before =
+    let none : len + more ≡ len = omega (arith, count) in ap (λ n. take n (set now len 0)) none ∙ take-set now len 0 ∙ before ∙ sym (append-nil front)
+slot_put now front len (Some y) more room count before =
+    let one : len + more ≡ len + 1 = omega (arith, count) in
+    ap (λ n. take n (set now len y)) one ∙ take_more_set now len y room ∙ ap (λ l. l ++ y ∷ []) before
+
+-- ---- places as a coding
+
+-- the places of those ranks of a basket that have one
+abbrev pub numbers_in : List ℕ → List ℕ → List ℕ
+numbers_in kept basket = filter_map (rank_of kept) basket
+
+abbrev pub placed : List ℕ → Weighted → Weighted
+placed kept place = weighted (numbers_in kept place.basket) place.weight
+
+module _ (kept : List ℕ) (up : IsRising kept) where
+  -- a rank that has a place stands there
+  pub stands : (rank place : ℕ) → rank_of kept rank ≡ Some place → (place < length kept) × (get_or kept place 0 ≡ rank)
+  stands rank place is = elim (cases_Bool (has kept rank)) [
+    | inl e ↦
+        (let c = Contains-from_Member rank kept (Member-from_has kept rank e) in
+        let at = get_or_default kept c.0 0 rank c.1 ∙ c.2 in
+        let same : c.0 ≡ place = some_same (sym (rank_at kept c.0 up c.1) ∙ ap (rank_of kept) at ∙ is) in
+        (subst (λ k. k < length kept) same c.1, ap (λ k. get_or kept k 0) (sym same) ∙ at))
+    | inr e ↦ (let no : None ≡ Some place = sym (rank_from_none 0 kept rank e) ∙ is in absurd cc)
+  ]
+    where
+      some_same : {a b : ℕ} → Some a ≡ Some b → a ≡ b
+      some_same e = cc
+
+  pub from_numbers : (basket : List ℕ) (place : ℕ) → Member place (numbers_in kept basket) → (rank : ℕ) × Member rank basket × (rank_of kept rank ≡ Some place)
+  from_numbers [] place m = absurd m
+  from_numbers (first ∷ basket) place m = at (rank_of kept first) refl (from_numbers basket place) m
+    where
+      later : (rank : ℕ) × Member rank basket × (rank_of kept rank ≡ Some place) → (rank : ℕ) × Member rank (first ∷ basket) × (rank_of kept rank ≡ Some place)
+      later r = (r.0, inr r.1, r.2)
+
+      at : (o : Option ℕ) → rank_of kept first ≡ o → (Member place (numbers_in kept basket) → (rank : ℕ) × Member rank basket × (rank_of kept rank ≡ Some place))
+          → Member place (cons_option o (numbers_in kept basket)) → (rank : ℕ) × Member rank (first ∷ basket) × (rank_of kept rank ≡ Some place)
+      at None e rest n = later (rest n)
+      at (Some y) e rest (inl same) = (first, inl refl, e ∙ ap Some same)
+      at (Some y) e rest (inr n) = later (rest n)
+
+  pub into_numbers : (basket : List ℕ) (rank place : ℕ) → Member rank basket → rank_of kept rank ≡ Some place → Member place (numbers_in kept basket)
+  into_numbers [] rank place m is = absurd m
+  into_numbers (first ∷ basket) rank place (inl same) is =
+      subst (λ o. Member place (cons_option o (numbers_in kept basket))) (sym (ap (rank_of kept) same ∙ is)) (inl refl)
+  into_numbers (first ∷ basket) rank place (inr m) is = at (rank_of kept first) (into_numbers basket rank place m is)
+    where
+      at : (o : Option ℕ) → Member place (numbers_in kept basket) → Member place (cons_option o (numbers_in kept basket))
+      at None n = n
+      at (Some y) n = inr n
+
+  -- the places of a rising basket rise
+  pub numbers_rise : (basket : List ℕ) → IsRising basket → IsRising (numbers_in kept basket)
+  numbers_rise [] rises = nil_rises
+  numbers_rise (first ∷ basket) rises = at (rank_of kept first) refl (numbers_rise basket (rest_rises first basket rises))
+    where
+      above : (y : ℕ) → rank_of kept first ≡ Some y → (z : ℕ) → Member z (numbers_in kept basket) → y < z
+      above y e z m = elim (cases_lt y z) [
+        | inl less ↦ less
+        | inr not ↦
+            (let r = from_numbers basket z m in
+            let a = stands first y e in
+            let b = stands r.0 z r.2 in
+            let more = first_below first basket rises r.0 r.1 in
+            let at_most : get_or kept z 0 ≤ get_or kept y 0 = no_more z y not a.0 in
+            let x = a.1 in let w = b.1 in
+            absurd (omega arith))
+      ]
+        where
+          no_more : (i j : ℕ) → i ≤ j → j < length kept → get_or kept i 0 ≤ get_or kept j 0
+          no_more i j le here = elim (cases_eq i j) [
+            | inl same ↦ (let is = ap (λ k. get_or kept k 0) same in omega arith)
+            | inr differ ↦ (let less = rising_at kept i j up (omega arith) here in omega arith)
+          ]
+
+      at : (o : Option ℕ) → rank_of kept first ≡ o → IsRising (numbers_in kept basket) → IsRising (cons_option o (numbers_in kept basket))
+      at None e rest = rest
+      at (Some y) e rest = cons_rises y (numbers_in kept basket) (above y e) rest
+
+  -- they are the basket coded by the list
+  pub numbers_are_coded : (basket : List ℕ) → IsRising basket → numbers_in kept basket ≡ coded kept basket
+  numbers_are_coded basket rises = same_rising (numbers_in kept basket) (coded kept basket) (numbers_rise basket rises) (ranks_rise 0 kept basket)
+      (λ place m. let r = from_numbers basket place m in
+      let s = stands r.0 place r.2 in
+      subst (λ n. Member n (coded kept basket)) (zero-add place) (into_ranks 0 kept basket place s.0 (has-from_Member basket (get_or kept place 0) (subst (λ x. Member x basket) (sym s.1) r.1))))
+      (λ place m. let r = from_ranks 0 kept basket place m in
+      let same : place ≡ r.0 = r.2 ∙ zero-add r.0 in
+      into_numbers basket (get_or kept r.0 0) place (Member-from_has basket (get_or kept r.0 0) r.3) (rank_at kept r.0 up r.1 ∙ ap Some (sym same)))
+
+  coded_each : (count : ℕ) (baskets : List Weighted) → AllByRecursion (IsRankBasket count) baskets → map (placed kept) baskets ≡ map (coded_place kept) baskets
+  coded_each count [] all = refl
+  coded_each count (place ∷ baskets) all =
+      ap (λ l. weighted l place.weight ∷ map (placed kept) baskets) (numbers_are_coded place.basket all.0.rises)
+      ∙ ap (λ rest. coded_place kept place ∷ rest) (coded_each count baskets all.1)
+
+  pub all_coded : (count : ℕ) (baskets : List Weighted) → All (IsRankBasket count) baskets → map (placed kept) baskets ≡ map (coded_place kept) baskets
+  all_coded count baskets all = coded_each count baskets (recursion_from_All (IsRankBasket count) baskets all)
+
+  -- and so are the places by a table
+  pub table_coded : (of : List (Option ℕ)) (count : ℕ) (baskets : List Weighted) → AreNumbers kept of → All (IsRankBasket count) baskets → map (by_table of) baskets ≡ map (coded_place kept) baskets
+  table_coded of count baskets are all = (λ i. map (λ place. weighted (filter_map (λ rank. table_at (λ number. number) kept up of rank are i) place.basket) place.weight) baskets) ∙ all_coded count baskets all
+
+-- coded baskets of ranks are baskets of ranks
+pub coded_rank_baskets : (kept : List ℕ) (count : ℕ) (baskets : List Weighted) → AreRankBaskets (record { ranks = count; baskets = baskets })
+    → AreRankBaskets (record { ranks = length kept; baskets = map (coded_place kept) baskets })
+coded_rank_baskets kept count baskets are = record {
+  places = All-from_recursion (IsRankBasket (length kept)) (map (coded_place kept) baskets) (each baskets (recursion_from_All (IsRankBasket count) baskets are.places));
+  light = subst (λ n. n ≤ MOST_WEIGHT) (sym (coded_total kept baskets)) are.light;
+}
+  where
+    each : (places : List Weighted) → AllByRecursion (IsRankBasket count) places → AllByRecursion (IsRankBasket (length kept)) (map (coded_place kept) places)
+    each [] all = tt
+    each (place ∷ places) all = let is = coded_place_is kept place in (record { rises = is.0; below = is.1; weighs = all.0.weighs }, each places all.1)
+
+-- ---- the loops over baskets
+
+pub placed_more : (baskets : List Weighted) (locals : List ℕ) (of : List (Option ℕ)) (spans : List Span) (i : ℕ) (basket : Weighted) (span : Span) → i < length baskets
+    → basket ≡ get_or baskets i (weighted [] 0) → All (IsWithin (length locals)) spans → span.start ≡ length locals → span.end ≡ length locals + length (table_numbers of basket.basket) → span.weight ≡ basket.weight
+    → baskets_at locals spans ≡ map (by_table of) (take i baskets) → baskets_at (locals ++ table_numbers of basket.basket) (spans ++ span ∷ []) ≡ map (by_table of) (take (i + 1) baskets)
+placed_more baskets locals of spans i basket span here is within start end weight so_far =
+    pushed_basket locals (table_numbers of basket.basket) spans span within start end
+    ∙ (λ k. so_far k ++ weighted (table_numbers of basket.basket) (weight k) ∷ []) ∙ (λ k. map (by_table of) (take i baskets) ++ by_table of (is k) ∷ [])
+    ∙ sym (ap (map (by_table of)) (take_more baskets i (weighted [] 0) here) ∙ map-append (by_table of) (take i baskets) (get_or baskets i (weighted [] 0) ∷ []))

@@ -1,9 +1,0 @@
-use Rattle.std.proofs.Common.{◌≡◌, ℕ, ◌+◌, cond}
-use Rattle.mine_supports.specs.TidWord.{has_place, shared_weight}
-use Rattle.mine_supports.proofs.tid_words.add_place.Given as goal
-
-abbrev pub invariant-loop-rest : goal.invariant-loop-rest
-invariant-loop-rest l = (row : ℕ → ℕ) → shared_weight row l.places.items + cond (has_place row l.place) l.rest 0 ≡ shared_weight row l.initial.places.items + cond (has_place row l.place) l.fn.weight 0
-
-abbrev pub decreases-loop-rest : goal.decreases-loop-rest
-decreases-loop-rest l = l.rest
