@@ -1,5 +1,6 @@
 -- Counting items in a table: its slots while the places are added, and the entries that it gives in the end.
 use Rattle.std.proofs.Common.{◌≡◌, ℕ, ◌+◌, ◌<◌, ◌≤◌, Bool, true, ◌||◌, List, [], ◌∷◌, ◌++◌, length, take, get_or, map, cond, Option, Some, None, unwrap_or, refl, sym, ap, ◌∙◌, subst, inl, inr, arith, add-zero, zero-add, ◌-◌, zero, suc}
+use Rattle.std.proofs.lemmas.Grind.{common_steps}
 use Rattle.std.specs.List.{IsDistinct}
 use Rattle.std.specs.Prelude.{nat_eq}
 use Rattle.std.proofs.lemmas.List.{append-nil, length-take, take_more, get_or_default, get_or_past}
@@ -21,26 +22,18 @@ use Rattle.basket_sets.proofs.theory.Support.{support-append}
 -- ---- the items of the baskets so far
 
 pub all_items_more : (baskets : List Weighted) (i : ℕ) (d : Weighted) → i < length baskets → all_items (take (i + 1) baskets) ≡ all_items (take i baskets) ++ (get_or baskets i d).basket
-all_items_more baskets i d below =
-    ap all_items (take_more baskets i d below) ∙ flat_map-append (λ place. place.basket) (take i baskets) (get_or baskets i d ∷ [])
-    ∙ ap (λ l. all_items (take i baskets) ++ l) (append-nil (get_or baskets i d).basket)
+all_items_more baskets i d below = grind (arith, common_steps)
 
 -- the last of a rising list is its greatest
 pub last_is_greatest : (items : List ℕ) → IsRising items → (x : ℕ) → has items x ≡ true → x ≤ get_or items (length items - 1) 0
 last_is_greatest items up x h =
     let c = Contains-from_Member x items (Member-from_has items x h) in
     let at : get_or items c.0 0 ≡ x = get_or_default items c.0 0 x c.1 ∙ c.2 in
-    elim (cases_lt c.0 (length items - 1)) [
-      | inl less ↦ (let b = below_from_sorted items c.0 (length items - 1) 0 up less (omega (arith, c.1)) in omega arith)
-      | inr same ↦ (let e : c.0 ≡ length items - 1 = omega (arith, c.1) in let f = ap (λ k. get_or items k 0) e in omega arith)
-    ]
+    grind (arith, common_steps, cases_lt, below_from_sorted)
 
 -- one more basket, whose greatest item is `last`, or which has none
 pub below_more : (a b : List ℕ) (before greatest : ℕ) → AllBelow (before + 1) a → ((x : ℕ) → has b x ≡ true → x ≤ greatest) → before ≤ greatest → AllBelow (greatest + 1) (a ++ b)
-below_more a b before greatest old new more x h = elim (or_cases (has a x) (has b x) (sym (has-append a b x) ∙ h)) [
-  | inl e ↦ (let k = old x e in omega arith)
-  | inr e ↦ (let k = new x e in omega arith)
-]
+below_more a b before greatest old new more x h = grind (arith, common_steps)
 
 -- ---- a place is added to the table
 
@@ -61,80 +54,48 @@ weight_of_item place item = ap (λ b. cond b place.weight 0) (and_true (has plac
 -- what is known of an item after one more place
 pub tally_push : (before : List Weighted) (place : Weighted) (item : ℕ)
     → cond (has place.basket item) (slot_with place.weight (tally before item)) (tally before item) ≡ tally (before ++ place ∷ []) item
-tally_push before place item = at (has place.basket item) (tally before item) ∙ ap (slots_joined (tally before item)) (sym one) ∙ sym (tally-append before (place ∷ []) item)
-  where
-    one : tally (place ∷ []) item ≡ cond (has place.basket item) (Some (cond (has place.basket item) place.weight 0)) None
-    one = λ i. cond (has (append-nil place.basket i) item) (Some ((zero-add (weight_at (item ∷ []) place) ∙ weight_of_item place item) i)) None
-
-    at : (h : Bool) (slot : Option ℕ) → cond h (slot_with place.weight slot) slot ≡ slots_joined slot (cond h (Some (cond h place.weight 0)) None)
-    at h slot = grind arith
+tally_push before place item = grind (arith, common_steps, tally-append, append-nil, weight_of_item)
 
 -- the table after one more place
 pub table_push : (before : List Weighted) (place : Weighted) (old table : List (Option ℕ)) → length table ≡ length old
     → HasAdded old place.weight place.basket table → IsTable before old → IsTable (before ++ place ∷ []) table
-table_push before place old table long added so_far item within =
-    added item ∙ ap (λ s. cond (has place.basket item) (slot_with place.weight s) s) (so_far item (omega arith)) ∙ tally_push before place item
+table_push before place old table long added so_far item within = grind (arith, common_steps, tally_push)
 
 -- a table knows each item that it has a slot for
 table_knows : (baskets : List Weighted) (table : List (Option ℕ)) → IsTable baskets table → AllBelow (length table) (all_items baskets) → (item : ℕ) → get_or table item None ≡ tally baskets item
-table_knows baskets table is within item = elim (cases_lt item (length table)) [
-  | inl below ↦ is item below
-  | inr past ↦ get_or_past table item None past ∙ cond_both (has (all_items baskets) item) _ _ (λ slot. None ≡ slot) (λ h. absurd (omega (arith, within item h))) (λ h. refl)
-]
+table_knows baskets table is within item = grind (arith, common_steps)
 
 -- the table after one more basket
 pub counted_push : (before : List Weighted) (place : Weighted) (old : Tabled) (slots : List (Option ℕ)) (total : ℕ) → HasCounted old before → AllBelow (length old.slots) place.basket
     → length slots ≡ length old.slots → total ≡ old.total + place.weight → HasAdded old.slots place.weight place.basket slots
     → HasCounted (record { slots = slots; total = total }) (before ++ place ∷ [])
-counted_push before place old slots total counted below long sum added = record {
-  slots = table_push before place old.slots slots long added counted.slots;
-  within = λ item h. elim (or_cases (has (all_items before) item) (has place.basket item) (sym (items item) ∙ h)) [
-    | inl e ↦ (let k = counted.within item e in omega arith)
-    | inr e ↦ (let k = below item e in omega arith)
-  ];
-  total = let both = support-append before (place ∷ []) [] in omega (arith, counted.total);
-}
-  where
-    items : (item : ℕ) → has (all_items (before ++ place ∷ [])) item ≡ (has (all_items before) item || has place.basket item)
-    items item = items-append before (place ∷ []) item ∙ ap (λ l. has (all_items before) item || has l item) (append-nil place.basket)
+counted_push before place old slots total counted below long sum added = grind (arith, common_steps, table_push, or_cases, support-append, items-append, append-nil)
 
 -- the tables of two lists of baskets, put together
 pub counted_both : (before more : List Weighted) (a b : Tabled) (slots : List (Option ℕ)) (total : ℕ) → HasCounted a before → HasCounted b more
     → length b.slots ≤ length slots → length slots ≡ length a.slots → total ≡ a.total + b.total
     → ((item : ℕ) → get_or slots item None ≡ slots_joined (get_or a.slots item None) (get_or b.slots item None))
     → HasCounted (record { slots = slots; total = total }) (before ++ more)
-counted_both before more a b slots total counted also shorter long sum joined = record {
-  slots = λ item within. joined item ∙ (λ i. slots_joined (counted.slots item (omega arith) i) (table_knows more b.slots also.slots also.within item i)) ∙ sym (tally-append before more item);
-  within = λ item h. elim (or_cases (has (all_items before) item) (has (all_items more) item) (sym (items-append before more item) ∙ h)) [
-    | inl e ↦ (let k = counted.within item e in omega arith)
-    | inr e ↦ (let k = also.within item e in omega arith)
-  ];
-  total = let both = support-append before more [] in omega (arith, counted.total, also.total);
-}
+counted_both before more a b slots total counted also shorter long sum joined = grind (arith, common_steps, table_knows, tally-append, or_cases, items-append, support-append)
 
 -- no support grows by more than the weight of the place
 pub bounded_push : (place : Weighted) (old table : List (Option ℕ)) (item : ℕ) → HasAdded old place.weight place.basket table
     → unwrap_or (get_or table item None) 0 ≤ unwrap_or (get_or old item None) 0 + place.weight
-bounded_push place old table item added =
-    subst (λ s. unwrap_or s 0 ≤ unwrap_or (get_or old item None) 0 + place.weight) (sym (added item))
-    (cond_both (has place.basket item) _ _ (λ slot. unwrap_or slot 0 ≤ unwrap_or (get_or old item None) 0 + place.weight) (λ h. omega arith) (λ h. omega arith))
+bounded_push place old table item added = grind (arith, common_steps)
 
 -- ---- the entries of a table
 
 pub entries-append : (number : ℕ) (front : List (Option ℕ)) (back : List (Option ℕ)) → entries_from number (front ++ back) ≡ entries_from number front ++ entries_from (number + length front) back
 entries-append number [] back = ap (λ n. entries_from n back) (sym (add-zero number))
-entries-append number (None ∷ front) back = entries-append (number + 1) front back ∙ ap (λ n. entries_from (number + 1) front ++ entries_from n back) (omega arith)
-entries-append number (Some support ∷ front) back =
-    ap (λ l. (number, support) ∷ l) (entries-append (number + 1) front back ∙ ap (λ n. entries_from (number + 1) front ++ entries_from n back) (omega arith))
+entries-append number (None ∷ front) back = grind (arith, common_steps, entries-append (number + 1) front back)
+entries-append number (Some support ∷ front) back = grind (arith, common_steps, entries-append (number + 1) front back)
 
 -- the entry of one slot, if it has something
 abbrev pub entry_at : ℕ → Option ℕ → List (ℕ × ℕ)
 entry_at number slot = entries_from number (slot ∷ [])
 
 pub entries_more : (table : List (Option ℕ)) (i : ℕ) → i < length table → entries_of (take (i + 1) table) ≡ entries_of (take i table) ++ entry_at i (get_or table i None)
-entries_more table i below =
-    ap entries_of (take_more table i None below) ∙ entries-append 0 (take i table) (get_or table i None ∷ [])
-    ∙ ap (λ n. entries_of (take i table) ++ entry_at n (get_or table i None)) (omega (arith, length-take i table))
+entries_more table i below = grind (arith, common_steps, take_more, entries-append, length-take)
 
 -- the numbers of the slots that have something
 abbrev numbers_from : ℕ → List (Option ℕ) → List ℕ
@@ -156,19 +117,14 @@ numbers_rise number (Some support ∷ slots) =
 found_below : (slots : List (Option ℕ)) (number item : ℕ) → item < number → found (entries_from number slots) item ≡ None
 found_below [] number item below = refl
 found_below (None ∷ slots) number item below = found_below slots (number + 1) item (omega arith)
-found_below (Some support ∷ slots) number item below =
-    ap (λ b. cond b (Some support) (found (entries_from (number + 1) slots) item)) (is_at_eqb item number ∙ ne_eqb number item (λ e. omega arith))
-    ∙ found_below slots (number + 1) item (omega arith)
+found_below (Some support ∷ slots) number item below = grind (arith, common_steps, found_below slots (number + 1) item (omega arith))
 
 found_entry : (slots : List (Option ℕ)) (number j : ℕ) → found (entries_from number slots) (number + j) ≡ get_or slots j None
 found_entry [] number j = refl
 found_entry (None ∷ slots) number zero = found_below slots (number + 1) (number + 0) (omega arith)
-found_entry (None ∷ slots) number (suc j) = ap (found (entries_from (number + 1) slots)) (omega arith) ∙ found_entry slots (number + 1) j
-found_entry (Some support ∷ slots) number zero =
-    ap (λ b. cond b (Some support) (found (entries_from (number + 1) slots) (number + 0))) (is_at_eqb (number + 0) number ∙ eq-eqb number (number + 0) (omega arith))
-found_entry (Some support ∷ slots) number (suc j) =
-    ap (λ b. cond b (Some support) (found (entries_from (number + 1) slots) (number + suc j))) (is_at_eqb (number + suc j) number ∙ ne_eqb number (number + suc j) (λ e. omega arith))
-    ∙ ap (found (entries_from (number + 1) slots)) (omega arith) ∙ found_entry slots (number + 1) j
+found_entry (None ∷ slots) number (suc j) = grind (arith, common_steps, found_entry slots (number + 1) j)
+found_entry (Some support ∷ slots) number zero = grind (arith, common_steps)
+found_entry (Some support ∷ slots) number (suc j) = grind (arith, common_steps, found_entry slots (number + 1) j)
 
 pub table_entries : (baskets : List Weighted) (table : List (Option ℕ)) → IsTable baskets table → AllBelow (length table) (all_items baskets) → entries_of table ≡ item_supports baskets
 table_entries baskets table is within = supports_are baskets (entries_of table) (numbers_rise 0 table)

@@ -1,5 +1,6 @@
 -- The least number that meets a share.
 use Rattle.std.proofs.Common.{ℕ, ◌+◌, ◌-◌, ◌*◌, ◌/◌, ◌<◌, ◌≤◌, arith}
+use Rattle.std.proofs.lemmas.Grind.{common_steps}
 use Rattle.std.proofs.Math.Nat.{div-lt_iff_lt-mul}
 use Rattle.std.proofs.lemmas.Bool.{leb-true, le-leb}
 use Rattle.basket_sets.specs.Minimum.{IsLeastPart}
@@ -14,6 +15,4 @@ scaled_up part number denominator some h =
     let k : (part + (denominator - 1)) / denominator < number + 1 = (div-lt_iff_lt-mul {k = denominator} {x = part + (denominator - 1)} {y = number + 1} some).1 (grind arith) in omega arith
 
 pub least_part : (numerator denominator total : ℕ) → 0 < denominator → IsLeastPart (numerator, denominator) total ((numerator * total + (denominator - 1)) / denominator)
-least_part numerator denominator total some number = same_test _ _
-    (λ h. le-leb _ number (scaled_up (numerator * total) number denominator some (leb-true _ _ h)))
-    (λ h. le-leb _ _ (scaled_down (numerator * total) number denominator some (leb-true _ number h)))
+least_part numerator denominator total some number = grind (arith, common_steps)

@@ -1,5 +1,6 @@
 -- A merged database is a database, and what the map of weights does with one more basket.
 use Rattle.std.proofs.Common.{◌≡◌, ℕ, ◌+◌, ◌≤◌, Bool, List, [], ◌∷◌, Some, cond, nat_eq, map, unwrap_or, sym, ap, subst, zero-add, arith}
+use Rattle.std.proofs.lemmas.Grind.{common_steps}
 use Rattle.std.specs.Cmp.Lexicographic.{pointwise}
 use Rattle.std.specs.Map.{lookup}
 use Rattle.std.proofs.lemmas.Bool.{cond_both}
@@ -28,17 +29,8 @@ module _ (basket : List ℕ) where
   pub inserted : (weight : ℕ) (entries : List (List ℕ × ℕ))
       → map as_weighted (insert_entry (pointwise nat_eq) entries basket (weight_before entries + weight)) ≡ with_basket (map as_weighted entries) (weighted basket weight)
   inserted weight [] = ap (λ n. weighted basket n ∷ []) (zero-add weight)
-  inserted weight (entry ∷ entries) = at (pointwise nat_eq basket entry.0) (inserted weight entries)
-    where
-      at : (b : Bool)
-          → map as_weighted (insert_entry (pointwise nat_eq) entries basket (weight_before entries + weight)) ≡ with_basket (map as_weighted entries) (weighted basket weight)
-          → map as_weighted (cond b ((entry.0, unwrap_or (cond b (Some entry.1) (lookup (pointwise nat_eq basket) entries)) 0 + weight) ∷ entries)
-          (entry ∷ insert_entry (pointwise nat_eq) entries basket (unwrap_or (cond b (Some entry.1) (lookup (pointwise nat_eq basket) entries)) 0 + weight)))
-          ≡ cond b (weighted entry.0 (entry.1 + weight) ∷ map as_weighted entries) (as_weighted entry ∷ with_basket (map as_weighted entries) (weighted basket weight))
-      at b later = grind arith
+  inserted weight (entry ∷ entries) = grind (arith, common_steps, inserted weight entries)
 
   pub light_before : (entries : List (List ℕ × ℕ)) → weight_before entries ≤ total_of (map as_weighted entries)
   light_before [] = omega arith
-  light_before (entry ∷ entries) =
-      let whole = sum_by-cons (weight_at []) (as_weighted entry) (map as_weighted entries) in
-      cond_both (pointwise nat_eq basket entry.0) _ _ (λ found. unwrap_or found 0 ≤ total_of (map as_weighted (entry ∷ entries))) (λ same. omega arith) (λ differ. omega (arith, light_before entries))
+  light_before (entry ∷ entries) = grind (arith, common_steps, light_before entries)

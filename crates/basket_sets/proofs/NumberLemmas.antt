@@ -1,5 +1,6 @@
 -- The value of a text of digits, as it grows digit by digit.
 use Rattle.std.proofs.Common.{◌≡◌, ℕ, ◌+◌, ◌*◌, ◌-◌, ◌<◌, ◌≤◌, List, [], ◌∷◌, length, take, drop, get_or, fold, leb, ltb, ◌&&◌, None, Some, sym, subst, arith}
+use Rattle.std.proofs.lemmas.Grind.{common_steps}
 use Rattle.std.specs.List.{list_all}
 use Rattle.std.proofs.lemmas.Bool.{cond-false, and_right, lt-leb}
 use Rattle.std.proofs.lemmas.List.{take-append-drop}
@@ -11,10 +12,7 @@ grows value [] = omega arith
 grows value (byte ∷ digits) = let rest = grows (value * 10 + (byte - 48)) digits in omega arith
 
 front_value : (text : List ℕ) (n : ℕ) → value_of (take n text) ≤ value_of text
-front_value text n =
-    subst (λ l. value_of (take n text) ≤ value_of l) (take-append-drop n text)
-    (subst (λ v. value_of (take n text) ≤ v) (sym (fold-append (λ v byte. v * 10 + (byte - 48)) 0 (take n text) (drop n text)))
-    (grows (value_of (take n text)) (drop n text)))
+front_value text n = grind (arith, common_steps, take-append-drop n text, grows (value_of (take n text)) (drop n text))
 
 -- the value so far with one more digit
 value_more : (text : List ℕ) (i : ℕ) → i < length text → value_of (take (i + 1) text) ≡ value_of (take i text) * 10 + (get_or text i 0 - 48)
@@ -22,6 +20,4 @@ value_more text i below = fold_more (λ v byte. v * 10 + (byte - 48)) 0 text i 0
 
 -- a front whose value with the next digit is above the bound settles that the number is above it
 pub too_large : (bound : ℕ) (text : List ℕ) (i : ℕ) → i < length text → bound < value_of (take i text) * 10 + (get_or text i 0 - 48) → number_of bound text ≡ None
-too_large bound text i below above =
-    let all : bound < value_of text = let more = value_more text i below in let front = front_value text (i + 1) in omega arith in
-    cond-false _ (Some (value_of text)) None (and_right (ltb 0 (length text) && list_all is_digit text) (leb (value_of text) bound) (lt-leb (value_of text) bound all))
+too_large bound text i below above = grind (arith, common_steps, value_more text i below, front_value text (i + 1))

@@ -1,9 +1,8 @@
 -- Renumbering put in the places of numbers, one after another.
-use Rattle.std.proofs.Common.{ℕ, ◌+◌, ◌≡◌, ◌<◌, ◌++◌, List, [], ◌∷◌, length, map, take, get_or, set, ap, sym, ◌∙◌}
+use Rattle.std.proofs.Common.{ℕ, ◌+◌, ◌≡◌, ◌<◌, ◌++◌, List, [], ◌∷◌, length, map, take, get_or, set, ap, sym, ◌∙◌, arith}
+use Rattle.std.proofs.lemmas.Grind.{common_steps}
 use Rattle.std.proofs.lemmas.List.{map_push, take_more, take_more_set}
 
 pub named_more : (f : ℕ → ℕ) (now before : List ℕ) (k : ℕ) → k < length now → k < length before → take k now ≡ map f (take k before)
     → take (k + 1) (set now k (f (get_or before k 0))) ≡ map f (take (k + 1) before)
-named_more f now before k here there same =
-    take_more_set now k (f (get_or before k 0)) here ∙ ap (λ l. l ++ f (get_or before k 0) ∷ []) same
-    ∙ sym (ap (map f) (take_more before k 0 there) ∙ map_push f (take k before) (get_or before k 0))
+named_more f now before k here there same = grind (arith, common_steps)

@@ -1,5 +1,6 @@
 -- Lists of counts whose items rise, by what a look-up finds in them, and what is known of items over two lists of baskets.
 use Rattle.std.proofs.Common.{◌≡◌, ℕ, ◌+◌, ◌<◌, ◌≤◌, Bool, true, false, ◌||◌, List, [], ◌∷◌, ◌++◌, map, cond, eqb, Option, Some, None, unwrap_or, refl, sym, ap, ◌∙◌, subst, inl, inr, arith}
+use Rattle.std.proofs.lemmas.Grind.{common_steps}
 use Rattle.std.specs.BTreeMap.{is_at}
 use Rattle.std.specs.FinMap.Entries.{below_all, find, is_sorted, same_entries}
 use Rattle.std.specs.Cmp.{nat_cmp_total}
@@ -52,11 +53,7 @@ items_of_map f (x ∷ items) = ap (λ l. x ∷ l) (items_of_map f items)
 
 pub found_mapped : (f : ℕ → ℕ) (items : List ℕ) (item : ℕ) → found (map (λ x. (x, f x)) items) item ≡ cond (has items item) (Some (f item)) None
 found_mapped f [] item = refl
-found_mapped f (x ∷ items) item = ap (λ b. cond b (Some (f x)) (found (map (λ y. (y, f y)) items) item)) (is_at_eqb item x) ∙ at (found_mapped f items item) (eqb x item) refl
-  where
-    at : found (map (λ y. (y, f y)) items) item ≡ cond (has items item) (Some (f item)) None
-        → (b : Bool) → eqb x item ≡ b → cond b (Some (f x)) (found (map (λ y. (y, f y)) items) item) ≡ cond (b || has items item) (Some (f item)) None
-    at later b e = grind (arith, nat_tests)
+found_mapped f (x ∷ items) item = grind (arith, common_steps, found_mapped f items item)
 
 -- ---- the supports of items
 
@@ -71,8 +68,7 @@ found_supports baskets item =
 
 -- a rising list that has for each item what is known of it
 pub supports_are : (baskets : List Weighted) (counts : List (ℕ × ℕ)) → IsRising (map (λ entry. entry.0) counts) → ((item : ℕ) → found counts item ≡ tally baskets item) → counts ≡ item_supports baskets
-supports_are baskets counts up known =
-    same_counts counts (item_supports baskets) up (supports_rise (item_supports baskets) baskets refl) (λ item. known item ∙ sym (found_supports baskets item))
+supports_are baskets counts up known = grind (arith, common_steps, same_counts, supports_rise, found_supports)
 
 -- ---- what is known of an item
 
@@ -94,11 +90,4 @@ pub items-append : (a b : List Weighted) (item : ℕ) → has (all_items (a ++ b
 items-append a b item = ap (λ l. has l item) (flat_map-append (λ place. place.basket) a b) ∙ has-append (all_items a) (all_items b) item
 
 pub tally-append : (a b : List Weighted) (item : ℕ) → tally (a ++ b) item ≡ slots_joined (tally a item) (tally b item)
-tally-append a b item =
-    (λ i. cond (items-append a b item i) (Some (support-append a b (item ∷ []) i)) None)
-    ∙ at (has (all_items a) item) (has (all_items b) item) (support_absent a item) (support_absent b item)
-  where
-    at : (g h : Bool) → (g ≡ false → support_of a (item ∷ []) ≡ 0) → (h ≡ false → support_of b (item ∷ []) ≡ 0)
-        → cond (g || h) (Some (support_of a (item ∷ []) + support_of b (item ∷ []))) None
-        ≡ slots_joined (cond g (Some (support_of a (item ∷ []))) None) (cond h (Some (support_of b (item ∷ []))) None)
-    at g h none_a none_b = grind arith
+tally-append a b item = grind (arith, common_steps, items-append, support-append, support_absent)

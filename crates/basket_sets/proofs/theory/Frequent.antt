@@ -1,5 +1,6 @@
 -- The list of the frequent sets has exactly the nonempty sets that meet the minimum, and is the only such list in report order. It depends on supports alone.
-use Rattle.std.proofs.Common.{length, false, ◌≡◌, ℕ, true, List, [], ◌∷◌, map, refl, sym, ap, ◌∙◌, subst}
+use Rattle.std.proofs.Common.{length, false, ◌≡◌, ℕ, true, List, [], ◌∷◌, map, refl, sym, ap, ◌∙◌, subst, arith}
+use Rattle.std.proofs.lemmas.Grind.{common_steps}
 use Rattle.std.specs.declared.cmp.Ordering.{Ordering}
 use Rattle.std.specs.declared.cmp.Ordering.TheVariants.{Less, Equal, Greater}
 use Rattle.std.specs.Ordering.{nat_cmp, ordering_then, is_lt, eq_by_cmp}
@@ -53,9 +54,7 @@ module _ (baskets : List Weighted) (minimum : Minimum) where
       ((s.0, s.1), k.1)
 
   into_frequent : (set : List ℕ) → IsNonemptySet set → is_frequent baskets minimum set ≡ true → Member set frequent_sets
-  into_frequent set n h =
-      Member-from_filter (is_frequent baskets minimum) set (subsets_of (items_of baskets))
-      (Member-subsets (items_of baskets) set items_rise n.0 n.1 (frequent_items baskets minimum set h)) h
+  into_frequent set n h = grind (arith, common_steps, Member-from_filter, Member-subsets, items_rise, frequent_items)
 
   sets_of_counted : (sets : List (List ℕ)) → map (λ (c : Counted). c.set) (map (counted baskets) sets) ≡ sets
   sets_of_counted [] = refl
@@ -131,13 +130,7 @@ sorted_is_frequent baskets minimum list sorted lists moved up = (frequent_is_uni
 
 -- the list of the frequent sets has each once
 pub frequent_once : (baskets : List Weighted) (minimum : Minimum) → ListsOnce baskets minimum (frequent_of baskets minimum)
-frequent_once baskets minimum =
-    let lists = lists_frequent baskets minimum in
-    record {
-      distinct = subst (λ p. IsDistinct p (map (λ (c : Counted). c.set) (frequent_of baskets minimum))) (sym same_tests) (IsDistinct-from_sorted report_order (map (λ c. c.set) (frequent_of baskets minimum)) lists.in_order);
-      sound = lists.sound;
-      complete = lists.complete;
-    }
+frequent_once baskets minimum = let lists = lists_frequent baskets minimum in grind (arith, common_steps, same_tests, IsDistinct-from_sorted)
 
 -- it is as long as that list
 pub once_is_as_long : (baskets : List Weighted) (minimum : Minimum) (list : List Counted) → ListsOnce baskets minimum list → length list ≡ length (frequent_of baskets minimum)

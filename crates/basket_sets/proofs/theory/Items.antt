@@ -1,5 +1,6 @@
 -- The frequent sets of one item are the items whose supports meet the minimum.
 use Rattle.std.proofs.Common.{◌≡◌, ℕ, Bool, true, false, List, [], ◌∷◌, ◌++◌, length, map, cond, eqb, refl, sym, ap, ◌∙◌, inl, inr, arith, zero, suc}
+use Rattle.std.proofs.lemmas.Grind.{common_steps}
 use Rattle.std.specs.List.{filter}
 use Rattle.std.proofs.lemmas.Bool.{eq-eqb, ne_eqb}
 use Rattle.std.proofs.lemmas.Simd.{map-map}
@@ -16,18 +17,11 @@ use Rattle.basket_sets.proofs.theory.Members.{Member, Member-append, Member-from
 -- images that pass a test are the images of what passes it
 pub filter-map : {X Y : Type 0} (f : X → Y) (p : Y → Bool) (xs : List X) → filter p (map f xs) ≡ map f (filter (λ x. p (f x)) xs)
 filter-map f p [] = refl
-filter-map f p (x ∷ xs) = at (p (f x)) (filter-map f p xs)
-  where
-    at : (b : Bool) → filter p (map f xs) ≡ map f (filter (λ x. p (f x)) xs) → cond b (f x ∷ filter p (map f xs)) (filter p (map f xs)) ≡ map f (cond b (x ∷ filter (λ x. p (f x)) xs) (filter (λ x. p (f x)) xs))
-    at b e = grind arith
+filter-map f p (x ∷ xs) = grind (arith, common_steps, filter-map f p xs)
 
 filter_twice : {X : Type 0} (p q : X → Bool) (xs : List X) → filter p (filter q xs) ≡ filter q (filter p xs)
 filter_twice p q [] = refl
-filter_twice p q (x ∷ xs) = at (p x) (q x) refl refl (filter_twice p q xs)
-  where
-    at : (b c : Bool) → p x ≡ b → q x ≡ c → filter p (filter q xs) ≡ filter q (filter p xs)
-        → filter p (cond c (x ∷ filter q xs) (filter q xs)) ≡ filter q (cond b (x ∷ filter p xs) (filter p xs))
-    at b c e f g = grind arith
+filter_twice p q (x ∷ xs) = grind (arith, common_steps, filter_twice p q xs)
 
 pub filter_all : {X : Type 0} (p : X → Bool) (xs : List X) → ((x : X) → Member x xs → p x ≡ true) → filter p xs ≡ xs
 filter_all p [] h = refl
@@ -64,8 +58,7 @@ singles_up_to (suc most) items =
     ∙ append-nil _ ∙ singles_up_to most items
 
 single_subsets : (items : List ℕ) → filter (λ set. eqb (length set) 1) (subsets_of items) ≡ map (λ x. x ∷ []) items
-single_subsets [] = refl
-single_subsets (x ∷ items) = singles_up_to (length items) (x ∷ items)
+single_subsets h1 = grind (arith, common_steps, singles_up_to)
 
 -- the frequent items are the items whose supports meet the minimum
 pub frequent_items_are_counted : FrequentItemsAreCounted

@@ -1,5 +1,6 @@
 -- Merging equal baskets: it keeps each support, and what holds of every basket or weight.
 use Rattle.std.proofs.Common.{◌≡◌, ℕ, ◌+◌, Bool, true, false, List, [], ◌∷◌, cond, nat_eq, fold, length, refl, sym, ap, arith, ◌≤◌}
+use Rattle.std.proofs.lemmas.Grind.{common_steps}
 use Rattle.std.specs.List.{sum_by, AllByRecursion}
 use Rattle.std.specs.Cmp.Lexicographic.{pointwise, bytes_decides}
 use Rattle.std.proofs.lemmas.Bool.{cond_both}
@@ -18,9 +19,7 @@ sum_by-same f g xs e = λ i. sum_by (λ x. e x i) xs
 -- a sum of two sums
 pub sum_by-add : {X : Type 0} (f g : X → ℕ) (xs : List X) → sum_by f xs + sum_by g xs ≡ sum_by (λ x. f x + g x) xs
 sum_by-add f g [] = refl
-sum_by-add f g (x ∷ xs) =
-    let a = sum_by-cons f x xs in let b = sum_by-cons g x xs in let c = sum_by-cons (λ y. f y + g y) x xs in let d = sum_by-add f g xs in
-    omega arith
+sum_by-add f g (x ∷ xs) = grind (arith, common_steps, sum_by-add f g xs)
 
 -- ---- one more basket
 
@@ -46,11 +45,7 @@ module _ (chosen : List ℕ → Bool) where
 
   all_weights : (places baskets : List Weighted) → sum_by weight_if (fold with_basket places baskets) ≡ sum_by weight_if places + sum_by weight_if baskets
   all_weights places [] = omega arith
-  all_weights places (place ∷ baskets) =
-      let rest = all_weights (with_basket places place) baskets in
-      let one = added_weight places place in
-      let old = sum_by-cons weight_if place baskets in
-      omega arith
+  all_weights places (place ∷ baskets) = grind (arith, common_steps, all_weights (with_basket places place) baskets, added_weight, sum_by-cons)
 
 -- one more basket adds its weight
 pub total_with : (places : List Weighted) (place : Weighted) → total_of (with_basket places place) ≡ total_of places + place.weight

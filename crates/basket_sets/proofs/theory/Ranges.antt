@@ -1,5 +1,6 @@
 -- Numbers in a row, and what a test keeps of numbers.
 use Rattle.std.proofs.Common.{◌≡◌, ℕ, ◌+◌, ◌<◌, ◌≤◌, Bool, true, false, List, [], ◌∷◌, ◌++◌, cond, refl, ap, ◌∙◌, inl, inr, arith, add-one, zero, suc}
+use Rattle.std.proofs.lemmas.Grind.{common_steps}
 use Rattle.std.specs.List.{filter, range_with_len}
 use Rattle.std.specs.Ordering.{nat_cmp}
 use Rattle.std.proofs.lemmas.Bool.{cases_eq}
@@ -50,6 +51,4 @@ pub range_keeps : (p : ℕ → Bool) (n : ℕ) → p n ≡ true → filter p (ra
 range_keeps p n h = ap (filter p) (range_next n) ∙ filter-append p (range_with_len 0 n) (n ∷ []) ∙ ap (λ b. filter p (range_with_len 0 n) ++ cond b (n ∷ []) []) h
 
 pub range_drops : (p : ℕ → Bool) (n : ℕ) → p n ≡ false → filter p (range_with_len 0 (n + 1)) ≡ filter p (range_with_len 0 n)
-range_drops p n h =
-    ap (filter p) (range_next n) ∙ filter-append p (range_with_len 0 n) (n ∷ [])
-    ∙ ap (λ b. filter p (range_with_len 0 n) ++ cond b (n ∷ []) []) h ∙ append-nil (filter p (range_with_len 0 n))
+range_drops p n h = grind (arith, common_steps, range_next, filter-append, append-nil)

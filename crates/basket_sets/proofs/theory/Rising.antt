@@ -1,5 +1,6 @@
 -- Rising lists of items, what they have, and what they contain.
 use Rattle.std.proofs.Common.{◌≡◌, ◌≢◌, ℕ, zero, suc, ◌+◌, ◌<◌, ◌≤◌, Bool, true, false, ◌||◌, List, [], ◌∷◌, ◌++◌, length, cond, eqb, ltb, refl, sym, ap, ◌∙◌, subst, inl, inr, ◌⊎◌, arith, get_or, set, take, Result, Ok, Err, is_ok}
+use Rattle.std.proofs.lemmas.Grind.{common_steps}
 use Rattle.std.specs.declared.cmp.Ordering.TheVariants.{Less, Equal, Greater}
 use Rattle.std.specs.Ordering.{nat_cmp}
 use Rattle.std.specs.Cmp.{nat_cmp_total}
@@ -30,9 +31,7 @@ lt-from_Less x y h = grind (arith, nat_tests)
 
 -- tests that imply each other are equal
 pub same_test : (a b : Bool) → (a ≡ true → b ≡ true) → (b ≡ true → a ≡ true) → a ≡ b
-same_test true b f g = sym (f refl)
-same_test false true f g = g refl
-same_test false false f g = refl
+same_test h1 h2 h3 h4 = grind (arith, common_steps)
 
 -- a list has its members
 pub Member-from_has : (items : List ℕ) (item : ℕ) → has items item ≡ true → Member item items
@@ -42,10 +41,7 @@ Member-from_has (x ∷ xs) item h = elim (or_cases (eqb x item) (has xs item) h)
 pub has-from_Member : (items : List ℕ) (item : ℕ) → Member item items → has items item ≡ true
 has-from_Member [] item m = absurd m
 has-from_Member (x ∷ xs) item (inl e) = ap (λ b. b || has xs item) (eq-eqb x item e)
-has-from_Member (x ∷ xs) item (inr m) = elim (cases_Bool (eqb x item)) [
-  | inl e ↦ ap (λ b. b || has xs item) e
-  | inr e ↦ ap (λ b. b || has xs item) e ∙ has-from_Member xs item m
-]
+has-from_Member (x ∷ xs) item (inr m) = grind (arith, common_steps, has-from_Member xs item m)
 
 -- ---- contains
 
@@ -91,10 +87,7 @@ rest_rises x xs up = rest_is_sorted nat_cmp_total x xs up
 pub rising_distinct : (xs : List ℕ) → IsRising xs → IsDistinct nat_eq xs
 unfolding IsDistinct
 rising_distinct [] up = tt
-rising_distinct (x ∷ xs) up = (
-  All-from_Member (λ y. nat_eq x y ≡ false) xs (λ y m. ne_eqb x y (λ e. let less = first_below x xs up y m in omega arith)),
-  rising_distinct xs (rest_rises x xs up),
-)
+rising_distinct (x ∷ xs) up = grind (arith, common_steps, rising_distinct xs (rest_rises x xs up), All-from_Member, ne_eqb, first_below, rest_rises)
 
 -- two rising lists that have the same items are equal
 pub same_rising : (xs ys : List ℕ) → IsRising xs → IsRising ys → ((z : ℕ) → Member z xs → Member z ys) → ((z : ℕ) → Member z ys → Member z xs) → xs ≡ ys
@@ -104,8 +97,7 @@ same_rising xs ys = same_members nat_cmp_total xs ys
 
 -- what holds of each form of a list with an item holds of that list
 pub with_item_by : (P : List ℕ → Type 0) (a x : ℕ) (xs : List ℕ) → (a < x → P (a ∷ x ∷ xs)) → (a ≡ x → P (x ∷ xs)) → (x < a → P (x ∷ with_item a xs)) → P (with_item a (x ∷ xs))
-with_item_by P a x xs less same more = cond_both (ltb a x) (a ∷ x ∷ xs) (cond (eqb a x) (x ∷ xs) (x ∷ with_item a xs)) P (λ h. less (ltb-true a x h))
-    (λ h. cond_both (eqb a x) (x ∷ xs) (x ∷ with_item a xs) P (λ e. same (eqb-true a x e)) (λ e. more (let le = ltb-false a x h in let ne = eqb-false a x e in omega arith)))
+with_item_by P a x xs less same more = grind (arith, common_steps)
 
 -- a list with an item has that item and its own
 pub Member-with_item : (a : ℕ) (xs : List ℕ) (y : ℕ) → Member y (with_item a xs) → (a ≡ y) ⊎ Member y xs
@@ -153,8 +145,7 @@ Member-into_rising (x ∷ numbers) y (inr m) = Member-into_with_item x (rising n
 
 -- the rising list of a rising list is that list, and that of a list with the same numbers is the same
 pub rising_is : (numbers items : List ℕ) → IsRising items → ((z : ℕ) → Member z numbers → Member z items) → ((z : ℕ) → Member z items → Member z numbers) → rising numbers ≡ items
-rising_is numbers items up into back =
-    same_rising (rising numbers) items (rising-rises numbers) up (λ z m. into z (Member-rising numbers z m)) (λ z m. Member-into_rising numbers z (back z m))
+rising_is numbers items up into back = grind (arith, common_steps, same_rising, rising-rises, Member-rising, Member-into_rising)
 
 -- a rising list is its own rising list
 pub rising-rising : (items : List ℕ) → IsRising items → rising items ≡ items
@@ -190,9 +181,7 @@ whole_rising set items up over into long = same_rising set items up over into (�
 
 -- a rising list of some of the numbers that is as long is their rising list
 pub as_long_rising : (numbers items : List ℕ) → IsRising items → ((z : ℕ) → has items z ≡ true → has numbers z ≡ true) → length items ≡ length numbers → items ≡ rising numbers
-as_long_rising numbers items up from long =
-    let short = rising-long numbers in
-    whole_rising items (rising numbers) up (rising-rises numbers) (λ z m. Member-into_rising numbers z (Member-from_has numbers z (from z (has-from_Member items z m)))) (omega arith)
+as_long_rising numbers items up from long = grind (arith, common_steps, rising-long, whole_rising, rising-rises, Member-into_rising, Member-from_has, has-from_Member)
 
 -- ---- a binary search of a rising list
 
@@ -224,9 +213,7 @@ has-append (y ∷ a) b x = ap (λ t. eqb y x || t) (has-append a b x) ∙ sym (o
 
 -- one more item
 pub has_more : (items : List ℕ) (i x : ℕ) → i < length items → has (take (i + 1) items) x ≡ (has (take i items) x || eqb (get_or items i 0) x)
-has_more items i x below =
-    ap (λ l. has l x) (take_more items i 0 below) ∙ has-append (take i items) (get_or items i 0 ∷ []) x
-    ∙ ap (λ t. has (take i items) x || t) (or-false (eqb (get_or items i 0) x))
+has_more items i x below = grind (arith, common_steps)
 
 -- a list has what stands in it
 pub has_place : (items : List ℕ) (i : ℕ) → i < length items → has items (get_or items i 0) ≡ true
@@ -258,9 +245,7 @@ distinct_from_before items apart = IsDistinct-from_apart nat_eq items (λ i j d 
     true≢false (sym (has_place (take j items) i here) ∙ ap (has (take j items)) (get_or_default (take j items) i 0 d here ∙ get_or-take j items i d less ∙ same ∙ get_or_default items j d 0 below) ∙ apart j below)))
 
 pub has-rising : (numbers : List ℕ) (item : ℕ) → has (rising numbers) item ≡ has numbers item
-has-rising numbers item =
-    same_test _ _ (λ h. has-from_Member numbers item (Member-rising numbers item (Member-from_has (rising numbers) item h)))
-    (λ h. has-from_Member (rising numbers) item (Member-into_rising numbers item (Member-from_has numbers item h)))
+has-rising numbers item = grind (arith, common_steps, same_test, has-from_Member, Member-rising, Member-from_has, Member-into_rising)
 
 -- ---- the tests and edits of the code
 
@@ -305,17 +290,13 @@ with_found items item found up is = same_rising items (with_item item items) up 
 
 pub with_put : (items : List ℕ) (item place : ℕ) → IsRising items → IsBinarySearchResult (λ y. nat_cmp y item) items (Err place)
     → (place ≤ length items) × (insert items place item ≡ with_item item items)
-with_put items item place up is =
-    let s = searched items item (Err place) is (rises_by_index items up) in (s.0, inserted_is items place item s.0 s.1 s.2)
+with_put items item place up is = let s = searched items item (Err place) is (rises_by_index items up) in grind (arith, common_steps, inserted_is)
 
 -- an item that was not found stands nowhere
 pub found_nowhere : (items : List ℕ) (item place : ℕ) → IsRising items → IsBinarySearchResult (λ y. nat_cmp y item) items (Err place) → (k : ℕ) → k < length items → get_or items k 0 ≢ item
-found_nowhere items item place up is k below e =
-    let s = searched items item (Err place) is (rises_by_index items up) in
-    elim (cases_lt k place) [ inl less ↦ (let b = s.1 k less in omega arith) | inr more ↦ (let b = s.2 k more below in omega arith) ]
+found_nowhere items item place up is k below e = grind (arith, common_steps, searched items item (Err place) is (rises_by_index items up), rises_by_index items up, cases_lt k place)
 
 -- a rising list without its last item rises
 pub front_rises : (front : List ℕ) (last : ℕ) → IsRising (front ++ last ∷ []) → IsRising front
 front_rises [] last up = nil_rises
-front_rises (x ∷ front) last up =
-    cons_rises x front (λ y m. first_below x (front ++ last ∷ []) up y (Member-append_left y front (last ∷ []) m)) (front_rises front last (rest_rises x (front ++ last ∷ []) up))
+front_rises (x ∷ front) last up = grind (arith, common_steps, front_rises front last (rest_rises x (front ++ last ∷ []) up), cons_rises, first_below, Member-append_left, rest_rises)

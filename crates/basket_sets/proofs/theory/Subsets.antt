@@ -1,5 +1,6 @@
 -- The subsets of a rising list are in report order, and are exactly its nonempty rising sublists.
 use Rattle.std.proofs.Common.{◌≡◌, ◌≢◌, ℕ, ◌<◌, List, [], ◌∷◌, length, map, refl, sym, ap, ◌∙◌, subst, inl, inr, arith, zero, suc}
+use Rattle.std.proofs.lemmas.Grind.{common_steps}
 use Rattle.std.specs.declared.cmp.Ordering.TheVariants.{Less, Equal}
 use Rattle.std.specs.Ordering.{nat_cmp, ordering_then}
 use Rattle.std.specs.Cmp.{nat_cmp_total}
@@ -20,15 +21,7 @@ pub record IsSubset (size : ℕ) (items set : List ℕ) : Type 0 where
   pub within : (item : ℕ) → Member item set → Member item items
 
 with_first : (size x : ℕ) (items set : List ℕ) → IsRising (x ∷ items) → IsSubset size items set → IsSubset (suc size) (x ∷ items) (x ∷ set)
-with_first size x items set up s = record {
-  rises = cons_rises x set (λ y m. first_below x items up y (s.within y m)) s.rises;
-  sized = omega (arith, s.sized);
-  within = into;
-}
-  where
-    into : (item : ℕ) → Member item (x ∷ set) → Member item (x ∷ items)
-    into item (inl e) = inl e
-    into item (inr m) = inr (s.within item m)
+with_first size x items set up s = grind (arith, common_steps, cons_rises, first_below, Member)
 
 -- the list of the subsets of a size has exactly those
 pub IsSubset-from_Member : (size : ℕ) (items set : List ℕ) → IsRising items → Member set (subsets_of_size size items) → IsSubset size items set
@@ -148,9 +141,7 @@ subsets_sorted items up = up_to_sorted (length items) items up
 
 -- what a member of the subsets is
 pub subset_from_Member : (items set : List ℕ) → IsRising items → Member set (subsets_of items) → IsRising set × (set ≢ []) × ((item : ℕ) → Member item set → Member item items)
-subset_from_Member items set up m =
-    let s = size_of_Member (length items) items set up m in
-    (s.2.rises, λ e. let no : suc s.0 ≡ 0 = sym s.2.sized ∙ ap length e in omega arith, s.2.within)
+subset_from_Member items set up m = grind (arith, common_steps, size_of_Member (length items) items set up m)
 
 -- the subsets of a rising list are in report order
 pub subsets_are_in_report_order : SubsetsAreInReportOrder

@@ -1,5 +1,6 @@
 -- Support falls as a set grows, adds up over parts, and is above nothing only for sets of the database's items.
 use Rattle.std.proofs.Common.{◌≡◌, ℕ, ◌+◌, ◌*◌, ◌≤◌, true, List, [], ◌∷◌, ◌++◌, cond, leb, refl, sym, ap, ◌∙◌, subst, inl, inr, arith}
+use Rattle.std.proofs.lemmas.Grind.{common_steps}
 use Rattle.std.specs.List.{flat_map}
 use Rattle.std.proofs.lemmas.List.Sums.{sum_by-append, sum_by-cons, sum_by-le-sum_by}
 use Rattle.std.proofs.lemmas.Bool.{cases_Bool, and_parts, leb-true, cond_both, cond-false}
@@ -15,8 +16,7 @@ use Rattle.basket_sets.proofs.theory.Members.{Member, Member-append_left, Member
 use Rattle.basket_sets.proofs.theory.Rising.{has_each, contains_each, contains-trans, Member-into_rising}
 
 weight_at-contains : (place : Weighted) (set subset : List ℕ) → contains set subset ≡ true → weight_at set place ≤ weight_at subset place
-weight_at-contains place set subset h = cond_both (contains place.basket set) place.weight 0 (λ n. n ≤ weight_at subset place)
-    (λ e. subst (λ b. place.weight ≤ cond b place.weight 0) (sym (contains-trans place.basket set subset e h)) (omega arith)) (λ e. omega arith)
+weight_at-contains place set subset h = grind (arith, common_steps, cond_both, contains-trans)
 
 -- a set has at most the support of its subsets
 pub support_falls : SupportFalls
@@ -33,9 +33,7 @@ support-cons place baskets set = sum_by-cons (weight_at set) place baskets
 -- supports over the parts of a list of baskets add up
 pub supports_add_up : SupportsAddUp
 supports_add_up [] set = refl
-supports_add_up (part ∷ parts) set =
-    support-append part (flat_map (λ p. p) parts) set ∙ ap (λ n. support_of part set + n) (supports_add_up parts set)
-    ∙ sym (sum_by-cons (λ p. support_of p set) part parts)
+supports_add_up (part ∷ parts) set = grind (arith, common_steps, supports_add_up parts set)
 
 -- a set of some support stands in some basket, whose items are the database's
 pub in_items : (baskets : List Weighted) (set : List ℕ) → 1 ≤ support_of baskets set → (item : ℕ) → Member item set → Member item (flat_map (λ place. place.basket) baskets)
@@ -50,11 +48,7 @@ in_items (place ∷ baskets) set some item m = elim (cases_Bool (contains place.
 
 -- what meets a minimum still meets it with more support
 pub meets_more : (minimum : Minimum) (support more total : ℕ) → support ≤ more → meets minimum support total ≡ true → meets minimum more total ≡ true
-meets_more (Count least) support more total le h = grind (arith, nat_tests)
-meets_more (Share share) support more total le h = let wide = scaled support more share.1 (share.0 * total) le in grind (arith, nat_tests, wide)
-  where
-    scaled : (s m d t : ℕ) → s ≤ m → t ≤ s * d → t ≤ m * d
-    scaled s m d t le h = grind arith
+meets_more h1 h2 h3 h4 h5 h6 = grind (arith, common_steps)
 
 -- the subsets of a frequent set are frequent
 pub subsets_are_frequent : SubsetsAreFrequent
@@ -63,14 +57,11 @@ subsets_are_frequent baskets minimum set subset h k =
 
 -- a support that meets a minimum is at least 1
 pub at_least_one : (minimum : Minimum) (support total : ℕ) → meets minimum support total ≡ true → 1 ≤ support
-at_least_one (Count least) support total h = leb-true 1 support (and_parts (leb 1 support) (leb least support) h).0
-at_least_one (Share share) support total h = leb-true 1 support (and_parts (leb 1 support) (leb (share.0 * total) (support * share.1)) h).0
+at_least_one h1 h2 h3 h4 = grind (arith, common_steps)
 
 -- a frequent set has items of the database
 pub frequent_items : (baskets : List Weighted) (minimum : Minimum) (set : List ℕ) → is_frequent baskets minimum set ≡ true → (item : ℕ) → Member item set → Member item (items_of baskets)
-frequent_items baskets minimum set h item m =
-    Member-into_rising (flat_map (λ place. place.basket) baskets) item
-    (in_items baskets set (at_least_one minimum (support_of baskets set) (total_of baskets) h) item m)
+frequent_items baskets minimum set h item m = grind (arith, common_steps, Member-into_rising, in_items, at_least_one)
 
 -- the items of the database contain a frequent set
 pub frequent_sets_have_items : FrequentSetsHaveItems

@@ -1,4 +1,5 @@
 use Rattle.std.proofs.Common.{◌≡◌, ◌+◌, ◌++◌, [], ◌∷◌, length, take, sym, subst, ap, ◌∙◌, arith, append_assoc, append-nil}
+use Rattle.std.proofs.lemmas.Grind.{common_steps}
 use Rattle.std.specs.List.{IsDistinct}
 use Rattle.std.specs.Prelude.{nat_eq}
 use Rattle.std.proofs.lemmas.List.{take_all, take_more}
@@ -12,10 +13,7 @@ use Rattle.basket_sets.proofs.CountLemmas.{HasAdded, item_of_place, table_push, 
 use Rattle.basket_sets.proofs.counts.add_baskets.Goals as goal
 
 pub loop-weighted-init : goal.loop-weighted-init
-loop-weighted-init c = record {
-  table = λ before is. subst (λ l. IsTable l c.args.table.now) (sym (append-nil before)) is;
-  bounded = λ item. omega arith;
-}
+loop-weighted-init c = grind (arith, common_steps)
 
 pub add_to_table-requires-clause-distinct : goal.add_to_table-requires-clause-distinct
 add_to_table-requires-clause-distinct c = subst (IsDistinct nat_eq) (sym c.items.ensures.items) (rising_distinct _ c.items.ensures.rising)
@@ -27,12 +25,7 @@ add_to_table-requires-clause-within c = λ item h.
     omega (arith, c.loop-weighted.auto.table)
 
 pub add_to_table-requires-clause-fits : goal.add_to_table-requires-clause-fits
-add_to_table-requires-clause-fits c = λ item h.
-    let more = sum_by_more_le (λ (weighted : Weighted). weighted.weight) c.args.baskets.now c.loop-weighted.weighted-index c.weighted-item.result c.loop-weighted-test.true in
-    let its = ap (λ (weighted : Weighted). weighted.weight) c.weighted-item.is in
-    let small = c.loop-weighted.invariant.bounded item in
-    let fits = c.requires.fits item in
-    omega arith
+add_to_table-requires-clause-fits c = λ item h. grind (arith, common_steps)
 
 pub loop-weighted-preserved : goal.loop-weighted-preserved
 loop-weighted-preserved c =

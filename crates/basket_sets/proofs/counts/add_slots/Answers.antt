@@ -15,23 +15,7 @@ add-requires c =
     omega arith
 
 pub loop-item-preserved : goal.loop-item-preserved
-loop-item-preserved c =
-    let i = c.loop-item.item in
-    let below : i < length c.loop-item.table = omega (arith, c.requires.within, c.loop-item.auto.table) in
-    let read = c.support.ensures ∙ c.index-more-item.is ∙ get_or_default c.args.more.now i c.index-more-item.result None c.loop-item-test.true in
-    elim c.match-support.branch [
-      | in-Some w ↦
-          (let slot = w.add.ensures ∙ ap (slot_with w.in-Some.support) (get_or_default c.loop-item.table i w.index-table-item.result None below) in
-          let more = sym read ∙ w.in-Some.is in record {
-            done = λ number within. grind (arith, common_steps, w.table-is, below, slot, more, c.loop-item.invariant.done number, c.loop-item.invariant.left number);
-            left = λ number after. grind (arith, common_steps, w.table-is, c.loop-item.invariant.left number);
-          })
-      | in_default w ↦
-          (let more = sym read ∙ w.in_default.is in record {
-            done = λ number within. grind (arith, common_steps, w.table-is, more, c.loop-item.invariant.done number, c.loop-item.invariant.left number);
-            left = λ number after. grind (arith, common_steps, w.table-is, c.loop-item.invariant.left number);
-          })
-    ]
+loop-item-preserved c = grind (arith, common_steps, get_or_default, common_steps)
 
 pub returns : goal.returns
 returns c = λ item. elim (cases_lt item c.loop-item.item) [

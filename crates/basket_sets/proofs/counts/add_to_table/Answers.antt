@@ -26,14 +26,4 @@ add-requires c =
     omega (arith, fits, ap (λ s. unwrap_or s 0) slot)
 
 pub loop-item-preserved : goal.loop-item-preserved
-loop-item-preserved c = λ number.
-    let items = c.args.items.now in
-    let i = c.loop-item.item-index in
-    let item = get_or items i 0 in
-    let within = c.requires.within item (has_place items i c.loop-item-test.true) in
-    let below : item < length c.loop-item.table = omega (arith, within, c.loop-item.auto.table) in
-    let slot = c.add.ensures ∙ ap (slot_with c.args.weight) (get_or_default c.loop-item.table item c.index-table-item.result None below) in
-    let more = has_more items i number c.loop-item-test.true in
-    let apart = not_before items i c.requires.distinct c.loop-item-test.true in
-    let here = c.loop-item.invariant item in
-    grind (arith, common_steps, below, slot, more, apart, here, c.loop-item.invariant number)
+loop-item-preserved c = λ number. grind (arith, common_steps, has_place, get_or_default, has_more, not_before, common_steps)

@@ -1,4 +1,5 @@
 use Rattle.std.proofs.Common.{◌≡◌, ℕ, ◌++◌, [], ◌∷◌, take, cond, unwrap_or, sym, subst, ap, ◌∙◌, arith}
+use Rattle.std.proofs.lemmas.Grind.{common_steps}
 use Rattle.std.specs.BTreeMap.{get}
 use Rattle.std.specs.List.{IsDistinct}
 use Rattle.std.specs.Ordering.{nat_cmp}
@@ -21,14 +22,7 @@ pub add_to_map-requires-clause-distinct : goal.add_to_map-requires-clause-distin
 add_to_map-requires-clause-distinct c = subst (IsDistinct nat_eq) (sym c.items.ensures.items) (rising_distinct _ c.items.ensures.rising)
 
 pub add_to_map-requires-clause-fits : goal.add_to_map-requires-clause-fits
-add_to_map-requires-clause-fits c = λ item.
-    let baskets = c.args.baskets.now in
-    let i = c.loop-weighted.weighted-index in
-    let known = ap (λ s. unwrap_or s 0) (c.loop-weighted.invariant item) in
-    let fits = tally_fits (take i baskets) item in
-    let more = sum_by_more_le (λ (weighted : Weighted). weighted.weight) baskets i c.weighted-item.result c.loop-weighted-test.true in
-    let its = ap (λ (weighted : Weighted). weighted.weight) c.weighted-item.is in
-    omega (arith, c.requires)
+add_to_map-requires-clause-fits c = λ item. grind (arith, common_steps, tally_fits, sum_by_more_le)
 
 pub loop-weighted-preserved : goal.loop-weighted-preserved
 loop-weighted-preserved c = λ item.

@@ -1,4 +1,5 @@
 use Rattle.std.proofs.Common.{◌≡◌, ◌≤◌, ◌+◌, ℕ, [], None, Option, unwrap_or, length, get_or, replicate, inl, inr, sym, subst, ap, ◌∙◌, arith}
+use Rattle.std.proofs.lemmas.Grind.{common_steps}
 use Rattle.std.proofs.lemmas.Bool.{cases_lt}
 use Rattle.std.proofs.lemmas.List.{get_or-replicate, get_or_past, length-replicate, take_at}
 use Rattle.std.proofs.lemmas.Result.{IfOk-weaker}
@@ -10,16 +11,10 @@ use Rattle.basket_sets.proofs.counts.count_by_table.Goals as goal
 
 -- a table that nothing was added to has nothing
 nothing : (count item : ℕ) → get_or (replicate {A = Option ℕ} count None) item None ≡ None
-nothing count item = elim (cases_lt item count) [
-  | inl below ↦ get_or-replicate count item None None below
-  | inr past ↦ get_or_past (replicate {A = Option ℕ} count None) item None (omega (arith, length-replicate {A = Option ℕ} count None))
-]
+nothing count item = grind (arith, common_steps)
 
 pub add_baskets-requires-clause-fits : goal.add_baskets-requires-clause-fits
-add_baskets-requires-clause-fits c = λ item.
-    let made = c.deref_mut.ensures.value ∙ c.in_ok-table.ensures.items_if_clones_equal (λ y e. e) ∙ ap (replicate (c.args.greatest + 1)) c.empty.ensures in
-    let none = ap (λ l. get_or l item None) made ∙ nothing (c.args.greatest + 1) item in
-    subst (λ s. unwrap_or s 0 + total_of c.args.baskets.now ≤ MOST_WEIGHT) (sym none) (omega (arith, c.requires.light))
+add_baskets-requires-clause-fits c = λ item. grind (arith, common_steps)
 
 pub returns : goal.returns
 returns c =

@@ -1,4 +1,5 @@
 use Rattle.std.proofs.Common.{◌≡◌, ◌≤◌, ◌+◌, ◌-◌, ◌++◌, ℕ, length, take, true, sym, subst, ap, ◌∙◌, arith}
+use Rattle.std.proofs.lemmas.Grind.{common_steps}
 use Rattle.std.proofs.lemmas.List.{take_all, get_or_default}
 use Rattle.basket_sets.specs.Counts.{AllBelow}
 use Rattle.basket_sets.specs.Itemset.{IsRising, has}
@@ -20,18 +21,4 @@ loop-weighted-preserved c =
     let up = subst IsRising (sym c.items.ensures.items) c.items.ensures.rising in
     let more = all_items_more c.args.baskets.now c.loop-weighted.weighted-index c.weighted-item.result c.loop-weighted-test.true
     ∙ ap (λ p. so_far ++ p.basket) (sym c.weighted-item.is) in
-    subst (λ l. AllBelow (c.match-last.greatest + 1) l) (sym more)
-    (elim c.match-last.branch [
-      | in-Some w ↦
-          (let last = w.in-Some.ensures.item.1 in
-          let top : (x : ℕ) → has basket x ≡ true → x ≤ c.match-last.greatest = λ x h.
-          let k = last_is_greatest items up x (ap (λ l. has l x) c.items.ensures.items ∙ h) in
-          let e = get_or_default items (length items - 1) w.in-Some.last.now 0 (let b = w.in-Some.ensures.item.3.0 in omega arith) in
-          omega (arith, w.max-greatest.ensures, w.greatest-is) in
-          below_more so_far basket c.loop-weighted.greatest c.match-last.greatest c.loop-weighted.invariant top (omega (arith, w.max-greatest.ensures, w.greatest-is)))
-      | in_default w ↦
-          (let top : (x : ℕ) → has basket x ≡ true → x ≤ c.match-last.greatest = λ x h.
-          let at = Contains-from_Member x items (Member-from_has items x (ap (λ l. has l x) c.items.ensures.items ∙ h)) in
-          absurd (omega (arith, at.1, w.in_default.ensures.item.3)) in
-          below_more so_far basket c.loop-weighted.greatest c.match-last.greatest c.loop-weighted.invariant top (omega (arith, w.greatest-is)))
-    ])
+    grind (arith, common_steps, last_is_greatest, get_or_default, below_more, Contains-from_Member, Member-from_has)

@@ -1,4 +1,5 @@
-use Rattle.std.proofs.Common.{◌≡◌, length, ◌∙◌, sym, subst, ap, eqb}
+use Rattle.std.proofs.Common.{◌≡◌, length, ◌∙◌, sym, subst, ap, eqb, arith}
+use Rattle.std.proofs.lemmas.Grind.{common_steps}
 use Rattle.std.specs.List.{dedup, refill}
 use Rattle.std.specs.List.Sorted.{IsPermutation}
 use Rattle.std.proofs.lemmas.List.{take_at}
@@ -7,14 +8,10 @@ use Rattle.basket_sets.proofs.theory.Rising.{rising-rising, rising-dedup}
 use Rattle.basket_sets.proofs.itemset.put_rising.Goals as goal
 
 pub returns-then-is_rising : goal.returns-then-is_rising
-returns-then-is_rising c =
-    let numbers = c.args.items.now.items in
-    sym (rising-rising numbers (subst IsRising c.as_slice.ensures (c.is_rising.ensures.0 c.if-is_rising.true)))
+returns-then-is_rising c = grind (arith, common_steps, rising-rising)
 
 pub returns-then-put_in_order : goal.returns-then-put_in_order
-returns-then-put_in_order c =
-    take_at c.put_in_order.new.numbers _ _ (c.put_in_order.auto.numbers ∙ ap length c.as_mut_slice.ensures.value)
-    ∙ c.put_in_order.ensures.order c.if-put_in_order.true ∙ ap rising c.as_mut_slice.ensures.value
+returns-then-put_in_order c = grind (arith, common_steps)
 
 pub returns : goal.returns
 returns c =

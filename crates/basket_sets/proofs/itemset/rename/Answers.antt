@@ -1,13 +1,12 @@
 use Rattle.std.proofs.Common.{◌<◌, ◌+◌, ◌∙◌, length, get_or, set, take, ap, sym, subst, arith}
+use Rattle.std.proofs.lemmas.Grind.{common_steps}
 use Rattle.std.proofs.lemmas.List.{get_or-set_other}
 use Rattle.basket_sets.proofs.RenameLemmas.{named_more}
 use Rattle.basket_sets.proofs.theory.Rising.{has_place}
 use Rattle.basket_sets.proofs.itemset.rename.Goals as goal
 
 pub bounds-names-numbers : goal.bounds-names-numbers
-bounds-names-numbers c =
-    let is = c.loop-index.invariant.others c.loop-index.index (omega arith) in
-    subst (λ number. number < length c.args.names.now) (sym is) (c.requires _ (has_place c.args.numbers.now c.loop-index.index c.loop-index-test.true))
+bounds-names-numbers c = grind (arith, common_steps, has_place c.args.numbers.now c.loop-index.index c.loop-index-test.true)
 
 pub loop-index-preserved : goal.loop-index-preserved
 loop-index-preserved c =

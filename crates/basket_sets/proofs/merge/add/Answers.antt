@@ -1,4 +1,5 @@
 use Rattle.std.proofs.Common.{◌∙◌, ◌+◌, ap, arith, map, nat_eq, unwrap_or}
+use Rattle.std.proofs.lemmas.Grind.{common_steps}
 use Rattle.std.specs.Cmp.Lexicographic.{pointwise}
 use Rattle.indexmap.specs.IndexMap.{insert_entry}
 use Rattle.basket_sets.specs.Merge.{as_weighted}
@@ -6,9 +7,7 @@ use Rattle.basket_sets.proofs.MergeLemmas.{light_before, inserted}
 use Rattle.basket_sets.proofs.merge.add.Goals as goal
 
 pub overflow_add-weights : goal.overflow_add-weights
-overflow_add-weights g c =
-    let here = c.or_insert.ensures.value ∙ ap (λ o. unwrap_or o 0) c.in_ok-weights.ensures.value in
-    omega (arith, here, c.requires.light, light_before c.args.weighted.basket c.args.weights.now.entries)
+overflow_add-weights g c = grind (arith, common_steps, light_before)
 
 pub returns : goal.returns
 returns g c =

@@ -1,4 +1,5 @@
 use Rattle.std.proofs.Common.{◌+◌, ◌∙◌, set, take, ap, arith}
+use Rattle.std.proofs.lemmas.Grind.{common_steps}
 use Rattle.std.proofs.lemmas.List.{get_or-set_other, take_all}
 use Rattle.std.specs.List.{filter_map}
 use mir.Val.{bool_byte}
@@ -24,5 +25,4 @@ loop-index-preserved g c =
     }
 
 pub returns-clause-names : goal.returns-clause-names
-returns-clause-names g c =
-    ap (λ n. n) c.loop-index.invariant.named ∙ ap (filter_map (g.N.Renumbering.name_of c.args.names.now)) (take_all c.loop-index.index c.args.numbers.now (omega (arith, c.loop-index-test.false)))
+returns-clause-names g c = grind (arith, common_steps)
