@@ -1,5 +1,6 @@
 -- Lists of sets without equal ones.
-use Rattle.std.proofs.Common.{◌≡◌, ◌≢◌, ℕ, Bool, true, false, List, [], ◌∷◌, ◌++◌, cond, filter, map, refl, ap, subst, inl, inr}
+use Rattle.std.proofs.Common.{◌≡◌, ◌≢◌, ℕ, Bool, true, false, List, [], ◌∷◌, ◌++◌, cond, filter, map, refl, ap, subst, inl, inr, arith}
+use Rattle.std.proofs.lemmas.Grind.{common_steps}
 use Rattle.std.specs.Prelude.{nat_eq}
 use Rattle.std.specs.Cmp.Lexicographic.{pointwise, bytes_decides}
 use Rattle.std.specs.List.{IsDistinct}
@@ -24,14 +25,7 @@ distinct-append R (x ∷ xs) ys a b across = (
 distinct_at : {K J : Type 0} (R : J → J → Bool) (f : K → J) (p : K → Bool) (x : K) (xs : List K) (b : Bool) → IsDistinct R (map f (x ∷ xs)) → IsDistinct R (map f (filter p xs))
     → IsDistinct R (map f (cond b (x ∷ filter p xs) (filter p xs)))
 unfolding IsDistinct
-distinct_at R f p x xs true distinct rest = (
-  All-from_Member (λ y. R (f x) y ≡ false) (map f (filter p xs)) (λ y m.
-      let q = Member-from_map f y (filter p xs) m in
-      subst (λ z. R (f x) z ≡ false) q.2
-      (at_Member (λ z. R (f x) z ≡ false) (f q.0) (map f xs) distinct.0 (Member-map f q.0 xs (Member-filter p q.0 xs q.1).0))),
-  rest,
-)
-distinct_at R f p x xs false distinct rest = rest
+distinct_at h1 h2 h3 h4 h5 h6 h7 h8 = grind (arith, common_steps, All-from_Member, Member-from_map, at_Member, Member-map, Member-filter)
 
 pub distinct-filter : {K J : Type 0} (R : J → J → Bool) (f : K → J) (p : K → Bool) (xs : List K) → IsDistinct R (map f xs) → IsDistinct R (map f (filter p xs))
 unfolding IsDistinct

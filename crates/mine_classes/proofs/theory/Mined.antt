@@ -1,5 +1,6 @@
 -- How a call that mines a class ends.
 use Rattle.std.proofs.Common.{◌≡◌, ℕ, ◌+◌, ◌<◌, ◌≤◌, Bool, false, List, [], ◌∷◌, length, Ok, Err, refl, sym, ap, subst, arith, ◌⊎◌}
+use Rattle.std.proofs.lemmas.Grind.{common_steps}
 use Rattle.std.specs.Prelude.{IsTrue, Result}
 use Rattle.mine_limit.specs.declared.fault.MineFault.{MineFault}
 use Rattle.mine_limit.specs.declared.fault.MineFault.TheVariants.{TooMany}
@@ -14,25 +15,9 @@ module _ {T : Type 0} {told_of limit_of : T → ℕ} {is_over : T → Bool} {cod
   pub mining_fails : {before after : T} {result : Result (List Counted × ℕ) MineFault} {fault : MineFault} → result ≡ Err fault
       → ((limit : ℕ) → fault ≡ TooMany limit → (limit ≡ limit_of before) × (IsTrue (is_over after) ⊎ (limit < class_size coding rank)))
       → told_of after ≤ told_of before + class_size coding rank → limit_of after ≡ limit_of before → MinesClass told_of limit_of is_over coding rank before after result
-  mining_fails {before} {after} {result} {fault} is many most limit = subst (MinesClass told_of limit_of is_over coding rank before after) (sym is) (record {
-    listed = tt;
-    few = tt;
-    told = tt;
-    going_on = tt;
-    too_many = λ n e. many n (let same : fault ≡ TooMany n = cc in same);
-    at_most = most;
-    limit = limit;
-  })
+  mining_fails {before} {after} {result} {fault} is many most limit = grind (arith, common_steps)
 
   -- the rank is not frequent, and nothing is listed
   pub mining_none : {before : T} {list : List Counted} → is_frequent coding.baskets coding.minimum (rank ∷ []) ≡ false → list ≡ [] → is_over before ≡ false
       → MinesClass told_of limit_of is_over coding rank before before (Ok (list, 0))
-  mining_none {before} {list} rare none going = record {
-    listed = record { sets = []; listed = rare_ranks_have_no_class coding.baskets coding.minimum rank rare; decoded = none };
-    few = omega arith;
-    told = omega (arith, ap length none);
-    going_on = going;
-    too_many = λ limit e. absurd (let other = e in cc);
-    at_most = omega arith;
-    limit = refl;
-  }
+  mining_none {before} {list} rare none going = grind (arith, common_steps, rare_ranks_have_no_class)

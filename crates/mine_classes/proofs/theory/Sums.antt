@@ -1,5 +1,6 @@
 -- Sums over lists, and over the parts of a list whose elements have one number each.
 use Rattle.std.proofs.Common.{◌≡◌, ℕ, ◌+◌, ◌<◌, Bool, true, false, List, [], ◌∷◌, cond, eqb, ltb, filter, map, refl, sym, ap, ◌∙◌, arith, zero, suc, zero-add}
+use Rattle.std.proofs.lemmas.Grind.{common_steps}
 use Rattle.std.specs.List.{All, range_with_len, sum, sum_by}
 use Rattle.std.proofs.lemmas.Bool.Decides.{nat_tests}
 use Rattle.std.proofs.lemmas.List.Elements.{All-head, All-tail}
@@ -16,22 +17,15 @@ module _ {X : Type 0} (measure number : X → ℕ) where
   sum_where test xs = sum_by measure (filter (λ x. test (number x)) xs)
 
   one_more : (test : ℕ → Bool) (x : X) (xs : List X) → sum_where test (x ∷ xs) ≡ cond (test (number x)) (measure x) 0 + sum_where test xs
-  one_more test x xs = at (test (number x))
-    where
-      at : (b : Bool) → sum_by measure (cond b (x ∷ filter (λ y. test (number y)) xs) (filter (λ y. test (number y)) xs)) ≡ cond b (measure x) 0 + sum_where test xs
-      at true = sum_by-cons measure x (filter (λ y. test (number y)) xs)
-      at false = sym (zero-add (sum_where test xs))
+  one_more test x xs = grind (arith, common_steps)
 
   none : (xs : List X) → sum_where (λ k. ltb k 0) xs ≡ 0
   none [] = refl
-  none (x ∷ xs) =
-      let own : cond (ltb (number x) 0) (measure x) 0 ≡ 0 = grind (arith, nat_tests) in omega (arith, own, one_more (λ k. ltb k 0) x xs, none xs)
+  none (x ∷ xs) = grind (arith, common_steps, none xs)
 
   next : (n : ℕ) (xs : List X) → sum_where (λ k. ltb k n) xs + sum_where (λ k. eqb k n) xs ≡ sum_where (λ k. ltb k (suc n)) xs
   next n [] = refl
-  next n (x ∷ xs) =
-      let own : cond (ltb (number x) n) (measure x) 0 + cond (eqb (number x) n) (measure x) 0 ≡ cond (ltb (number x) (suc n)) (measure x) 0 = grind (arith, nat_tests) in
-      omega (arith, own, one_more (λ k. ltb k n) x xs, one_more (λ k. eqb k n) x xs, one_more (λ k. ltb k (suc n)) x xs, next n xs)
+  next n (x ∷ xs) = grind (arith, common_steps, next n xs)
 
   up_to : (n : ℕ) (xs : List X) → sum_by (λ k. sum_where (λ j. eqb j k) xs) (range_with_len 0 n) ≡ sum_where (λ k. ltb k n) xs
   up_to zero xs = sym (none xs)
