@@ -1,11 +1,10 @@
 -- Counting items in a table: its slots while the places are added, and the entries that it gives in the end.
-use Rattle.std.proofs.Common.{◌≡◌, ℕ, ◌+◌, ◌<◌, ◌≤◌, Bool, true, ◌||◌, List, [], ◌∷◌, ◌++◌, length, take, get_or, map, cond, Option, Some, None, unwrap_or, refl, sym, ap, ◌∙◌, subst, inl, inr, arith, add-zero, zero-add, ◌-◌, zero, suc}
+use Rattle.std.proofs.Common.{◌≡◌, ℕ, ◌+◌, ◌<◌, ◌≤◌, true, List, [], ◌∷◌, ◌++◌, length, take, get_or, map, cond, Option, Some, None, unwrap_or, refl, sym, ap, ◌∙◌, inl, inr, arith, add-zero, zero-add, ◌-◌, zero, suc}
 use Rattle.std.proofs.lemmas.Grind.{common_steps}
 use Rattle.std.specs.List.{IsDistinct}
 use Rattle.std.specs.Prelude.{nat_eq}
-use Rattle.std.proofs.lemmas.List.{append-nil, length-take, take_more, get_or_default, get_or_past}
-use Rattle.std.proofs.lemmas.List.Concat.{flat_map-append}
-use Rattle.std.proofs.lemmas.Bool.{cases_lt, or_cases, cond-false, cond_both, eq-eqb, ne_eqb}
+use Rattle.std.proofs.lemmas.List.{append-nil, length-take, take_more, get_or_default}
+use Rattle.std.proofs.lemmas.Bool.{cases_lt, or_cases, cond-false}
 use Rattle.std.proofs.lemmas.Map.Keys.{below_from_sorted}
 use Rattle.basket_sets.specs.declared.weighted.Weighted.{Weighted}
 use Rattle.basket_sets.specs.Itemset.{IsRising, has}
@@ -13,10 +12,10 @@ use Rattle.basket_sets.specs.Counts.{item_supports, tally, IsTable, AllBelow, en
 use Rattle.basket_sets.specs.ItemTable.{Tabled, HasCounted}
 use Rattle.basket_sets.specs.Slot.{slot_with, slots_joined}
 use Rattle.basket_sets.specs.Support.{weight_at, all_items}
-use Rattle.basket_sets.proofs.theory.Counts.{found, is_at_eqb, items-append, supports_are, tally-append}
+use Rattle.basket_sets.proofs.theory.Counts.{found, items-append, supports_are, tally-append}
 use Rattle.basket_sets.proofs.theory.Members.{Member, Contains-from_Member, Member-from_Contains, Member-into_flat_map}
 use Rattle.basket_sets.proofs.theory.Numerals.{and_true}
-use Rattle.basket_sets.proofs.theory.Rising.{has-append, has-from_Member, not_before, Member-from_has, nil_rises, cons_rises}
+use Rattle.basket_sets.proofs.theory.Rising.{has-from_Member, not_before, Member-from_has, nil_rises, cons_rises}
 use Rattle.basket_sets.proofs.theory.Support.{support-append}
 
 -- ---- the items of the baskets so far

@@ -2,9 +2,7 @@
 use Rattle.std.proofs.Common.{ℕ, ◌+◌, ◌-◌, ◌*◌, ◌/◌, ◌<◌, ◌≤◌, arith}
 use Rattle.std.proofs.lemmas.Grind.{common_steps}
 use Rattle.std.proofs.Math.Nat.{div-lt_iff_lt-mul}
-use Rattle.std.proofs.lemmas.Bool.{leb-true, le-leb}
 use Rattle.basket_sets.specs.Minimum.{IsLeastPart}
-use Rattle.basket_sets.proofs.theory.Rising.{same_test}
 
 scaled_down : (part number denominator : ℕ) → 0 < denominator → (part + (denominator - 1)) / denominator ≤ number → part ≤ number * denominator
 scaled_down part number denominator some h =

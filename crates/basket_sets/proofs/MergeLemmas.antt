@@ -1,16 +1,14 @@
 -- A merged database is a database, and what the map of weights does with one more basket.
-use Rattle.std.proofs.Common.{◌≡◌, ℕ, ◌+◌, ◌≤◌, Bool, List, [], ◌∷◌, Some, cond, nat_eq, map, unwrap_or, sym, ap, subst, zero-add, arith}
+use Rattle.std.proofs.Common.{◌≡◌, ℕ, ◌+◌, ◌≤◌, List, [], ◌∷◌, nat_eq, map, unwrap_or, sym, ap, subst, zero-add, arith}
 use Rattle.std.proofs.lemmas.Grind.{common_steps}
 use Rattle.std.specs.Cmp.Lexicographic.{pointwise}
 use Rattle.std.specs.Map.{lookup}
-use Rattle.std.proofs.lemmas.Bool.{cond_both}
 use Rattle.std.proofs.lemmas.List.Elements.{All-from_recursion, recursion_from_All}
-use Rattle.std.proofs.lemmas.List.Sums.{sum_by-cons}
 use Rattle.indexmap.specs.IndexMap.{insert_entry}
 use Rattle.basket_sets.specs.declared.weighted.Weighted.{Weighted}
 use Rattle.basket_sets.specs.Database.{weighted, with_basket, merged_of, IsPlace, IsDatabase, MOST_WEIGHT}
 use Rattle.basket_sets.specs.Merge.{as_weighted}
-use Rattle.basket_sets.specs.Support.{total_of, weight_at}
+use Rattle.basket_sets.specs.Support.{total_of}
 use Rattle.basket_sets.proofs.theory.Merging.{merged_places, length-merged_of, merging_keeps_supports}
 
 pub merged_is_database : (baskets : List Weighted) → IsDatabase baskets → IsDatabase (merged_of baskets)

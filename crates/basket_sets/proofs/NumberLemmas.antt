@@ -1,11 +1,9 @@
 -- The value of a text of digits, as it grows digit by digit.
-use Rattle.std.proofs.Common.{◌≡◌, ℕ, ◌+◌, ◌*◌, ◌-◌, ◌<◌, ◌≤◌, List, [], ◌∷◌, length, take, drop, get_or, fold, leb, ltb, ◌&&◌, None, Some, sym, subst, arith}
+use Rattle.std.proofs.Common.{◌≡◌, ℕ, ◌+◌, ◌*◌, ◌-◌, ◌<◌, ◌≤◌, List, [], ◌∷◌, length, take, drop, get_or, fold, None, arith}
 use Rattle.std.proofs.lemmas.Grind.{common_steps}
-use Rattle.std.specs.List.{list_all}
-use Rattle.std.proofs.lemmas.Bool.{cond-false, and_right, lt-leb}
 use Rattle.std.proofs.lemmas.List.{take-append-drop}
-use Rattle.std.proofs.lemmas.List.Sums.{fold-append, fold_more}
-use Rattle.basket_sets.specs.Number.{is_digit, value_of, number_of}
+use Rattle.std.proofs.lemmas.List.Sums.{fold_more}
+use Rattle.basket_sets.specs.Number.{value_of, number_of}
 
 grows : (value : ℕ) (digits : List ℕ) → value ≤ fold (λ v byte. v * 10 + (byte - 48)) value digits
 grows value [] = omega arith

@@ -6,14 +6,14 @@ use Rattle.std.specs.declared.cmp.Ordering.TheVariants.{Less, Equal, Greater}
 use Rattle.std.specs.Ordering.{nat_cmp, ordering_then, is_lt, eq_by_cmp}
 use Rattle.std.specs.Prelude.{nat_eq}
 use Rattle.std.specs.Cmp.Lexicographic.{pointwise, bytes_decides, nat_list_eq_equiv}
-use Rattle.std.specs.List.{AllByRecursion, Contains, IsDistinct, filter, flat_map, list_any}
+use Rattle.std.specs.List.{AllByRecursion, IsDistinct, filter, flat_map, list_any}
 use Rattle.std.specs.List.Sorted.{IsPermutation, IsSorted, IsStrictlySortedBy}
 use Rattle.std.proofs.lemmas.List.{length-map}
 use Rattle.std.proofs.lemmas.List.Sorted.{All-permutation, Contains-permutation, IsPermutation-map}
 use Rattle.std.proofs.lemmas.Map.Keys.{IsDistinct-from_sorted}
 use Rattle.std.proofs.lemmas.Map.Made.{length-from_same_keys}
 use Rattle.std.proofs.lemmas.Map.Views.{list_any-from_Contains, Contains-from_any}
-use Rattle.std.proofs.lemmas.List.Elements.{All-from_recursion, All-weaker, recursion_from_All}
+use Rattle.std.proofs.lemmas.List.Elements.{All-from_recursion, recursion_from_All}
 use Rattle.std.proofs.lemmas.List.Kept.{IsStrictlySortedBy-filter}
 use Rattle.basket_sets.specs.declared.weighted.Weighted.{Weighted}
 use Rattle.basket_sets.specs.declared.counted.Counted.{Counted}
@@ -22,8 +22,7 @@ use Rattle.basket_sets.specs.Itemset.{IsRising}
 use Rattle.basket_sets.specs.Order.{report_order, report_order_total, report_order_ties}
 use Rattle.basket_sets.specs.Subsets.{subsets_of}
 use Rattle.basket_sets.specs.Database.{merged_of}
-use Rattle.basket_sets.specs.Minimum.{meets}
-use Rattle.basket_sets.specs.Support.{support_of, total_of, items_of}
+use Rattle.basket_sets.specs.Support.{support_of, items_of}
 use Rattle.basket_sets.specs.Frequent.{is_frequent, counted, frequent_of, IsNonemptySet, ListsFrequent, ListsOnce, FrequentIsUnique, MergingKeepsFrequent}
 use Rattle.basket_sets.proofs.theory.Members.{Member, All-from_Member, at_Member, Member-filter, Member-from_filter, Member-map, Member-from_map, Member-from_Contains, Contains-from_Member, same_members}
 use Rattle.basket_sets.proofs.theory.Rising.{rising-rises, same_test}
@@ -69,10 +68,7 @@ module _ (baskets : List Weighted) (minimum : Minimum) where
   }
     where
       sound : (c : Counted) → Member c (map (counted baskets) frequent_sets) → IsSound c
-      sound c m =
-          let p = Member-from_map (counted baskets) c frequent_sets m in
-          let f = from_frequent p.0 p.1 in
-          subst IsSound p.2 (f.0, f.1, refl)
+      sound c m = grind (arith, common_steps, Member-from_map, from_frequent)
 
   recounted : (list : List Counted) → AllByRecursion (λ c. c.count ≡ support_of baskets c.set) list → list ≡ map (counted baskets) (map (λ c. c.set) list)
   recounted [] h = refl
@@ -158,13 +154,8 @@ pub same_supports : (one other : List Weighted) → ((set : List ℕ) → suppor
 same_supports one other supports minimum =
     let list = frequent_of one minimum in
     let lists = (frequent_is_unique one minimum list).1 refl in
-    let same : (set : List ℕ) → is_frequent one minimum set ≡ is_frequent other minimum set = λ set.
-    ap (λ s. meets minimum s (total_of one)) (supports set) ∙ ap (meets minimum (support_of other set)) (supports []) in
-    let all : ListsFrequent other minimum list = record {
-      in_order = lists.in_order;
-      sound = All-weaker (IsSound one minimum) (IsSound other minimum) (λ c s. (s.0, sym (same c.set) ∙ s.1, s.2 ∙ supports c.set)) list lists.sound;
-      complete = λ set n h. subst (Contains list) (λ i. record { set = set; count = supports set i }) (lists.complete set n (same set ∙ h));
-    } in
+    let same : (set : List ℕ) → is_frequent one minimum set ≡ is_frequent other minimum set = grind (arith, common_steps) in
+    let all : ListsFrequent other minimum list = grind (arith, common_steps) in
     (frequent_is_unique other minimum list).0 all
 
 -- merging equal baskets keeps the frequent sets

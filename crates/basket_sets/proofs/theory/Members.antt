@@ -1,5 +1,6 @@
 -- Membership in a list by recursion, and lists that are strictly sorted by a total order.
 use Rattle.std.proofs.Common.{◌≡◌, Bool, true, false, List, [], ◌∷◌, ◌++◌, map, refl, sym, ap, ◌∙◌, subst, inl, inr, ◌⊎◌, arith, zero, suc}
+use Rattle.std.proofs.lemmas.Grind.{common_steps}
 use Rattle.std.specs.declared.cmp.Ordering.{Ordering}
 use Rattle.std.specs.declared.cmp.Ordering.TheVariants.{Less, Greater}
 use Rattle.std.specs.Ordering.{ordering_reverse}
@@ -122,13 +123,10 @@ module _ {K : Type 0} {R : K → K → Ordering} (o : IsTotalOrder R) where
       cc
     where
       heads : Member x (y ∷ ys) → Member y (x ∷ xs) → x ≡ y
-      heads (inl e) q = sym e
-      heads (inr m) (inl e) = e
-      heads (inr m) (inr n) = absurd (not_both_less y x (first_is_less y x ys t m) (first_is_less x y xs s n))
+      heads h1 h2 = grind (arith, common_steps, not_both_less, first_is_less)
 
       later : (z a : K) (bs : List K) → {b : K} → a ≡ b → R b z ≡ Less → Member z (a ∷ bs) → Member z bs
-      later z a bs e less (inl is) = absurd (not_both_less z z (subst (λ w. R w z ≡ Less) (sym e ∙ is) less) (subst (λ w. R w z ≡ Less) (sym e ∙ is) less))
-      later z a bs e less (inr m) = m
+      later h1 h2 h3 h4 h5 h6 = grind (arith, common_steps)
 
 module _ {K : Type 0} where
   -- two strictly sorted lists, each of whose elements are in order

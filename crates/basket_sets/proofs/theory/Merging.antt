@@ -1,5 +1,5 @@
 -- Merging equal baskets: it keeps each support, and what holds of every basket or weight.
-use Rattle.std.proofs.Common.{◌≡◌, ℕ, ◌+◌, Bool, true, false, List, [], ◌∷◌, cond, nat_eq, fold, length, refl, sym, ap, arith, ◌≤◌}
+use Rattle.std.proofs.Common.{◌≡◌, ℕ, ◌+◌, Bool, List, [], ◌∷◌, cond, nat_eq, fold, length, refl, sym, ap, arith, ◌≤◌}
 use Rattle.std.proofs.lemmas.Grind.{common_steps}
 use Rattle.std.specs.List.{sum_by, AllByRecursion}
 use Rattle.std.specs.Cmp.Lexicographic.{pointwise, bytes_decides}
@@ -40,8 +40,7 @@ module _ (chosen : List ℕ → Bool) where
       (λ differ. let first = sum_by-cons weight_if other (with_basket others place) in let rest = added_weight others place in omega arith)
     where
       both : (b : Bool) → cond b (other.weight + place.weight) 0 ≡ cond b other.weight 0 + cond b place.weight 0
-      both true = refl
-      both false = refl
+      both h1 = grind (arith, common_steps)
 
   all_weights : (places baskets : List Weighted) → sum_by weight_if (fold with_basket places baskets) ≡ sum_by weight_if places + sum_by weight_if baskets
   all_weights places [] = omega arith

@@ -6,13 +6,13 @@ use Rattle.std.specs.Ordering.{nat_cmp}
 use Rattle.std.specs.Cmp.{nat_cmp_total}
 use Rattle.std.specs.Prelude.{nat_eq}
 use Rattle.std.specs.List.Sorted.{IsStrictlySortedBy}
-use Rattle.std.proofs.lemmas.Bool.{eqb-true, eqb-false, ltb-true, ltb-false, eq-eqb, ne_eqb, lt-ltb, or_cases, cases_Bool, cond_both, and_parts, and_from, cases_lt, true≢false, false_from_ne_true}
-use Rattle.std.proofs.Math.Bool.{or-false, or_assoc}
+use Rattle.std.proofs.lemmas.Bool.{eqb-true, ltb-true, ltb-false, eq-eqb, ne_eqb, lt-ltb, or_cases, cases_Bool, and_parts, and_from, cases_lt, true≢false, false_from_ne_true}
+use Rattle.std.proofs.Math.Bool.{or_assoc}
 use Rattle.std.proofs.lemmas.Bool.Decides.{nat_tests}
 use Rattle.basket_sets.specs.Itemset.{IsRising, has, contains, with_item, rising}
 use Rattle.std.specs.List.Sorted.{IsBinarySearchResult, IsPermutation, IsSorted}
 use Rattle.std.specs.List.{Contains, IsAllAdjacentAnswer, IsDistinct, dedup, insert}
-use Rattle.std.proofs.lemmas.List.{get_or_default, get_or-take, length-take, take_more}
+use Rattle.std.proofs.lemmas.List.{get_or_default, get_or-take, length-take}
 use Rattle.std.proofs.lemmas.List.Kept.{Contains-dedup_nat, Contains-from_dedup}
 use Rattle.std.proofs.lemmas.List.Sorted.{searched, Contains-permutation, IsPermutation-sym}
 use Rattle.std.proofs.lemmas.Map.Keys.{IsDistinct-from_apart, apart_from_distinct, non_decreasing_from_sorted, sorted_from_strictly_increasing, below_from_sorted, IsStrictlyIncreasing-dedup}
@@ -163,8 +163,7 @@ length-le-contains (x ∷ set) (y ∷ items) up over into = elim (into x (inl re
 ]
   where
     heads : (z : ℕ) → Member z (x ∷ set) → x ≤ z
-    heads z (inl e) = omega arith
-    heads z (inr m) = let b = first_below x set up z m in omega arith
+    heads h1 h2 = grind (arith, common_steps, first_below)
 
 -- the rising list of some numbers is no longer than they are
 rising-long : (numbers : List ℕ) → length (rising numbers) ≤ length numbers

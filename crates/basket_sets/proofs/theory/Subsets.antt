@@ -58,8 +58,7 @@ Member-from_IsSubset (suc size) (x ∷ items) (y ∷ set) up s = elim (s.within 
 ]
   where
     above : Member y items → (item : ℕ) → Member item (y ∷ set) → x ≡ item → ⊥
-    above later item (inl is) e = let b = first_below x items up y later in omega arith
-    above later item (inr m) e = let b = first_below x items up y later in let c = first_below y set s.rises item m in omega arith
+    above h1 h2 h3 h4 = grind (arith, common_steps, first_below)
 
 -- ---- members of all sizes
 
@@ -67,8 +66,7 @@ up_to-Member : (most size : ℕ) (items set : List ℕ) → Member set (subsets_
 up_to-Member zero size items set m below = absurd (omega arith)
 up_to-Member (suc most) size items set m below = elim (cases_lt size most) [
   | inl less ↦ Member-append_left set (subsets_up_to most items) (subsets_of_size (suc most) items) (up_to-Member most size items set m less)
-  | inr at ↦ let e : size ≡ most = omega arith in
-      Member-append_right set (subsets_up_to most items) (subsets_of_size (suc most) items) (subst (λ n. Member set (subsets_of_size (suc n) items)) e m)
+  | inr at ↦ grind (arith, common_steps, Member-append_right, Member)
 ]
 
 -- a subset of the list has one of its sizes

@@ -1,13 +1,11 @@
 -- Support falls as a set grows, adds up over parts, and is above nothing only for sets of the database's items.
-use Rattle.std.proofs.Common.{◌≡◌, ℕ, ◌+◌, ◌*◌, ◌≤◌, true, List, [], ◌∷◌, ◌++◌, cond, leb, refl, sym, ap, ◌∙◌, subst, inl, inr, arith}
+use Rattle.std.proofs.Common.{◌≡◌, ℕ, ◌+◌, ◌≤◌, true, List, [], ◌∷◌, ◌++◌, refl, inl, inr, arith}
 use Rattle.std.proofs.lemmas.Grind.{common_steps}
 use Rattle.std.specs.List.{flat_map}
 use Rattle.std.proofs.lemmas.List.Sums.{sum_by-append, sum_by-cons, sum_by-le-sum_by}
-use Rattle.std.proofs.lemmas.Bool.{cases_Bool, and_parts, leb-true, cond_both, cond-false}
-use Rattle.std.proofs.lemmas.Bool.Decides.{nat_tests}
+use Rattle.std.proofs.lemmas.Bool.{cases_Bool, cond_both, cond-false}
 use Rattle.basket_sets.specs.declared.weighted.Weighted.{Weighted}
 use Rattle.basket_sets.specs.declared.minimum.Minimum.{Minimum}
-use Rattle.basket_sets.specs.declared.minimum.Minimum.TheVariants.{Count, Share}
 use Rattle.basket_sets.specs.Itemset.{contains}
 use Rattle.basket_sets.specs.Minimum.{meets}
 use Rattle.basket_sets.specs.Support.{weight_at, support_of, total_of, items_of, SupportFalls, SupportsAddUp}

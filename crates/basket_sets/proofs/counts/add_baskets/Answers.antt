@@ -1,15 +1,13 @@
-use Rattle.std.proofs.Common.{◌≡◌, ◌+◌, ◌++◌, [], ◌∷◌, length, take, sym, subst, ap, ◌∙◌, arith, append_assoc, append-nil}
+use Rattle.std.proofs.Common.{◌≡◌, ◌+◌, ◌++◌, [], ◌∷◌, length, take, sym, subst, ap, ◌∙◌, arith, append_assoc}
 use Rattle.std.proofs.lemmas.Grind.{common_steps}
 use Rattle.std.specs.List.{IsDistinct}
 use Rattle.std.specs.Prelude.{nat_eq}
 use Rattle.std.proofs.lemmas.List.{take_all, take_more}
-use Rattle.std.proofs.lemmas.List.Sums.{sum_by_more, sum_by_more_le}
-use Rattle.basket_sets.specs.declared.weighted.Weighted.{Weighted}
 use Rattle.basket_sets.specs.Counts.{IsTable}
 use Rattle.basket_sets.specs.Itemset.{has}
 use Rattle.basket_sets.specs.Support.{total_of}
 use Rattle.basket_sets.proofs.theory.Rising.{rising_distinct}
-use Rattle.basket_sets.proofs.CountLemmas.{HasAdded, item_of_place, table_push, bounded_push}
+use Rattle.basket_sets.proofs.CountLemmas.{HasAdded, item_of_place, table_push}
 use Rattle.basket_sets.proofs.counts.add_baskets.Goals as goal
 
 pub loop-weighted-init : goal.loop-weighted-init
@@ -39,12 +37,7 @@ loop-weighted-preserved c =
       table = λ before is.
           subst (λ l. IsTable l c.add_to_table.new.table) (append_assoc before (take i baskets) (weighted ∷ []) ∙ ap (λ l. before ++ l) next)
           (table_push (before ++ take i baskets) weighted c.loop-weighted.table c.add_to_table.new.table same added (c.loop-weighted.invariant.table before is));
-      bounded = λ item.
-          let more = sum_by_more (λ (p : Weighted). p.weight) baskets i weighted c.loop-weighted-test.true in
-          let its = ap (λ (p : Weighted). p.weight) c.weighted-item.is in
-          let step = bounded_push weighted c.loop-weighted.table c.add_to_table.new.table item added in
-          let small = c.loop-weighted.invariant.bounded item in
-          omega arith;
+      bounded = λ item. grind (arith, common_steps);
     }
 
 pub returns : goal.returns

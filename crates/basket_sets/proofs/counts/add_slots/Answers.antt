@@ -1,8 +1,8 @@
-use Rattle.std.proofs.Common.{◌<◌, None, get_or, length, unwrap_or, sym, ap, ◌∙◌, arith, inl, inr}
+use Rattle.std.proofs.Common.{None, get_or, unwrap_or, sym, ap, ◌∙◌, arith, inl, inr}
 use Rattle.std.proofs.lemmas.Grind.{common_steps}
 use Rattle.std.proofs.lemmas.List.{get_or_default, get_or_past}
 use Rattle.std.proofs.lemmas.Bool.{cases_lt}
-use Rattle.basket_sets.specs.Slot.{slot_with, slots_joined}
+use Rattle.basket_sets.specs.Slot.{slots_joined}
 use Rattle.basket_sets.proofs.counts.add_slots.Goals as goal
 use Rattle.basket_sets.proofs.counts.add_slots.Goals.{in-Some, in_default}
 

@@ -1,8 +1,5 @@
-use Rattle.std.proofs.Common.{cond, get_or, unwrap_or, ap, ◌∙◌, arith}
-use Rattle.std.specs.BTreeMap.{get}
-use Rattle.std.specs.Ordering.{nat_cmp}
+use Rattle.std.proofs.Common.{arith}
 use Rattle.std.proofs.lemmas.Grind.{common_steps}
-use Rattle.basket_sets.specs.Slot.{slot_with}
 use Rattle.basket_sets.proofs.theory.Rising.{has_more, not_before}
 use Rattle.basket_sets.proofs.counts.add_to_map.Goals as goal
 

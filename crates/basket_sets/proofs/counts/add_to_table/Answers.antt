@@ -1,6 +1,5 @@
-use Rattle.std.proofs.Common.{◌<◌, None, length, get_or, ap, ◌∙◌, arith, unwrap_or}
+use Rattle.std.proofs.Common.{None, get_or, ap, ◌∙◌, arith, unwrap_or}
 use Rattle.std.proofs.lemmas.List.{get_or_default}
-use Rattle.basket_sets.specs.Slot.{slot_with}
 use Rattle.std.proofs.lemmas.Grind.{common_steps}
 use Rattle.basket_sets.proofs.CountLemmas.{slot_before}
 use Rattle.basket_sets.proofs.theory.Rising.{has_more, has_place, not_before}

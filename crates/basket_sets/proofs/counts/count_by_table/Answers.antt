@@ -1,11 +1,9 @@
-use Rattle.std.proofs.Common.{◌≡◌, ◌≤◌, ◌+◌, ℕ, [], None, Option, unwrap_or, length, get_or, replicate, inl, inr, sym, subst, ap, ◌∙◌, arith}
+use Rattle.std.proofs.Common.{◌≡◌, ◌+◌, ℕ, [], None, Option, length, get_or, replicate, sym, subst, ap, ◌∙◌, arith}
 use Rattle.std.proofs.lemmas.Grind.{common_steps}
-use Rattle.std.proofs.lemmas.Bool.{cases_lt}
-use Rattle.std.proofs.lemmas.List.{get_or-replicate, get_or_past, length-replicate, take_at}
+use Rattle.std.proofs.lemmas.List.{length-replicate, take_at}
 use Rattle.std.proofs.lemmas.Result.{IfOk-weaker}
 use Rattle.basket_sets.specs.Counts.{AllBelow, IsTable, item_supports, entries_of}
-use Rattle.basket_sets.specs.Database.{MOST_WEIGHT}
-use Rattle.basket_sets.specs.Support.{all_items, total_of}
+use Rattle.basket_sets.specs.Support.{all_items}
 use Rattle.basket_sets.proofs.CountLemmas.{table_entries}
 use Rattle.basket_sets.proofs.counts.count_by_table.Goals as goal
 

@@ -1,7 +1,6 @@
-use Rattle.std.proofs.Common.{◌++◌, ◌∷◌, [], None, sym, ap, ◌∙◌, append-nil, take, arith}
+use Rattle.std.proofs.Common.{arith}
 use Rattle.std.proofs.lemmas.Grind.{common_steps}
 use Rattle.std.proofs.lemmas.List.{get_or_default}
-use Rattle.basket_sets.specs.Counts.{entries_of}
 use Rattle.basket_sets.proofs.CountLemmas.{entries_more, entry_at}
 use Rattle.basket_sets.proofs.counts.listed.Goals as goal
 use Rattle.basket_sets.proofs.counts.listed.Goals.{in-Some+in_ok-push, in_default}

@@ -1,8 +1,6 @@
-use Rattle.std.proofs.Common.{◌≡◌, ◌≤◌, [], cond, get_or, refl, sym, ap, ◌∙◌, subst, arith}
+use Rattle.std.proofs.Common.{arith}
 use Rattle.std.proofs.lemmas.Grind.{common_steps}
 use Rattle.std.proofs.lemmas.List.Sums.{sum_by_more_le}
-use Rattle.basket_sets.specs.Database.{MOST_WEIGHT}
-use Rattle.basket_sets.specs.Support.{weight_at, total_of}
 use Rattle.basket_sets.proofs.theory.Support.{support_falls}
 use Rattle.basket_sets.proofs.database.support.Goals as goal
 

@@ -1,9 +1,8 @@
-use Rattle.std.proofs.Common.{◌≡◌, length, ◌∙◌, sym, subst, ap, eqb, arith}
+use Rattle.std.proofs.Common.{◌≡◌, length, ◌∙◌, subst, ap, eqb, arith}
 use Rattle.std.proofs.lemmas.Grind.{common_steps}
 use Rattle.std.specs.List.{dedup, refill}
 use Rattle.std.specs.List.Sorted.{IsPermutation}
 use Rattle.std.proofs.lemmas.List.{take_at}
-use Rattle.basket_sets.specs.Itemset.{IsRising, rising}
 use Rattle.basket_sets.proofs.theory.Rising.{rising-rising, rising-dedup}
 use Rattle.basket_sets.proofs.itemset.put_rising.Goals as goal
 

@@ -1,7 +1,6 @@
-use Rattle.std.proofs.Common.{◌+◌, ◌∙◌, set, take, ap, arith}
+use Rattle.std.proofs.Common.{◌∙◌, ap, arith}
 use Rattle.std.proofs.lemmas.Grind.{common_steps}
-use Rattle.std.proofs.lemmas.List.{get_or-set_other, take_all}
-use Rattle.std.specs.List.{filter_map}
+use Rattle.std.proofs.lemmas.List.{get_or-set_other}
 use mir.Val.{bool_byte}
 use Rattle.basket_sets.proofs.NameLemmas.{one_at_most, put_more}
 use Rattle.basket_sets.proofs.renumbering.renumber.Goals as goal
@@ -18,9 +17,7 @@ loop-index-preserved g c =
     let most = one_at_most c.is_some.result in
     record {
       few = omega (arith, was.few, most, c.from-len.ensures);
-      named = ap (λ n. take (len + c.from-len.result) (set now len n)) c.unwrap_or.ensures
-          ∙ put_more name_of before now k len c.name-name.result c.from-len.result c.loop-index-test.true (omega (arith, was.few, c.loop-index-test.true, c.loop-index.auto.numbers))
-          (c.name-name.ensures ∙ ap name_of (was.others k (omega arith))) counted was.named;
+      named = grind (arith, common_steps, put_more);
       others = λ later less. get_or-set_other now len later _ 0 (λ same. omega (arith, ap (λ n. n) same, less, was.few)) ∙ was.others later (omega (arith, less));
     }
 

@@ -1,7 +1,5 @@
-use Rattle.std.proofs.Common.{[], sym, ap, subst, ◌∙◌, arith}
+use Rattle.std.proofs.Common.{arith}
 use Rattle.std.proofs.lemmas.Grind.{common_steps}
-use Rattle.basket_sets.specs.Database.{IsDatabase, merged_of}
-use Rattle.basket_sets.specs.Support.{total_of}
 use Rattle.basket_sets.proofs.MergeLemmas.{merged_is_database}
 use Rattle.basket_sets.proofs.theory.Merging.{merging_keeps_supports}
 use Rattle.basket_sets.proofs.database.Database.merged.Goals as goal

@@ -1,9 +1,6 @@
-use Rattle.std.proofs.Common.{ℕ, map, sym, subst, ap, ◌∙◌, arith}
+use Rattle.std.proofs.Common.{arith}
 use Rattle.std.proofs.lemmas.Grind.{common_steps}
 use Rattle.std.proofs.lemmas.Result.{IfOk-weaker}
-use Rattle.basket_sets.specs.Counts.{entries_of}
-use Rattle.basket_sets.specs.ItemTable.{Tabled}
-use Rattle.basket_sets.specs.Itemset.{IsRising}
 use Rattle.basket_sets.proofs.CountLemmas.{numbers_rise, table_entries}
 use Rattle.basket_sets.proofs.item_table.ItemTable.counts.Goals as goal
 
