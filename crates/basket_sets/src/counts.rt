@@ -108,6 +108,7 @@ pub fn add_slots(table: &mut [Slot], more: &[Slot])
 }
 
 /// The numbers of the slots that are not empty, each with its support.
+#[tactic(auto, using(std::proofs::lemmas::Grind::common_steps, crate::proofs::CountLemmas::entries_more, std::proofs::lemmas::List::get_or_default, crate::proofs::CountLemmas::entry_at))]
 pub fn listed(alloc: Global, table: &[Slot]) -> Result<Vec<(u32, u64)>, AllocError>
     requires { length table.now ≤ 2 ^ 32 }
     ensures { IfOk result (λ entries. entries.items ≡ entries_of table.now) }
@@ -135,6 +136,7 @@ fn count_by_map(alloc: Global, baskets: &[Weighted]) -> Result<Vec<(u32, u64)>, 
 }
 
 /// Adds a weight at each of some items, no two of which are equal.
+#[tactic(auto, using(std::proofs::lemmas::Grind::common_steps, crate::proofs::theory::Rising::not_before, crate::proofs::theory::Rising::has_more))]
 fn add_to_map(
     supports: &mut BTreeMap<u32, u64>,
     items: &[u32],

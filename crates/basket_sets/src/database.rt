@@ -129,6 +129,7 @@ impl Database {
     }
 
     /// Each distinct basket once, where it first comes, with the sum of its weights.
+    #[tactic(auto, using(std::proofs::lemmas::Grind::common_steps, crate::proofs::MergeLemmas::merged_is_database, crate::proofs::theory::Merging::merging_keeps_supports))]
     pub fn merged(&self, alloc: Global) -> Result<Database, AllocError>
         ensures { IfOk result (λ merged. merged ≡ merged_of self.now) }
     {
@@ -158,6 +159,7 @@ fn copied(alloc: Global, baskets: &[Weighted]) -> Result<Vec<Weighted>, AllocErr
 }
 
 /// The support of a set, by a scan of all baskets (Agrawal and Srikant 1994).
+#[tactic(auto, using(std::proofs::lemmas::Grind::common_steps, std::proofs::lemmas::List::Sums::sum_by_more_le, crate::proofs::theory::Support::support_falls))]
 pub fn support(database: &Database, set: &Itemset) -> u64
     ensures { result ≡ support_of database.now set.now }
 {

@@ -1,5 +1,5 @@
 //! Itemsets, databases of weighted baskets, and what it means that a set is frequent.
-#![tactic(auto)]
+#![tactic(auto, using(std::proofs::lemmas::Grind::common_steps))]
 
 mod counted;
 mod counts;

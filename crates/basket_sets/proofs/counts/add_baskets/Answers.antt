@@ -10,9 +10,6 @@ use Rattle.basket_sets.proofs.theory.Rising.{rising_distinct}
 use Rattle.basket_sets.proofs.CountLemmas.{HasAdded, item_of_place, table_push}
 use Rattle.basket_sets.proofs.counts.add_baskets.Goals as goal
 
-pub loop-weighted-init : goal.loop-weighted-init
-loop-weighted-init c = grind (arith, common_steps)
-
 pub add_to_table-requires-clause-distinct : goal.add_to_table-requires-clause-distinct
 add_to_table-requires-clause-distinct c = subst (IsDistinct nat_eq) (sym c.items.ensures.items) (rising_distinct _ c.items.ensures.rising)
 
@@ -21,9 +18,6 @@ add_to_table-requires-clause-within c = λ item h.
     let its = ap (λ l. has l item) (sym c.items.ensures.items) ∙ h in
     let k = c.requires.within item (item_of_place c.args.baskets.now c.loop-weighted.weighted-index c.weighted-item.result c.loop-weighted-test.true c.weighted-item.is item its) in
     omega (arith, c.loop-weighted.auto.table)
-
-pub add_to_table-requires-clause-fits : goal.add_to_table-requires-clause-fits
-add_to_table-requires-clause-fits c = λ item h. grind (arith, common_steps)
 
 pub loop-weighted-preserved : goal.loop-weighted-preserved
 loop-weighted-preserved c =

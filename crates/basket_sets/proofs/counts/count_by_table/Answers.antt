@@ -11,9 +11,6 @@ use Rattle.basket_sets.proofs.counts.count_by_table.Goals as goal
 nothing : (count item : ℕ) → get_or (replicate {A = Option ℕ} count None) item None ≡ None
 nothing count item = grind (arith, common_steps)
 
-pub add_baskets-requires-clause-fits : goal.add_baskets-requires-clause-fits
-add_baskets-requires-clause-fits c = λ item. grind (arith, common_steps)
-
 pub returns : goal.returns
 returns c =
     let table = c.deref.result.now in

@@ -9,9 +9,6 @@ use Rattle.basket_sets.proofs.itemset.put_rising.Goals as goal
 pub returns-then-is_rising : goal.returns-then-is_rising
 returns-then-is_rising c = grind (arith, common_steps, rising-rising)
 
-pub returns-then-put_in_order : goal.returns-then-put_in_order
-returns-then-put_in_order c = grind (arith, common_steps)
-
 pub returns : goal.returns
 returns c =
     let numbers = c.args.items.now.items in

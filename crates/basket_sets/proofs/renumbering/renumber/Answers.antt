@@ -20,6 +20,3 @@ loop-index-preserved g c =
       named = grind (arith, common_steps, put_more);
       others = λ later less. get_or-set_other now len later _ 0 (λ same. omega (arith, ap (λ n. n) same, less, was.few)) ∙ was.others later (omega (arith, less));
     }
-
-pub returns-clause-names : goal.returns-clause-names
-returns-clause-names g c = grind (arith, common_steps)
