@@ -1,11 +1,11 @@
 -- One basket more adds to the runs of its ranks.
-use Rattle.std.proofs.Common.{◌≡◌, ℕ, ◌+◌, ◌-◌, ◌<◌, ◌≤◌, Bool, true, false, List, [], ◌∷◌, ◌++◌, length, take, drop, get_or, cond, ltb, refl, sym, ap, ◌∙◌, subst, inl, inr, arith, zero, suc, add-zero, append-nil}
+use Rattle.std.proofs.Common.{◌≡◌, ℕ, ◌+◌, ◌<◌, ◌≤◌, Bool, true, false, List, [], ◌∷◌, ◌++◌, length, take, get_or, cond, ltb, refl, sym, ap, ◌∙◌, subst, inl, inr, arith, zero, suc, add-zero}
+use Rattle.std.proofs.lemmas.Grind.{common_steps}
 use Rattle.std.specs.Prelude.{All}
 use Rattle.std.specs.Cmp.Lexicographic.{bytes_decides}
 use Rattle.std.specs.List.{AllByRecursion, filter, slice_range}
 use Rattle.std.proofs.lemmas.Bool.{cases_Bool, lt-ltb, ltb-true}
-use Rattle.std.proofs.lemmas.Grind.{flat_map-append}
-use Rattle.std.proofs.lemmas.List.{map-append, take-take}
+use Rattle.std.proofs.lemmas.List.{map-append}
 use Rattle.std.proofs.lemmas.List.Elements.{All-from_recursion, recursion_from_All}
 use Rattle.std.proofs.lemmas.List.Sums.{sum_by-cons, sum_by-append}
 use Rattle.basket_sets.specs.declared.weighted.Weighted.{Weighted}
@@ -15,7 +15,6 @@ use Rattle.basket_sets.proofs.theory.Members.{Member}
 use Rattle.basket_sets.proofs.theory.Rising.{first_below, rest_rises}
 use Rattle.basket_sets.proofs.theory.Tests.{Member-at}
 use Rattle.mine_baskets.specs.declared.span.Span.{Span}
-use Rattle.mine_classes.specs.Conditional.{kept_place}
 use Rattle.mine_baskets.specs.ListBaskets.{IsRankBasket, repeats_last, weight_where, with_last_raised}
 use Rattle.mine_pairs.specs.Runs.{AreRunsOf, below, with_last_heavier}
 use Rattle.mine_baskets.specs.Span.{IsWithin, basket_at, baskets_at}
@@ -44,8 +43,7 @@ front_is (x ∷ path) (suc k) up here =
     ∙ ap (λ l. x ∷ l) (front_is path k (rest_rises x path up) (omega arith))
 
 pub front_range : (ranks : List ℕ) (start end k : ℕ) → start + k ≤ end → slice_range ranks start (start + k) ≡ take k (slice_range ranks start end)
-front_range ranks start end k within =
-    ap (λ n. take n (drop start ranks)) (omega arith) ∙ sym (take-take k (end - start) (drop start ranks) (omega arith))
+front_range ranks start end k within = grind (arith, common_steps)
 
 -- ---- the baskets that have a rank
 
@@ -54,13 +52,10 @@ module _ (rank : ℕ) (index : Weighted) where
   keeps other = ltb other rank
 
   pub below_with : (done : List Weighted) → has index.basket rank ≡ true → below rank (done ++ index ∷ []) ≡ below rank done ++ weighted (filter keeps index.basket) index.weight ∷ []
-  below_with done here = flat_map-append (kept_place keeps rank) done (index ∷ [])
-      ∙ ap (λ l. below rank done ++ l) (append-nil (kept_place keeps rank index) ∙ ap (λ b. cond b (weighted (filter keeps index.basket) index.weight ∷ []) []) here)
+  below_with done here = grind (arith, common_steps)
 
   pub below_without : (done : List Weighted) → has index.basket rank ≡ false → below rank (done ++ index ∷ []) ≡ below rank done
-  below_without done none = flat_map-append (kept_place keeps rank) done (index ∷ [])
-      ∙ ap (λ l. below rank done ++ l) (append-nil (kept_place keeps rank index) ∙ ap (λ b. cond b (weighted (filter keeps index.basket) index.weight ∷ []) []) none)
-      ∙ append-nil (below rank done)
+  below_without done none = grind (arith, common_steps)
 
 -- ---- one run more, or a heavier one
 
@@ -99,11 +94,7 @@ weigh test index = cond (test index.basket) index.weight 0
 module _ (ranks : List ℕ) (rank : ℕ) (done : List Weighted) (index : Weighted) (run : Span) (runs : List Span) (here : has index.basket rank ≡ true) (is : IsRankBasket rank (basket_at ranks run))
     (run_is : basket_at ranks run ≡ weighted (filter (λ other. ltb other rank) index.basket) index.weight) (inside : IsWithin (length ranks) run) (are : AreRunsOf ranks done rank runs) where
   more_weight : (test : List ℕ → Bool) → weight_where test (below rank (done ++ index ∷ [])) ≡ weight_where test (baskets_at ranks runs) + cond (test (basket_at ranks run).basket) run.weight 0
-  more_weight test =
-      ap (weight_where test) (below_with rank index done here) ∙ sum_by-append (weigh test) (below rank done) (weighted (filter (λ other. ltb other rank) index.basket) index.weight ∷ [])
-      ∙ ap (λ n. weight_where test (below rank done) + n) (sum_by-cons (weigh test) (weighted (filter (λ other. ltb other rank) index.basket) index.weight) [] ∙ add-zero (weigh test (weighted (filter (λ other. ltb other rank) index.basket) index.weight)))
-      ∙ ap (λ (p : Weighted). weight_where test (below rank done) + cond (test p.basket) p.weight 0) (sym run_is)
-      ∙ ap (λ n. n + cond (test (basket_at ranks run).basket) run.weight 0) (are.weights test)
+  more_weight test = grind (arith, common_steps)
 
   pub pushed_are : AreRunsOf ranks (done ++ index ∷ []) rank (runs ++ run ∷ [])
   pushed_are = record {

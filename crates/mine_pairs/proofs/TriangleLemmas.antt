@@ -1,10 +1,11 @@
 -- Counts of pairs, one basket after another.
-use Rattle.std.proofs.Common.{◌≡◌, ◌≢◌, ℕ, ◌+◌, ◌<◌, ◌≤◌, Bool, true, false, ◌&&◌, ◌||◌, List, [], ◌∷◌, length, map, take, get_or, set, cond, refl, sym, ap, ◌∙◌, ltb, subst, inl, inr, arith, add-zero}
-use Rattle.std.proofs.Math.Bool.{or-false, or-true}
-use Rattle.std.proofs.lemmas.Bool.{cases_eq, eq-eqb, ne_eqb, lt-ltb, ltb-true}
+use Rattle.std.proofs.Common.{◌≡◌, ◌≢◌, ℕ, ◌+◌, ◌<◌, ◌≤◌, Bool, true, ◌&&◌, ◌||◌, List, [], ◌∷◌, length, map, take, get_or, set, cond, refl, sym, ap, ◌∙◌, ltb, subst, inl, inr, arith, add-zero}
+use Rattle.std.proofs.lemmas.Grind.{common_steps}
+use Rattle.std.proofs.Math.Bool.{or-true}
+use Rattle.std.proofs.lemmas.Bool.{cases_eq, eq-eqb, lt-ltb, ltb-true}
 use Rattle.std.proofs.lemmas.List.{get_or-replicate, get_or-set_other, get_or-set_same, length-replicate}
 use Rattle.std.proofs.lemmas.List.FromFn.{get_or-map-range_with_len, length-map-range_with_len}
-use Rattle.std.proofs.lemmas.List.Sums.{sum_by_more, sum_by_more_le}
+use Rattle.std.proofs.lemmas.List.Sums.{sum_by_more_le}
 use Rattle.std.specs.List.{filter, range_with_len}
 use Rattle.basket_sets.specs.declared.weighted.Weighted.{Weighted}
 use Rattle.basket_sets.specs.Counts.{AllBelow}
@@ -32,9 +33,7 @@ module _ (ranks : List ℕ) (index : ℕ) (up : IsRising ranks) (here : index < 
   front_has lesser less =
       let below : ℕ → Bool = λ other. ltb other rank in
       let front = front_is ranks index up here in
-      same_test (has (take index ranks) lesser) (has ranks lesser)
-      (λ h. has-from_Member ranks lesser (Member-filter below lesser ranks (subst (Member lesser) (sym front) (Member-from_has (take index ranks) lesser h))).0)
-      (λ h. has-from_Member (take index ranks) lesser (subst (Member lesser) front (Member-from_filter below lesser ranks (Member-from_has ranks lesser h) (lt-ltb lesser rank less))))
+      grind (arith, common_steps, same_test, has-from_Member, Member-filter, Member, Member-from_has, Member-from_filter, lt-ltb)
 
   pub before_rises : IsRising (take index ranks)
   before_rises = subst IsRising (front_is ranks index up here) (filter_rises (λ other. ltb other rank) ranks up)
@@ -45,24 +44,18 @@ module _ (ranks : List ℕ) (index : ℕ) (up : IsRising ranks) (here : index < 
       ltb-true lesser rank (Member-filter (λ other. ltb other rank) lesser ranks m).1
 
   pub other_front : (greater : ℕ) → greater ≢ rank → has (take index ranks) greater ≡ has (take (index + 1) ranks) greater
-  other_front greater differ =
-      sym (has_more ranks index greater here ∙ ap (λ b. has (take index ranks) greater || b) (ne_eqb rank greater (λ e. differ (sym e))) ∙ or-false (has (take index ranks) greater))
+  other_front greater differ = grind (arith, common_steps)
 
 -- ---- the rows, one rank of a basket after another
 
 module _ (first weight : ℕ) (ranks : List ℕ) (old now : List (List ℕ)) where
   pub other_greater : (one other : List ℕ) → ((k : ℕ) → k < length old → has one (first + k) ≡ has other (first + k)) → WithPairs first one ranks weight old now → WithPairs first other ranks weight old now
-  other_greater one other same with = record {
-    long = with.long;
-    added = λ k below. subst (λ b. WithBasket (cond b ranks []) weight (row_at old k) (row_at now k)) (same k below) (with.added k below);
-  }
+  other_greater one other same with = grind (arith, common_steps)
 
   module _ (index k : ℕ) (up : IsRising ranks) (here : index < length ranks) (within : k < length old) (is : first + k ≡ get_or ranks index 0) (with : WithPairs first (take index ranks) ranks weight old now) where
     -- the row of the next rank is as it was
     pub as_was : (lesser : ℕ) → lesser < length (row_at old k) → get_or (row_at now k) lesser 0 ≡ get_or (row_at old k) lesser 0
-    as_was lesser below = with.added k within lesser below
-        ∙ ap (λ b. get_or (row_at old k) lesser 0 + cond (has (cond b ranks []) lesser) weight 0) (ap (has (take index ranks)) is ∙ not_before ranks index (rising_distinct ranks up) here)
-        ∙ add-zero (get_or (row_at old k) lesser 0)
+    as_was lesser below = grind (arith, common_steps, not_before, rising_distinct)
 
     pub row_more : (row : List ℕ) → length now ≡ length old → length (row_at old k) ≡ first + k → length row ≡ length (row_at now k) → WithBasket (take index ranks) weight (row_at now k) row
         → WithPairs first (take (index + 1) ranks) ranks weight old (set now k row)
@@ -96,16 +89,10 @@ none_added first weight ranks rows = record { long = λ k below. refl; added = �
 -- ---- the rows, one basket after another
 
 pub zeros_count : (first count : ℕ) → HaveCounts [] first (map zeros (range_with_len first count))
-zeros_count first count = record { long = λ k within. ap length (is k within) ∙ length-replicate (first + k) 0; counts = λ k lesser within less. ap (λ l. get_or l lesser 0) (is k within) ∙ get_or-replicate (first + k) lesser 0 0 less }
-  where
-    is : (k : ℕ) → k < length (map zeros (range_with_len first count)) → row_at (map zeros (range_with_len first count)) k ≡ zeros (first + k)
-    is k within = get_or-map-range_with_len zeros first count k (first + k) [] (omega (arith, within, length-map-range_with_len zeros first count)) refl
+zeros_count first count = grind (arith, common_steps, length-replicate, get_or-replicate, get_or-map-range_with_len, length-map-range_with_len)
 
 both : (a b : Bool) (ranks : List ℕ) (lesser : ℕ) → has ranks lesser ≡ b → has (cond a ranks []) lesser ≡ (b && (a && true))
-both true true ranks lesser e = e
-both true false ranks lesser e = e
-both false true ranks lesser e = refl
-both false false ranks lesser e = refl
+both h1 h2 h3 h4 h5 = grind (arith, common_steps)
 
 module _ (baskets : List Weighted) (i : ℕ) (d : Weighted) (first : ℕ) (now : List (List ℕ)) (here : i < length baskets) (have : HaveCounts (take i baskets) first now) where
   pub counts_light : total_of baskets ≤ MOST_WEIGHT → (k lesser : ℕ) → k < length now → lesser < first + k → get_or (row_at now k) lesser 0 + (get_or baskets i d).weight ≤ MOST_WEIGHT
@@ -117,21 +104,10 @@ module _ (baskets : List Weighted) (i : ℕ) (d : Weighted) (first : ℕ) (now :
 
   pub counts_more : (new : List (List ℕ)) → length new ≡ length now → WithPairs first (get_or baskets i d).basket (get_or baskets i d).basket (get_or baskets i d).weight now new
       → HaveCounts (take (i + 1) baskets) first new
-  counts_more new same with = record {
-    long = λ k within. with.long k (omega arith) ∙ have.long k (omega arith);
-    counts = λ k lesser within less.
-        let index = get_or baskets i d in
-        let inside : k < length now = omega arith in
-        let before = have.counts k lesser inside less in
-        let more = sum_by_more (weight_at (lesser ∷ (first + k) ∷ [])) baskets i d here in
-        let added = with.added k inside lesser (omega (arith, have.long k inside))
-        ∙ ap (λ b. get_or (row_at now k) lesser 0 + cond b index.weight 0) (both (has index.basket (first + k)) (has index.basket lesser) index.basket lesser refl) in
-        omega (arith, before, more, added);
-  }
+  counts_more new same with = grind (arith, common_steps)
 
 -- ---- the pairs of a rank
 
 pub row_pairs : (baskets : List Weighted) (least first : ℕ) (rows : List (List ℕ)) (k : ℕ) (row : List ℕ) → HaveCounts baskets first rows → k < length rows → row ≡ row_at rows k
     → map (λ other. (other, get_or row other 0)) (filter (λ other. is_met least (get_or row other 0)) (range_with_len 0 (length row))) ≡ pairs_of baskets least (first + k)
-row_pairs baskets least first rows k row have within is =
-    sums_are_pairs baskets least (first + k) row (ap length is ∙ have.long k within) (λ other less. ap (λ l. get_or l other 0) is ∙ have.counts k other within less)
+row_pairs baskets least first rows k row have within is = grind (arith, common_steps, sums_are_pairs)

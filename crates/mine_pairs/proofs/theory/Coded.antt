@@ -1,9 +1,9 @@
 -- The conditional database of a rank by the paths of its runs.
-use Rattle.std.proofs.Common.{◌≡◌, ℕ, ◌+◌, ◌<◌, Bool, true, false, List, [], ◌∷◌, ◌++◌, length, get_or, map, cond, ltb, refl, sym, ap, ◌∙◌, subst, arith, zero-add}
+use Rattle.std.proofs.Common.{◌≡◌, ℕ, ◌<◌, Bool, true, List, [], ◌∷◌, length, get_or, map, ltb, refl, sym, ap, ◌∙◌, subst, arith, zero-add}
+use Rattle.std.proofs.lemmas.Grind.{common_steps}
 use Rattle.std.specs.Prelude.{All}
 use Rattle.std.specs.List.{AllByRecursion, filter, flat_map, range_with_len}
 use Rattle.std.specs.Ordering.{nat_cmp}
-use Rattle.std.proofs.lemmas.Bool.{ltb-false}
 use Rattle.std.proofs.lemmas.List.{get_or_default}
 use Rattle.std.proofs.lemmas.List.Elements.{recursion_from_All}
 use Rattle.std.proofs.lemmas.List.Kept.{IsStrictlySortedBy-filter}
@@ -11,8 +11,7 @@ use Rattle.std.proofs.lemmas.List.Sums.{sum_by-cons}
 use Rattle.basket_ranks.specs.Codes.{coded, coded_place, decoded, decoded_place}
 use Rattle.basket_ranks.proofs.theory.Coding.{from_decoded, from_ranks, into_decoded, into_ranks}
 use Rattle.basket_sets.specs.declared.weighted.Weighted.{Weighted}
-use Rattle.basket_sets.specs.Database.{weighted}
-use Rattle.basket_sets.specs.Itemset.{IsRising, has}
+use Rattle.basket_sets.specs.Itemset.{IsRising}
 use Rattle.basket_sets.proofs.theory.Members.{Member, Member-filter, Member-from_filter, Contains-from_Member}
 use Rattle.basket_sets.proofs.theory.Rising.{Member-from_has, has-from_Member, rising-rises, same_rising}
 use Rattle.basket_sets.proofs.theory.Tests.{Member-at}
@@ -20,7 +19,7 @@ use Rattle.mine_classes.specs.Conditional.{conditional, is_kept, kept_place}
 use Rattle.mine_baskets.specs.ListBaskets.{HaveSameWeights, IsRankBasket, weight_where}
 use Rattle.mine_pairs.specs.Pairs.{kept_ranks}
 use Rattle.mine_pairs.specs.Runs.{below}
-use Rattle.mine_pairs.proofs.theory.Kept.{Member-kept, kept_lower}
+use Rattle.mine_pairs.proofs.theory.Kept.{Member-kept}
 use Rattle.mine_baskets.proofs.theory.Weights.{changed_weight}
 
 -- ---- weights of baskets that a function changes
@@ -28,11 +27,7 @@ use Rattle.mine_baskets.proofs.theory.Weights.{changed_weight}
 same_tests_weigh : (P : Weighted → Type 0) (p q : List ℕ → Bool) (places : List Weighted) → ((index : Weighted) → P index → p index.basket ≡ q index.basket) → AllByRecursion P places
     → weight_where p places ≡ weight_where q places
 same_tests_weigh P p q [] same all = refl
-same_tests_weigh P p q (index ∷ places) same all =
-    sum_by-cons (λ (x : Weighted). cond (p x.basket) x.weight 0) index places
-    ∙ ap (λ b. cond b index.weight 0 + weight_where p places) (same index all.0)
-    ∙ ap (λ n. cond (q index.basket) index.weight 0 + n) (same_tests_weigh P p q places same all.1)
-    ∙ sym (sum_by-cons (λ (x : Weighted). cond (q x.basket) x.weight 0) index places)
+same_tests_weigh P p q (index ∷ places) same all = grind (arith, common_steps, same_tests_weigh P p q places same all.1)
 
 -- ---- the ranks that are kept
 
@@ -66,28 +61,11 @@ module _ (baskets : List Weighted) (least rank : ℕ) where
 
   filter_twice : (basket : List ℕ) → filter keeps (filter (λ other. ltb other rank) basket) ≡ filter keeps basket
   filter_twice [] = refl
-  filter_twice (x ∷ basket) = at (ltb x rank) refl (keeps x) refl (filter_twice basket)
-    where
-      at : (b : Bool) → ltb x rank ≡ b → (k : Bool) → keeps x ≡ k → filter keeps (filter (λ other. ltb other rank) basket) ≡ filter keeps basket
-          → filter keeps (cond b (x ∷ filter (λ other. ltb other rank) basket) (filter (λ other. ltb other rank) basket)) ≡ cond k (x ∷ filter keeps basket) (filter keeps basket)
-      at true e k h rest =
-          ap (λ l. cond (keeps x) (x ∷ l) l) rest ∙ ap (λ b. cond b (x ∷ filter keeps basket) (filter keeps basket)) h
-      at false e true h rest = let less = kept_lower baskets least rank x h in let not = ltb-false x rank e in absurd (omega arith)
-      at false e false h rest = rest
+  filter_twice (x ∷ basket) = grind (arith, common_steps, filter_twice basket)
 
   below_weight : (test : List ℕ → Bool) (places : List Weighted) → weight_where (λ basket. test (filter keeps basket)) (below rank places) ≡ weight_where test (flat_map (kept_place keeps rank) places)
   below_weight test [] = refl
-  below_weight test (index ∷ places) = at (has index.basket rank) (below rank places) (flat_map (kept_place keeps rank) places) (below_weight test places)
-    where
-      at : (h : Bool) (ls ms : List Weighted) → weight_where (λ basket. test (filter keeps basket)) ls ≡ weight_where test ms
-          → weight_where (λ basket. test (filter keeps basket)) (cond h (weighted (filter (λ other. ltb other rank) index.basket) index.weight ∷ []) [] ++ ls)
-          ≡ weight_where test (cond h (weighted (filter keeps index.basket) index.weight ∷ []) [] ++ ms)
-      at true ls ms rest =
-          sum_by-cons (λ (p : Weighted). cond (test (filter keeps p.basket)) p.weight 0) (weighted (filter (λ other. ltb other rank) index.basket) index.weight) ls
-          ∙ ap (λ l. cond (test l) index.weight 0 + weight_where (λ basket. test (filter keeps basket)) ls) (filter_twice index.basket)
-          ∙ ap (λ n. cond (test (filter keeps index.basket)) index.weight 0 + n) rest
-          ∙ sym (sum_by-cons (λ (p : Weighted). cond (test p.basket) p.weight 0) (weighted (filter keeps index.basket) index.weight) ms)
-      at false ls ms rest = rest
+  below_weight test (index ∷ places) = grind (arith, common_steps, below_weight test places, sum_by-cons, filter_twice)
 
   pub conditional_weights : (count : ℕ) (paths : List Weighted) → HaveSameWeights (below rank baskets) paths → All (IsRankBasket count) paths → (others : List Weighted)
       → HaveSameWeights (map (coded_place kept) paths) others → HaveSameWeights (conditional least baskets rank) (map (decoded_place kept) others)

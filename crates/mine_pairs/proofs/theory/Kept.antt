@@ -1,7 +1,8 @@
 -- The ranks that a conditional database keeps.
-use Rattle.std.proofs.Common.{◌≡◌, ℕ, ◌<◌, ◌≤◌, Bool, true, ◌&&◌, List, [], ◌∷◌, length, leb, map, ltb, refl, ap, ◌∙◌, arith}
+use Rattle.std.proofs.Common.{◌≡◌, ℕ, ◌<◌, ◌≤◌, Bool, true, ◌&&◌, List, [], ◌∷◌, length, leb, map, ltb, refl, ap, arith}
+use Rattle.std.proofs.lemmas.Grind.{common_steps}
 use Rattle.std.specs.List.{range_with_len}
-use Rattle.std.proofs.lemmas.Bool.{and_parts, le-leb, leb-true, ltb-true}
+use Rattle.std.proofs.lemmas.Bool.{and_parts, ltb-true}
 use Rattle.std.proofs.lemmas.List.FromFn.{length-range_with_len}
 use Rattle.basket_sets.specs.declared.weighted.Weighted.{Weighted}
 use Rattle.basket_sets.specs.declared.minimum.Minimum.TheVariants.{Count}
@@ -17,9 +18,7 @@ use Rattle.mine_pairs.specs.Pairs.{kept_ranks, pairs_of}
 
 -- what has a least support is in one basket or more
 pub met_alone : (least support : ℕ) → 1 ≤ least → (leb 1 support && leb least support) ≡ leb least support
-met_alone least support some =
-    same_test (leb 1 support && leb least support) (leb least support) (λ h. (and_parts (leb 1 support) (leb least support) h).1)
-    (λ h. let high = leb-true least support h in ap (λ b. b && leb least support) (le-leb 1 support (omega arith)) ∙ h)
+met_alone least support some = grind (arith, common_steps)
 
 module _ (baskets : List Weighted) (least rank : ℕ) where
   abbrev keeps : ℕ → Bool
@@ -38,9 +37,7 @@ module _ (baskets : List Weighted) (least rank : ℕ) where
   Member-kept other h = Member-from_filter keeps other (range_with_len 0 rank) (Member-into_range 0 rank other (omega arith) (let less = kept_lower other h in omega arith)) h
 
   pub has_kept : (other : ℕ) → has kept other ≡ keeps other
-  has_kept other = same_test (has kept other) (keeps other)
-      (λ h. (Member-filter keeps other (range_with_len 0 rank) (Member-from_has kept other h)).1)
-      (λ h. has-from_Member kept other (Member-kept other h))
+  has_kept other = grind (arith, common_steps, same_test, Member-filter, Member-from_has, has-from_Member, Member-kept)
 
   pub kept_below : AllBelow rank kept
   kept_below other h = kept_lower other (Member-filter keeps other (range_with_len 0 rank) (Member-from_has kept other h)).1

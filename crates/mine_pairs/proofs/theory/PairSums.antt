@@ -1,5 +1,6 @@
 -- The frequent pairs of ranks.
 use Rattle.std.proofs.Common.{◌≡◌, ℕ, ◌+◌, ◌<◌, Bool, ◌&&◌, List, [], ◌∷◌, ◌++◌, length, get_or, map, sym, ap, ◌∙◌, inl, inr, arith}
+use Rattle.std.proofs.lemmas.Grind.{common_steps}
 use Rattle.std.specs.List.{filter, range_with_len}
 use Rattle.std.specs.declared.alloc.Global.{Global}
 use Rattle.std.specs.declared.vec.Vec.{Vec}
@@ -42,9 +43,7 @@ sums_are_pairs baskets least rank sums long are =
 -- one list more, that of the next number
 pub lists_pushed : {X : Type 0} (f : ℕ → List X) (first n next : ℕ) (lists new : List (Vec X Global)) (list : Vec X Global) → lists_of lists ≡ map f (range_with_len first n)
     → new ≡ lists ++ list ∷ [] → first + n ≡ next → list.items ≡ f next → lists_of new ≡ map f (range_with_len first (n + 1))
-lists_pushed f first n next lists new list so_far pushed at is =
-    ap lists_of pushed ∙ map-append (λ (v : Vec _ Global). v.items) lists (list ∷ []) ∙ ap (λ l. l ++ list.items ∷ []) so_far
-    ∙ ap (λ l. map f (range_with_len first n) ++ l ∷ []) is ∙ sym (map-range_with_len_more f first n next at)
+lists_pushed f first n next lists new list so_far pushed at is = grind (arith, common_steps, map-append, map-range_with_len_more)
 
 -- there is one least support that meets a minimum
 one_least : (minimum : Minimum) (total one other : ℕ) → IsLeastSupport minimum total one → IsLeastSupport minimum total other → one ≡ other

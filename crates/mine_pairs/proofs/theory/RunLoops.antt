@@ -1,10 +1,11 @@
 -- The runs of each rank, basket by basket.
 use Rattle.std.proofs.Common.{◌≡◌, ℕ, ◌+◌, ◌<◌, ◌≤◌, true, false, List, [], ◌∷◌, ◌++◌, length, take, get_or, cond, ltb, refl, sym, ap, ◌∙◌, subst, inl, inr, arith}
+use Rattle.std.proofs.lemmas.Grind.{common_steps}
 use Rattle.std.specs.Prelude.{All}
 use Rattle.std.specs.List.{filter, slice_range, sum_by}
 use Rattle.std.specs.Ordering.{nat_cmp}
 use Rattle.std.proofs.lemmas.Bool.{cases_Bool, ltb-true, true≢false}
-use Rattle.std.proofs.lemmas.List.{get_or_default, get_or-map, length-map, map-append, take-take, take_more, get_or-take}
+use Rattle.std.proofs.lemmas.List.{get_or_default, get_or-map, length-map, map-append, take_more}
 use Rattle.std.proofs.lemmas.List.Kept.{IsStrictlySortedBy-filter}
 use Rattle.std.proofs.lemmas.List.Sums.{sum_by_more_le}
 use Rattle.basket_sets.specs.declared.weighted.Weighted.{Weighted}
@@ -45,10 +46,7 @@ module _ (ranks : List ℕ) (count : ℕ) (basket : Span) (inside : IsWithin (le
   })
 
   run_inside : (k : ℕ) → k < length path → IsWithin (length ranks) (span_front basket k)
-  run_inside k here = record {
-    ordered = omega arith;
-    within = (let end = ends k here in let last = inside.within in omega arith);
-  }
+  run_inside k here = grind (arith, common_steps)
 
   module _ (done : List Weighted) (shared first : ℕ) (old new : List (List Span)) (have : HaveRuns path basket shared (length path) first old new)
       (are : (n : ℕ) → n < length old → AreRunsOf ranks done (first + n) (get_or old n []))
@@ -121,17 +119,13 @@ runs_light ranks baskets i d rank runs here light are =
 
 pub rank_basket_at : (ranks : List ℕ) (count : ℕ) (spans : List Span) (i : ℕ) (d : Span) → All (IsRankBasket count) (baskets_at ranks spans) → i < length spans
     → IsRankBasket count (basket_at ranks (get_or spans i d))
-rank_basket_at ranks count spans i d all here =
-    subst (IsRankBasket count) (get_or-map (basket_at ranks) spans i d (basket_at ranks d) here) (all i (basket_at ranks d) (omega (arith, length-map spans (basket_at ranks))))
+rank_basket_at ranks count spans i d all here = grind (arith, common_steps, get_or-map (basket_at ranks) spans i d (basket_at ranks d) here, length-map spans (basket_at ranks))
 
 -- baskets that begin alike have runs alike there
 pub shared_again : (ranks : List ℕ) (first : ℕ) (of : List (List Span)) (last path : List ℕ) (shared : ℕ) → shared ≤ length last → take shared last ≡ take shared path
     → ((k n : ℕ) → k < length last → n < length of → get_or last k 0 ≡ first + n → repeats_last (baskets_at ranks (get_or of n [])) (take k last) ≡ true)
     → (k n : ℕ) → k < shared → n < length of → get_or path k 0 ≡ first + n → repeats_last (baskets_at ranks (get_or of n [])) (take k path) ≡ true
-shared_again ranks first of last path shared within same again k n here inside at =
-    let rank : get_or last k 0 ≡ get_or path k 0 = sym (get_or-take shared last k 0 here) ∙ ap (λ l. get_or l k 0) same ∙ get_or-take shared path k 0 here in
-    let front : take k last ≡ take k path = sym (take-take k shared last (omega arith)) ∙ ap (take k) same ∙ take-take k shared path (omega arith) in
-    ap (repeats_last (baskets_at ranks (get_or of n []))) (sym front) ∙ again k n (omega arith) inside (rank ∙ at)
+shared_again ranks first of last path shared within same again k n here inside at = grind (arith, common_steps)
 
 pub basket_more : (ranks : List ℕ) (spans : List Span) (i : ℕ) (d : Span) → i < length spans
     → take i (baskets_at ranks spans) ++ basket_at ranks (get_or spans i d) ∷ [] ≡ take (i + 1) (baskets_at ranks spans)

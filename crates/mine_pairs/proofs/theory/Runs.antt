@@ -1,11 +1,12 @@
 -- Runs of ranks.
-use Rattle.std.proofs.Common.{◌≡◌, ℕ, ◌+◌, ◌-◌, ◌<◌, Bool, true, false, List, [], ◌∷◌, ◌++◌, length, drop, get_or, set, cond, ltb, sym, ap, ◌∙◌, subst, inl, inr, arith, zero, suc, zero-add}
+use Rattle.std.proofs.Common.{◌≡◌, ℕ, ◌+◌, ◌-◌, ◌<◌, Bool, true, false, List, [], ◌∷◌, ◌++◌, length, get_or, set, cond, ltb, sym, ap, ◌∙◌, subst, inl, inr, arith, zero, suc, zero-add}
+use Rattle.std.proofs.lemmas.Grind.{common_steps}
 use Rattle.std.proofs.lemmas.Bool.{cases_lt}
 use Rattle.std.specs.declared.alloc.Global.{Global}
 use Rattle.std.specs.declared.vec.Vec.{Vec}
 use Rattle.std.specs.List.{slice_range}
 use Rattle.mine_baskets.specs.Span.{IsWithin}
-use Rattle.std.proofs.lemmas.List.{length-drop, length-take, get_or-map, get_or-set_same, get_or-set_other, length-map, length-set, map-set}
+use Rattle.std.proofs.lemmas.List.{get_or-map, get_or-set_same, get_or-set_other, length-map, length-set, map-set}
 use Rattle.basket_sets.specs.Itemset.{IsRising}
 use Rattle.basket_sets.specs.declared.weighted.Weighted.{Weighted}
 use Rattle.mine_baskets.specs.declared.span.Span.{Span}
@@ -87,6 +88,4 @@ module _ (path : List ℕ) (basket : Span) (shared first : ℕ) (old : List (Lis
   }
 
 pub length-range : (ranks : List ℕ) (span : Span) → IsWithin (length ranks) span → length (slice_range ranks span.start span.end) ≡ span.end - span.start
-length-range ranks span within =
-    let ordered = within.ordered in let inside = within.within in
-    omega (arith, length-take (span.end - span.start) (drop span.start ranks), length-drop span.start ranks)
+length-range ranks span within = grind (arith, common_steps)

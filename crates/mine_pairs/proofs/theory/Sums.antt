@@ -1,9 +1,9 @@
 -- Sums by rank as weights, and the supports of pairs.
-use Rattle.std.proofs.Common.{◌≡◌, ℕ, ◌+◌, ◌<◌, ◌≤◌, Bool, true, false, ◌&&◌, List, [], ◌∷◌, length, take, get_or, map, cond, leb, ltb, refl, sym, ap, ◌∙◌, inl, inr, arith, add-zero}
+use Rattle.std.proofs.Common.{◌≡◌, ℕ, ◌+◌, ◌<◌, ◌≤◌, Bool, true, ◌&&◌, List, [], ◌∷◌, length, take, get_or, map, cond, leb, ltb, refl, sym, ap, ◌∙◌, inl, inr, arith}
+use Rattle.std.proofs.lemmas.Grind.{common_steps}
 use Rattle.std.specs.List.{filter, range_with_len, sum_by}
 use Rattle.std.proofs.lemmas.Bool.{and_parts, leb-true, ltb-true}
-use Rattle.std.proofs.lemmas.List.{take_more}
-use Rattle.std.proofs.lemmas.List.Sums.{sum_by-cons, sum_by-append, sum_by-le-sum_by, sum_by_more_le}
+use Rattle.std.proofs.lemmas.List.Sums.{sum_by-le-sum_by, sum_by_more_le}
 use Rattle.basket_sets.specs.declared.weighted.Weighted.{Weighted}
 use Rattle.basket_sets.specs.declared.minimum.Minimum.TheVariants.{Count}
 use Rattle.basket_sets.specs.Database.{MOST_WEIGHT}
@@ -12,7 +12,7 @@ use Rattle.basket_sets.specs.Itemset.{contains, has, rising}
 use Rattle.basket_sets.specs.Support.{support_of, total_of, weight_at}
 use Rattle.basket_sets.proofs.theory.Members.{Member, Member-filter, Member-from_filter}
 use Rattle.basket_sets.proofs.theory.Rising.{Member-from_has, has-from_Member, Member-rising, Member-into_rising, rising-rises, same_rising}
-use Rattle.basket_sets.proofs.theory.Support.{support-cons, support_falls}
+use Rattle.basket_sets.proofs.theory.Support.{support_falls}
 use Rattle.basket_sets.proofs.theory.Ranges.{Member-into_range, Member-range, filtered_range_rises}
 use Rattle.mine_baskets.specs.declared.span.Span.{Span}
 use Rattle.mine_classes.specs.Conditional.{is_kept}
@@ -20,7 +20,7 @@ use Rattle.mine_baskets.specs.ListBaskets.{HaveSameWeights}
 use Rattle.mine_pairs.specs.Sums.{AreSums, is_met, ranks_met, weight_with}
 use Rattle.mine_pairs.specs.Pairs.{kept_ranks, pairs_of}
 use Rattle.mine_pairs.specs.Runs.{below}
-use Rattle.mine_baskets.specs.Span.{basket_at, baskets_at}
+use Rattle.mine_baskets.specs.Span.{baskets_at}
 use Rattle.mine_classes.proofs.theory.Conditional.{kept_support}
 
 -- ---- sums
@@ -29,8 +29,7 @@ abbrev pub weigh : ℕ → Weighted → ℕ
 weigh rank index = cond (has index.basket rank) index.weight 0
 
 at_most_weight : (b : Bool) (n : ℕ) → cond b n 0 ≤ n
-at_most_weight true n = omega arith
-at_most_weight false n = omega arith
+at_most_weight h1 h2 = grind (arith, common_steps)
 
 pub sum_light : (baskets : List Weighted) (i rank : ℕ) (d : Weighted) → i < length baskets → total_of baskets ≤ MOST_WEIGHT → weight_with rank (take i baskets) + (get_or baskets i d).weight ≤ MOST_WEIGHT
 sum_light baskets i rank d here light =
@@ -40,9 +39,7 @@ sum_light baskets i rank d here light =
 
 pub sum_more : (baskets : List Weighted) (i rank : ℕ) (d : Weighted) → i < length baskets
     → weight_with rank (take (i + 1) baskets) ≡ weight_with rank (take i baskets) + weigh rank (get_or baskets i d)
-sum_more baskets i rank d here =
-    ap (weight_with rank) (take_more baskets i d here) ∙ sum_by-append (weigh rank) (take i baskets) (get_or baskets i d ∷ [])
-    ∙ ap (λ n. weight_with rank (take i baskets) + n) (sum_by-cons (weigh rank) (get_or baskets i d) [] ∙ add-zero (weigh rank (get_or baskets i d)))
+sum_more baskets i rank d here = grind (arith, common_steps)
 
 -- ---- lists of members
 
@@ -91,19 +88,16 @@ met_is count least sums found baskets are added =
 
 same_sums : (f g : Weighted → ℕ) (places : List Weighted) → ((index : Weighted) → f index ≡ g index) → sum_by f places ≡ sum_by g places
 same_sums f g [] same = refl
-same_sums f g (index ∷ places) same =
-    sum_by-cons f index places ∙ ap (λ n. n + sum_by f places) (same index) ∙ ap (λ n. g index + n) (same_sums f g places same) ∙ sym (sum_by-cons g index places)
+same_sums f g (index ∷ places) same = grind (arith, common_steps, same_sums f g places same)
 
 and_every : (b : Bool) → (b && true) ≡ b
-and_every true = refl
-and_every false = refl
+and_every h1 = grind (arith, common_steps)
 
 -- ---- the pairs of a rank
 
 pub weights_of : (ranks : List ℕ) (runs : List Span) → total_of (baskets_at ranks runs) ≡ sum_by (λ (run : Span). run.weight) runs
 weights_of ranks [] = refl
-weights_of ranks (run ∷ runs) =
-    support-cons (basket_at ranks run) (baskets_at ranks runs) [] ∙ ap (λ n. run.weight + n) (weights_of ranks runs) ∙ sym (sum_by-cons (λ (r : Span). r.weight) run runs)
+weights_of ranks (run ∷ runs) = grind (arith, common_steps, weights_of ranks runs)
 
 module _ (baskets : List Weighted) (rank : ℕ) (paths : List Weighted) (same : HaveSameWeights (below rank baskets) paths) where
   pair_weight : (other : ℕ) → weight_with other paths ≡ cond (ltb other rank) (support_of baskets (other ∷ rank ∷ [])) 0
@@ -114,11 +108,7 @@ module _ (baskets : List Weighted) (rank : ℕ) (paths : List Weighted) (same : 
       ∙ ap (λ b. cond b (support_of baskets (other ∷ rank ∷ [])) 0) (and_every (ltb other rank))
 
   met_is_kept : (least other : ℕ) → is_met least (weight_with other paths) ≡ is_kept baskets least rank other
-  met_is_kept least other = ap (is_met least) (pair_weight other) ∙ at (ltb other rank)
-    where
-      at : (b : Bool) → is_met least (cond b (support_of baskets (other ∷ rank ∷ [])) 0) ≡ (b && is_frequent baskets (Count least) (other ∷ rank ∷ []))
-      at true = refl
-      at false = refl
+  met_is_kept least other = grind (arith, common_steps, pair_weight other)
 
   pub pairs_are : (count least : ℕ) → rank ≤ count → ranks_met count least paths ≡ pairs_of baskets least rank
   pairs_are count least within =

@@ -1,13 +1,12 @@
 use Rattle.std.proofs.Common.{◌<◌, length, get_or, eqb, arith}
+use Rattle.std.proofs.lemmas.Grind.{common_steps}
 use Rattle.mine_pairs.proofs.theory.SumSteps.{listed_more, with_more}
 use Rattle.mine_pairs.proofs.theory.SumSteps.{one_at_most}
 use Rattle.mine_pairs.proofs.rank_list.add_and_list.Goals as goal
 use Rattle.basket_sets.proofs.theory.Tests.{all_below_at}
 
 pub bounds-sums-rank : goal.bounds-sums-rank
-bounds-sums-rank c =
-    let here = all_below_at (length c.args.sums.now) c.args.basket.now c.loop-rank.rank-index c.requires.below c.loop-rank-test.true in
-    omega (arith, here, c.loop-rank.auto.sums)
+bounds-sums-rank c = grind (arith, common_steps, all_below_at (length c.args.sums.now) c.args.basket.now c.loop-rank.rank-index c.requires.below c.loop-rank-test.true)
 
 pub loop-rank-preserved : goal.loop-rank-preserved
 loop-rank-preserved c =

@@ -1,4 +1,5 @@
 use Rattle.std.proofs.Common.{◌≡◌, ◌+◌, ◌<◌, ◌≤◌, [], true, ℕ, length, get_or, take, subst, sym, ap, ◌∙◌, arith}
+use Rattle.std.proofs.lemmas.Grind.{common_steps}
 use Rattle.std.specs.Prelude.{sum_by}
 use Rattle.std.specs.List.{slice_range}
 use Rattle.std.proofs.lemmas.List.{length-map, get_or-map, with_items_is}
@@ -9,7 +10,7 @@ use Rattle.mine_baskets.specs.declared.span.Span.{Span}
 use Rattle.mine_baskets.specs.ListBaskets.{repeats_last}
 use Rattle.mine_pairs.specs.Runs.{HaveRuns, HaveRunsFrom, lists_in}
 use Rattle.mine_baskets.specs.Span.{basket_at, baskets_at}
-use Rattle.mine_pairs.proofs.theory.Runs.{length-lists_in, length-range}
+use Rattle.mine_pairs.proofs.theory.Runs.{length-lists_in}
 use Rattle.mine_pairs.proofs.theory.RunLoops.{basket_more, next_again, next_are, rank_basket_at, runs_light, shared_again}
 use Rattle.mine_pairs.proofs.rank_runs.runs_of_range.Goals as goal
 use Rattle.mine_baskets.proofs.theory.Neighbours.{some_repeats}
@@ -18,9 +19,7 @@ abbrev none : Span
 none = record { start = 0; end = 0; weight = 0 }
 
 pub add_runs-requires-clause-whole : goal.add_runs-requires-clause-whole
-add_runs-requires-clause-whole c =
-    let inside = c.args.baskets.within c.loop-basket.basket-index none c.loop-basket-test.true in
-    omega (arith, inside.ordered, ap length c.of-path.ensures, length-range c.args.baskets.ranks.now (get_or c.args.baskets.spans.now c.loop-basket.basket-index none) inside)
+add_runs-requires-clause-whole c = grind (arith, common_steps)
 
 pub add_runs-requires-clause-rises : goal.add_runs-requires-clause-rises
 add_runs-requires-clause-rises c = subst IsRising (sym c.of-path.ensures)

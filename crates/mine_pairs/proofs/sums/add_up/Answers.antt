@@ -1,8 +1,8 @@
-use Rattle.std.proofs.Common.{[], subst, sym, ap, ◌+◌, ◌∙◌, arith}
+use Rattle.std.proofs.Common.{[], ap, arith}
+use Rattle.std.proofs.lemmas.Grind.{common_steps}
 use Rattle.basket_sets.specs.declared.weighted.Weighted.{Weighted}
 use Rattle.basket_sets.specs.Database.{weighted}
 use Rattle.mine_baskets.specs.Baskets.{baskets_in}
-use Rattle.mine_pairs.specs.Sums.{AreSums}
 use Rattle.mine_pairs.proofs.theory.Sums.{sum_light, sum_more, weigh}
 use Rattle.mine_pairs.proofs.sums.add_up.Goals as goal
 
@@ -15,13 +15,4 @@ add_basket-requires-clause-light c = λ rank here.
     omega (arith, light, weight, sum)
 
 pub loop-index-preserved : goal.loop-index-preserved
-loop-index-preserved c =
-    let baskets = baskets_in c.args.baskets in
-    let i = c.loop-index.index in
-    record {
-      sums = subst (λ n. AreSums n c.add_basket.new.sums c.add_basket.new.self) c.loop-index.auto.sums c.in_ok-add_basket.ensures.sums;
-      added = λ rank here.
-          c.in_ok-add_basket.ensures.added rank (omega (arith, here, c.loop-index.auto.sums))
-          ∙ (λ k. c.loop-index.invariant.added rank here k + weigh rank (c.at-weight.ensures.basket k))
-          ∙ sym (sum_more baskets i rank (weighted [] 0) (omega (arith, c.loop-index-test.true, c.len-index-end.ensures)));
-    }
+loop-index-preserved c = grind (arith, common_steps, weigh, sum_more)

@@ -1,6 +1,7 @@
-use Rattle.std.proofs.Common.{◌≡◌, ◌<◌, ◌≤◌, ◌++◌, ◌∷◌, [], ℕ, true, false, cond, get_or, leb, map, sym, ap, ◌∙◌, inl, inr, arith, add-one, zero-add, append-nil}
+use Rattle.std.proofs.Common.{◌≡◌, ◌<◌, ◌≤◌, ◌++◌, ◌∷◌, [], ℕ, true, false, cond, get_or, leb, map, sym, ap, ◌∙◌, arith, add-one, zero-add, append-nil}
+use Rattle.std.proofs.lemmas.Grind.{common_steps}
 use Rattle.std.specs.List.{filter, range_with_len}
-use Rattle.std.proofs.lemmas.Bool.{and_from, and_parts, cases_Bool, le-leb, leb-true}
+use Rattle.std.proofs.lemmas.Bool.{and_from, le-leb}
 use Rattle.std.proofs.lemmas.List.{map-append}
 use Rattle.std.proofs.lemmas.List.Elements.{filter-append}
 use Rattle.mine_pairs.specs.Sums.{is_met}
@@ -12,16 +13,10 @@ met_sum : (least sum : ℕ) → 1 ≤ sum → least ≤ sum → is_met least sum
 met_sum least sum one enough = and_from (leb 1 sum) (leb least sum) (le-leb 1 sum one) (le-leb least sum enough)
 
 no_sum : (least sum : ℕ) → sum < 1 → is_met least sum ≡ false
-no_sum least sum none = elim (cases_Bool (is_met least sum)) [
-  | inl e ↦ (let one = leb-true 1 sum (and_parts (leb 1 sum) (leb least sum) e).0 in absurd (omega arith))
-  | inr e ↦ e
-]
+no_sum least sum none = grind (arith, common_steps)
 
 low_sum : (least sum : ℕ) → sum < least → is_met least sum ≡ false
-low_sum least sum low = elim (cases_Bool (is_met least sum)) [
-  | inl e ↦ (let enough = leb-true least sum (and_parts (leb 1 sum) (leb least sum) e).1 in absurd (omega arith))
-  | inr e ↦ e
-]
+low_sum least sum low = grind (arith, common_steps)
 
 pub loop-rank-preserved : goal.loop-rank-preserved
 loop-rank-preserved c =

@@ -1,11 +1,12 @@
 use Rattle.std.proofs.Common.{◌≡◌, ◌+◌, ◌<◌, [], ℕ, length, map, subst, refl, sym, ap, ◌∙◌, arith}
+use Rattle.std.proofs.lemmas.Grind.{common_steps}
 use Rattle.std.specs.declared.alloc.Global.{Global}
 use Rattle.std.specs.declared.vec.Vec.{Vec}
 use Rattle.std.specs.List.{range_with_len}
-use Rattle.std.proofs.lemmas.List.{get_or-map, length-map, take_at}
+use Rattle.std.proofs.lemmas.List.{length-map, take_at}
 use Rattle.std.proofs.lemmas.List.FromFn.{length-map-range_with_len}
 use Rattle.mine_pairs.specs.Pairs.{lists_of, pairs_of}
-use Rattle.mine_pairs.specs.Triangle.{HaveCounts, row_at, zeros}
+use Rattle.mine_pairs.specs.Triangle.{HaveCounts, row_at}
 use Rattle.mine_pairs.proofs.theory.PairSums.{lists_pushed}
 use Rattle.mine_pairs.proofs.TriangleLemmas.{row_pairs, zeros_count}
 use Rattle.mine_pairs.proofs.triangle.pairs_of_range.Given.{Over}
@@ -22,8 +23,7 @@ module _ (g : Over) (c : After-deref-row-items g) where
   rows_are = c.deref-row-items.ensures.value ∙ take_at c.count_pairs.new.rows _ c.in_ok-rows.rows.len (c.count_pairs.auto.rows ∙ c.deref_mut.ensures.len)
 
   long : length (lists_of c.deref-row-items.result.now) ≡ c.args.range.count
-  long = length-map c.deref-row-items.result.now (λ (v : Vec ℕ Global). v.items) ∙ ap length rows_are ∙ c.count_pairs.auto.rows ∙ ap length c.deref_mut.ensures.value
-      ∙ sym (length-map c.in_ok-rows.rows.items (λ (v : Vec ℕ Global). v.items)) ∙ ap length c.in_ok-rows.ensures ∙ length-map-range_with_len zeros c.args.range.first c.args.range.count
+  long = grind (arith, common_steps, length-map, rows_are, length-map-range_with_len)
 
   counts : HaveCounts (g.B.RankedBaskets.baskets c.args.baskets.now) c.args.range.first (lists_of c.deref-row-items.result.now)
   counts = subst (λ l. HaveCounts (g.B.RankedBaskets.baskets c.args.baskets.now) c.args.range.first (lists_of l)) (sym rows_are) c.count_pairs.ensures
@@ -34,8 +34,7 @@ module _ (g : Over) (c : After-deref g) where
   within = omega (arith, c.loop-row-test.true, length-map c.deref-row-items.result.now (λ (v : Vec ℕ Global). v.items))
 
   at_row : c.deref.result.now ≡ row_at (lists_of c.deref-row-items.result.now) c.loop-row.row-index
-  at_row = c.deref.ensures.value ∙ ap (λ (v : Vec ℕ Global). v.items) c.row-item.is
-      ∙ sym (get_or-map (λ (v : Vec ℕ Global). v.items) c.deref-row-items.result.now c.loop-row.row-index c.row-item.result [] c.loop-row-test.true)
+  at_row = grind (arith, common_steps)
 
 pub met_in_order-requires : goal.met_in_order-requires
 met_in_order-requires g c =
