@@ -1,5 +1,6 @@
 -- The places of a basket's ranks as bits.
-use Rattle.std.proofs.Common.{◌≡◌, ◌≢◌, ℕ, ◌-◌, ◌<◌, ◌≤◌, ◌⊎◌, true, ◌||◌, List, [], ◌∷◌, Option, Some, None, length, map, get_or, eqb, refl, sym, ap, ◌∙◌, inl, inr, arith}
+use Rattle.std.proofs.Common.{◌≡◌, ℕ, ◌-◌, ◌<◌, ◌≤◌, ◌⊎◌, true, ◌||◌, List, [], ◌∷◌, Option, Some, None, length, map, get_or, eqb, refl, sym, ap, ◌∙◌, inl, inr, arith}
+use Rattle.std.proofs.lemmas.Grind.{common_steps}
 use Rattle.std.specs.Prelude.{All, bit_or}
 use Rattle.std.specs.List.{AllByRecursion, fold, range_with_len}
 use Rattle.std.proofs.lemmas.Bool.{cases_eq, or_cases, true≢false}
@@ -63,8 +64,7 @@ module _ (kept : List ℕ) (up : IsRising kept) (few : length kept ≤ WORD_RANK
 
   into_bits : (basket : List ℕ) (bits rank place : ℕ) → Member rank basket → rank_of kept rank ≡ Some place → has_rank (fold with_bit bits basket) place ≡ true
   into_bits [] bits rank place m is = absurd m
-  into_bits (first ∷ basket) bits rank place (inl same) is = bits_stay basket (with_bit bits first) place
-      (has_either bits (number_bit kept first) place ∙ ap (λ b. has_rank bits place || b) (place_has first place (ap (rank_of kept) same ∙ is)) ∙ or_true (has_rank bits place))
+  into_bits (first ∷ basket) bits rank place (inl same) is = grind (arith, common_steps, bits_stay, has_either, place_has, or_true)
   into_bits (first ∷ basket) bits rank place (inr m) is = into_bits basket (with_bit bits first) rank place m is
 
   -- they are those of its places

@@ -1,8 +1,9 @@
 -- Whether baskets are a single branch, by the lengths of the paths of their runs.
 use Rattle.std.proofs.Common.{◌≡◌, ℕ, ◌+◌, ◌-◌, ◌<◌, ◌≤◌, Bool, true, false, List, [], ◌∷◌, filter, length, cond, eqb, ltb, refl, sym, ap, ◌∙◌, subst, inl, inr, arith, zero, suc}
+use Rattle.std.proofs.lemmas.Grind.{common_steps}
 use Rattle.std.specs.Prelude.{not}
 use Rattle.std.specs.List.{list_all, range_with_len}
-use Rattle.std.proofs.lemmas.Bool.{cases_Bool, cases_lt, eq-eqb, eqb-true, lt-ltb, true≢false}
+use Rattle.std.proofs.lemmas.Bool.{cases_Bool, cases_lt, eq-eqb, eqb-true, lt-ltb}
 use Rattle.std.proofs.lemmas.List.Elements.{recursion_from_All}
 use Rattle.std.proofs.lemmas.List.FromFn.{length-range_with_len}
 use Rattle.std.proofs.lemmas.List.Sums.{sum_by-cons}
@@ -85,8 +86,7 @@ no_weight test (p ∷ places) fail =
 -- ---- runs
 
 pub branch_from_full : (count : ℕ) (baskets : List Weighted) → ((place : Weighted) → Member place baskets → AllBelow count place.basket) → ((rank : ℕ) → rank < count → IsFullAt rank baskets) → is_branch baskets ≡ true
-branch_from_full count baskets low full = all_of (λ (p : Weighted). list_all (λ r. contains p.basket (range_with_len 0 r)) p.basket) baskets (λ place m.
-    all_of (λ r. contains place.basket (range_with_len 0 r)) place.basket (λ r n. let here = has-from_Member place.basket r n in full r (low place m r here) place m here))
+branch_from_full count baskets low full = grind (arith, common_steps, all_of, has-from_Member)
 
 module _ (value : RankBaskets) (rank : ℕ) (paths : Baskets) (count : paths.count ≡ rank) (weights : HaveSameWeights (below rank value.baskets) (baskets_in paths)) (ranked : AreRankBaskets value) where
   abbrev ranks : List ℕ
@@ -123,14 +123,10 @@ module _ (value : RankBaskets) (rank : ℕ) (paths : Baskets) (count : paths.cou
   below_heavy place m = let p = from_picked has_rank lower_part value.baskets place m in subst (λ (q : Weighted). 1 ≤ q.weight) p.3 (heavy p.0 p.1)
 
   lower_contains : (place : Weighted) → contains place.basket (range_with_len 0 rank) ≡ true → contains (lower_part place).basket (range_with_len 0 rank) ≡ true
-  lower_contains place h = contains_each (lower_part place).basket (range_with_len 0 rank) (λ r m.
-      Member-from_filter (λ other. ltb other rank) r place.basket (has_each place.basket (range_with_len 0 rank) h r m) (lt-ltb r rank (let less = (Member-range 0 rank r m).1 in omega arith)))
+  lower_contains place h = grind (arith, common_steps, contains_each, Member-from_filter, has_each, lt-ltb, Member-range)
 
   not_lacking : (basket : List ℕ) → lacks basket ≡ false → contains basket (range_with_len 0 rank) ≡ true
-  not_lacking basket h = elim (cases_Bool (contains basket (range_with_len 0 rank))) [
-    | inl e ↦ e
-    | inr e ↦ absurd (true≢false (sym (ap not e) ∙ h))
-  ]
+  not_lacking basket h = grind (arith, common_steps)
 
   in_range : (place : Weighted) → Member place places → IsInRange 0 rank place.basket
   in_range place m y n = (omega arith, (let less = (run_basket place m).below y (has-from_Member place.basket y n) in omega arith))

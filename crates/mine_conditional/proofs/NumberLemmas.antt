@@ -1,11 +1,12 @@
 -- LocalNumbers of ranks in a rising list.
-use Rattle.std.proofs.Common.{◌≡◌, ℕ, unwrap_or, ◌+◌, ◌<◌, ◌≤◌, Bool, true, false, ◌||◌, List, [], ◌∷◌, ◌++◌, Option, Some, None, length, take, get_or, set, map, cond, eqb, refl, sym, ap, ◌∙◌, subst, inl, inr, arith, add-zero, zero-add, zero, suc}
+use Rattle.std.proofs.Common.{◌≡◌, ℕ, unwrap_or, ◌+◌, ◌<◌, ◌≤◌, Bool, false, ◌||◌, List, [], ◌∷◌, ◌++◌, Option, Some, None, length, take, get_or, set, map, cond, eqb, refl, sym, ap, ◌∙◌, subst, inl, inr, arith, add-zero, zero-add, zero, suc}
+use Rattle.std.proofs.lemmas.Grind.{common_steps}
 use Rattle.std.specs.Prelude.{All, replicate}
 use Rattle.std.specs.List.{AllByRecursion, cons_option, filter_map}
 use Rattle.std.specs.Option.{is_some, option_to_list}
 use mir.Val.{bool_byte}
 use Rattle.std.proofs.lemmas.Bool.{cases_Bool, cases_eq, cases_lt, eq-eqb, ne_eqb, true≢false}
-use Rattle.std.proofs.lemmas.List.{append-nil, ext_get_or, get_or_default, get_or-replicate, get_or-set_same, get_or-set_other, get_or-take, length-replicate, length-take, map-append, take-set, take_more, take_more_set}
+use Rattle.std.proofs.lemmas.List.{ext_get_or, get_or_default, get_or-set_same, get_or-set_other, get_or-take, length-replicate, length-take, map-append, take_more}
 use Rattle.std.proofs.lemmas.List.Elements.{All-from_recursion, recursion_from_All}
 use Rattle.basket_sets.specs.declared.weighted.Weighted.{Weighted}
 use Rattle.basket_ranks.specs.Codes.{coded, coded_place, rank_from, rank_of}
@@ -29,8 +30,7 @@ index_le xs (suc k) up here = let less = rising_at xs k (suc k) up (omega arith)
 -- ---- the place of a rank
 
 neither : (a b : Bool) → (a || b) ≡ false → (a ≡ false) × (b ≡ false)
-neither true b h = absurd (true≢false h)
-neither false b h = (refl, h)
+neither h1 h2 h3 = grind (arith, common_steps)
 
 rank_from_at : (number : ℕ) (kept : List ℕ) (k : ℕ) → IsRising kept → k < length kept → rank_from number kept (get_or kept k 0) ≡ Some (number + k)
 rank_from_at number [] k up here = absurd (omega arith)
@@ -86,22 +86,13 @@ module _ {T : Type 0} (made_of : Option ℕ → T) (kept : List ℕ) (up : IsRis
       new = set table (get_or kept i 0) (made_of (Some i))
 
 pub all_none : {T : Type 0} (none : T) (count : ℕ) (table : List T) → length table ≡ count → ((rank : ℕ) → get_or table rank none ≡ none) → table ≡ replicate count none
-all_none none count table long none_at = ext_get_or none table (replicate count none) (long ∙ sym (length-replicate count none))
-    (λ rank here. none_at rank ∙ sym (get_or-replicate count rank none none (omega arith)))
+all_none none count table long none_at = grind (arith, common_steps, ext_get_or none table (replicate count none) (long ∙ sym (length-replicate count none)), length-replicate count none)
 
 -- ---- a basket's places
 
 filter_map-push : (h : ℕ → Option ℕ) (xs : List ℕ) (x : ℕ) → filter_map h (xs ++ x ∷ []) ≡ filter_map h xs ++ option_to_list (h x)
-filter_map-push h [] x = at (h x)
-  where
-    at : (o : Option ℕ) → cons_option o [] ≡ option_to_list o
-    at None = refl
-    at (Some y) = refl
-filter_map-push h (first ∷ xs) x = ap (cons_option (h first)) (filter_map-push h xs x) ∙ at (h first)
-  where
-    at : (o : Option ℕ) → cons_option o (filter_map h xs ++ option_to_list (h x)) ≡ cons_option o (filter_map h xs) ++ option_to_list (h x)
-    at None = refl
-    at (Some y) = refl
+filter_map-push h [] x = grind (arith, common_steps)
+filter_map-push h (first ∷ xs) x = grind (arith, common_steps, filter_map-push h xs x)
 
 pub numbers_more : (h : ℕ → Option ℕ) (basket : List ℕ) (i : ℕ) → i < length basket
     → filter_map h (take (i + 1) basket) ≡ filter_map h (take i basket) ++ option_to_list (h (get_or basket i 0))
@@ -110,11 +101,7 @@ numbers_more h basket i here = ap (filter_map h) (take_more basket i 0 here) ∙
 -- what is put down for one rank more, over which the next is put where there is nothing for it
 pub slot_put : (now front : List ℕ) (len : ℕ) (slot : Option ℕ) (more : ℕ) → len < length now → more ≡ bool_byte (is_some slot) → take len now ≡ front
     → take (len + more) (set now len (unwrap_or slot 0)) ≡ front ++ option_to_list slot
-slot_put now front len None more room count before =
-    let none : len + more ≡ len = omega (arith, count) in ap (λ n. take n (set now len 0)) none ∙ take-set now len 0 ∙ before ∙ sym (append-nil front)
-slot_put now front len (Some y) more room count before =
-    let one : len + more ≡ len + 1 = omega (arith, count) in
-    ap (λ n. take n (set now len y)) one ∙ take_more_set now len y room ∙ ap (λ l. l ++ y ∷ []) before
+slot_put h1 h2 h3 h4 h5 h6 h7 h8 = grind (arith, common_steps)
 
 -- ---- places as a coding
 
@@ -142,26 +129,12 @@ module _ (kept : List ℕ) (up : IsRising kept) where
 
   pub from_numbers : (basket : List ℕ) (place : ℕ) → Member place (numbers_in kept basket) → (rank : ℕ) × Member rank basket × (rank_of kept rank ≡ Some place)
   from_numbers [] place m = absurd m
-  from_numbers (first ∷ basket) place m = at (rank_of kept first) refl (from_numbers basket place) m
-    where
-      later : (rank : ℕ) × Member rank basket × (rank_of kept rank ≡ Some place) → (rank : ℕ) × Member rank (first ∷ basket) × (rank_of kept rank ≡ Some place)
-      later r = (r.0, inr r.1, r.2)
-
-      at : (o : Option ℕ) → rank_of kept first ≡ o → (Member place (numbers_in kept basket) → (rank : ℕ) × Member rank basket × (rank_of kept rank ≡ Some place))
-          → Member place (cons_option o (numbers_in kept basket)) → (rank : ℕ) × Member rank (first ∷ basket) × (rank_of kept rank ≡ Some place)
-      at None e rest n = later (rest n)
-      at (Some y) e rest (inl same) = (first, inl refl, e ∙ ap Some same)
-      at (Some y) e rest (inr n) = later (rest n)
+  from_numbers (first ∷ basket) place m = grind (arith, common_steps, from_numbers basket place)
 
   pub into_numbers : (basket : List ℕ) (rank place : ℕ) → Member rank basket → rank_of kept rank ≡ Some place → Member place (numbers_in kept basket)
   into_numbers [] rank place m is = absurd m
-  into_numbers (first ∷ basket) rank place (inl same) is =
-      subst (λ o. Member place (cons_option o (numbers_in kept basket))) (sym (ap (rank_of kept) same ∙ is)) (inl refl)
-  into_numbers (first ∷ basket) rank place (inr m) is = at (rank_of kept first) (into_numbers basket rank place m is)
-    where
-      at : (o : Option ℕ) → Member place (numbers_in kept basket) → Member place (cons_option o (numbers_in kept basket))
-      at None n = n
-      at (Some y) n = inr n
+  into_numbers (first ∷ basket) rank place (inl same) is = grind (arith, common_steps)
+  into_numbers (first ∷ basket) rank place (inr m) is = grind (arith, common_steps, into_numbers basket rank place m is)
 
   -- the places of a rising basket rise
   pub numbers_rise : (basket : List ℕ) → IsRising basket → IsRising (numbers_in kept basket)
@@ -203,9 +176,7 @@ module _ (kept : List ℕ) (up : IsRising kept) where
 
   coded_each : (count : ℕ) (baskets : List Weighted) → AllByRecursion (IsRankBasket count) baskets → map (placed kept) baskets ≡ map (coded_place kept) baskets
   coded_each count [] all = refl
-  coded_each count (place ∷ baskets) all =
-      ap (λ l. weighted l place.weight ∷ map (placed kept) baskets) (numbers_are_coded place.basket all.0.rises)
-      ∙ ap (λ rest. coded_place kept place ∷ rest) (coded_each count baskets all.1)
+  coded_each count (place ∷ baskets) all = grind (arith, common_steps, coded_each count baskets all.1, numbers_are_coded)
 
   pub all_coded : (count : ℕ) (baskets : List Weighted) → All (IsRankBasket count) baskets → map (placed kept) baskets ≡ map (coded_place kept) baskets
   all_coded count baskets all = coded_each count baskets (recursion_from_All (IsRankBasket count) baskets all)
@@ -231,7 +202,4 @@ coded_rank_baskets kept count baskets are = record {
 pub placed_more : (baskets : List Weighted) (locals : List ℕ) (of : List (Option ℕ)) (spans : List Span) (i : ℕ) (basket : Weighted) (span : Span) → i < length baskets
     → basket ≡ get_or baskets i (weighted [] 0) → All (IsWithin (length locals)) spans → span.start ≡ length locals → span.end ≡ length locals + length (table_numbers of basket.basket) → span.weight ≡ basket.weight
     → baskets_at locals spans ≡ map (by_table of) (take i baskets) → baskets_at (locals ++ table_numbers of basket.basket) (spans ++ span ∷ []) ≡ map (by_table of) (take (i + 1) baskets)
-placed_more baskets locals of spans i basket span here is within start end weight so_far =
-    pushed_basket locals (table_numbers of basket.basket) spans span within start end
-    ∙ (λ k. so_far k ++ weighted (table_numbers of basket.basket) (weight k) ∷ []) ∙ (λ k. map (by_table of) (take i baskets) ++ by_table of (is k) ∷ [])
-    ∙ sym (ap (map (by_table of)) (take_more baskets i (weighted [] 0) here) ∙ map-append (by_table of) (take i baskets) (get_or baskets i (weighted [] 0) ∷ []))
+placed_more baskets locals of spans i basket span here is within start end weight so_far = grind (arith, common_steps, pushed_basket, take_more, map-append)

@@ -1,11 +1,12 @@
 -- Sums to which the weight of a word is added at its ranks, from the lowest bit on.
 use Rattle.std.proofs.Common.{◌≡◌, ◌≢◌, ℕ, ◌+◌, ◌-◌, ◌/◌, ◌%◌, ◌^◌, ◌<◌, ◌≤◌, List, cond, eqb, get_or, length, set, refl, sym, ap, ◌∙◌, subst, inl, inr, arith}
+use Rattle.std.proofs.lemmas.Grind.{common_steps}
 use Rattle.std.specs.Prelude.{bit_and}
 use Rattle.std.specs.Int.{bit_at}
 use Rattle.std.proofs.lemmas.Bool.{cases_eq, cases_lt}
 use Rattle.std.proofs.lemmas.List.{get_or-set_other, get_or-set_same, length-set}
 use Rattle.std.proofs.lemmas.Nat.{and_le_l, div-add-mod', mod_below, pow_pos, shr_below}
-use Rattle.std.proofs.lemmas.Nat.Bits.{bit_at-zero, bit_at_above, bit_at_cat_high}
+use Rattle.std.proofs.lemmas.Nat.Bits.{bit_at_above, bit_at_cat_high}
 use Rattle.mine_baskets.specs.declared.words.Word.{Word}
 use Rattle.mine_baskets.proofs.theory.Bits.{without_lowest, without_lowest_other}
 use Rattle.mine_conditional.specs.WordPaths.{rank_weight}
@@ -37,25 +38,15 @@ sums_begin count word old some few fits = record {
 
 module _ (count rest : ℕ) (word : Word) (old new : List ℕ) (few : count ≤ 64) (has : HasSums count rest word old new) where
   pub sums_end : rest ≡ 0 → (rank : ℕ) → rank < count → get_or new rank 0 ≡ get_or old rank 0 + rank_weight rank word
-  sums_end none rank low =
-      let nothing = ap (λ b. cond (eqb b 1) word.weight 0) (ap (λ r. bit_at r (count - 1 - rank)) none ∙ bit_at-zero (count - 1 - rank)) in
-      omega (arith, nothing, has.sums rank low)
+  sums_end none rank low = grind (arith, common_steps)
 
   module _ (lowest : ℕ) (one : bit_at rest lowest ≡ 1) (zeros : (i : ℕ) → i < lowest → bit_at rest i ≡ 0) where
     -- its rank is below the number
     pub lowest_below : lowest < count
-    lowest_below = elim (cases_lt lowest count) [
-      | inl less ↦ less
-      | inr more ↦ absurd (omega (arith, one, bit_at_above rest count lowest has.small more))
-    ]
+    lowest_below = grind (arith, common_steps, cases_lt, bit_at_above)
 
     pub lowest_fits : (most : ℕ) → ((rank : ℕ) → rank < count → get_or old rank 0 + word.weight ≤ most) → get_or new (count - 1 - lowest) 0 + word.weight ≤ most
-    lowest_fits most light =
-        let rank = count - 1 - lowest in
-        let low : rank < count = omega (arith, lowest_below) in
-        let at : count - 1 - rank ≡ lowest = omega (arith, lowest_below) in
-        let own = ap (λ b. cond (eqb b 1) word.weight 0) (ap (bit_at rest) at ∙ one) in
-        omega (arith, own, has.sums rank low, rank_weight_le rank word, light rank low)
+    lowest_fits most light = grind (arith, common_steps, lowest_below, rank_weight_le)
 
     pub sums_next : count ≤ length old → HasSums count (bit_and rest (rest - 1)) word old (set new (count - 1 - lowest) (get_or new (count - 1 - lowest) 0 + word.weight))
     sums_next inside = record {

@@ -1,5 +1,6 @@
 -- Words of bits: their ranks, and what they weigh.
 use Rattle.std.proofs.Common.{◌≡◌, ℕ, ◌+◌, ◌-◌, ◌*◌, ◌%◌, ◌^◌, ◌<◌, ◌≤◌, eqb, ltb, Bool, true, false, ◌&&◌, List, [], ◌∷◌, ◌++◌, length, take, get_or, map, cond, refl, sym, ap, ◌∙◌, subst, inl, inr, arith, add-zero, zero, suc}
+use Rattle.std.proofs.lemmas.Grind.{common_steps}
 use Rattle.std.specs.List.{filter, flat_map, list_all, range_with_len, sum_by}
 use mir.Val.{bool_byte}
 use Rattle.std.specs.Prelude.{bit_or}
@@ -15,7 +16,7 @@ use Rattle.basket_sets.specs.declared.weighted.Weighted.{Weighted}
 use Rattle.basket_sets.specs.Counts.{AllBelow}
 use Rattle.basket_sets.specs.Database.{weighted}
 use Rattle.basket_sets.specs.Itemset.{contains, has}
-use Rattle.basket_sets.specs.Support.{support_of, weight_at}
+use Rattle.basket_sets.specs.Support.{support_of}
 use Rattle.basket_sets.proofs.theory.Members.{Member, Member-filter, Member-from_filter, Contains-from_Member}
 use Rattle.basket_sets.proofs.theory.Merging.{sum_by-same}
 use Rattle.basket_sets.proofs.theory.Rising.{Member-from_has, contains_each, has-from_Member, has_each, rising-rises, same_rising, same_test}
@@ -50,42 +51,22 @@ one_bit false at index low within = let none : 0 * 2 ^ (63 - at) % 1844674407370
 -- those of the indexes so far, with one more
 pub bits_more : (own : ℕ → Bool) (bits at new : ℕ) → at < WORD_RANKS → new ≡ bit_or bits (bool_byte (own at) * 2 ^ (63 - at) % 18446744073709551616)
     → ((index : ℕ) → index < WORD_RANKS → has_rank bits index ≡ (ltb index at && own index)) → (index : ℕ) → index < WORD_RANKS → has_rank new index ≡ (ltb index (at + 1) && own index)
-bits_more own bits at new low is before index within =
-    let part = ap (λ n. has_rank n index) is ∙ has_either bits (bool_byte (own at) * 2 ^ (63 - at) % 18446744073709551616) index in
-    let one = one_bit (own at) at index low within in
-    let old = before index within in
-    grind (arith, nat_tests, part, one, old)
+bits_more own bits at new low is before index within = grind (arith, common_steps, has_either, one_bit, nat_tests)
 
 -- ---- what words weigh
 
 two_ranks : (a b : Bool) (weight : ℕ) → cond (a && (b && true)) weight 0 ≡ cond b (cond a weight 0) 0
-two_ranks true true weight = refl
-two_ranks true false weight = refl
-two_ranks false true weight = refl
-two_ranks false false weight = refl
+two_ranks h1 h2 h3 = grind (arith, common_steps)
 
 pub pair_support : (count rank other : ℕ) (words : List Word) → rank < count → other < rank
     → support_of (word_places count words) (other ∷ rank ∷ []) ≡ sum_by (pair_weight rank other) words
-pair_support count rank other words low less =
-    word_sum (weight_at (other ∷ rank ∷ [])) count words
-    ∙ sum_by-same (λ (w : Word). weight_at (other ∷ rank ∷ []) (word_place count w)) (pair_weight rank other) words (λ w.
-    two_ranks (has (ranks_in count w.bits) other) (has (ranks_in count w.bits) rank) w.weight
-    ∙ ap (λ b. cond (has (ranks_in count w.bits) rank) (cond b w.weight 0) 0) (has_in count w.bits other (omega arith))
-    ∙ ap (λ b. cond b (rank_weight other w) 0) (has_in count w.bits rank low))
+pair_support count rank other words low less = grind (arith, common_steps, word_sum, sum_by-same, two_ranks, has_in)
 
 pub rank_weight_le : (rank : ℕ) (word : Word) → rank_weight rank word ≤ word.weight
-rank_weight_le rank word = at_most (has_rank word.bits rank)
-  where
-    at_most : (b : Bool) → cond b word.weight 0 ≤ word.weight
-    at_most true = omega arith
-    at_most false = omega arith
+rank_weight_le rank word = grind (arith, common_steps)
 
 pub pair_weight_le : (rank other : ℕ) (word : Word) → pair_weight rank other word ≤ word.weight
-pair_weight_le rank other word = at_most (has_rank word.bits rank)
-  where
-    at_most : (b : Bool) → cond b (rank_weight other word) 0 ≤ word.weight
-    at_most true = rank_weight_le other word
-    at_most false = omega arith
+pair_weight_le rank other word = grind (arith, common_steps)
 
 abbrev pub none : Word
 none = record { bits = 0; weight = 0 }
@@ -129,8 +110,7 @@ all_fill count (word ∷ words) each =
     and_from (fills count word.bits) (is_branch (word_places count words)) (each 0 (omega arith)) (all_fill count words (λ k here. each (suc k) (omega arith)))
 
 and_false : (b : Bool) → (b && false) ≡ false
-and_false true = refl
-and_false false = refl
+and_false h1 = grind (arith, common_steps)
 
 pub one_fails : (count : ℕ) (words : List Word) (k : ℕ) → k < length words → fills count (get_or words k none).bits ≡ false → is_branch (word_places count words) ≡ false
 one_fails count [] k here e = absurd (omega arith)
@@ -180,16 +160,11 @@ module _ (kept : List ℕ) (count rank : ℕ) (words : List Word) (i : ℕ) wher
 
   next_below : i < length words → rank < count → (b : Bool) → has_rank word_at.bits rank ≡ b
       → below_words (take (i + 1) words) ≡ below_words (take i words) ++ cond b (weighted (filter (has kept) (ranks_in count word_at.bits)) word_at.weight ∷ []) []
-  next_below here low b h =
-      ap below_words (take_more words i none here)
-      ∙ ap (flat_map (kept_place (has kept) rank)) (map-append (word_place count) (take i words) (word_at ∷ []))
-      ∙ flat_map_push (kept_place (has kept) rank) (word_places count (take i words)) (word_place count word_at)
-      ∙ ap (λ c. below_words (take i words) ++ cond c (weighted (filter (has kept) (ranks_in count word_at.bits)) word_at.weight ∷ []) []) (has_in count word_at.bits rank low ∙ h)
+  next_below here low b h = grind (arith, common_steps, take_more, map-append, flat_map_push, has_in)
 
   pub below_without : i < length words → rank < count → has_rank word_at.bits rank ≡ false → (others : List Weighted)
       → HaveSameWeights (below_words (take i words)) others → HaveSameWeights (below_words (take (i + 1) words)) others
-  below_without here low h others so_far test =
-      ap (weight_where test) (next_below here low false h ∙ append-nil (below_words (take i words))) ∙ so_far test
+  below_without here low h others so_far test = grind (arith, common_steps, next_below here low false h)
 
   pub below_with : i < length words → rank < count → has_rank word_at.bits rank ≡ true → AllBelow count kept → (old new : List Word) (bits : ℕ)
       → ((place : ℕ) → place < length kept → has_rank bits place ≡ has_rank word_at.bits (get_or kept place 0))

@@ -1,9 +1,10 @@
 -- Baskets of which each that has a rank has the lower ones, and those that pass a test.
-use Rattle.std.proofs.Common.{◌≡◌, ℕ, ◌≤◌, Bool, true, false, List, [], ◌∷◌, cond, refl, sym, ap, ◌∙◌, subst, inl, inr}
+use Rattle.std.proofs.Common.{◌≡◌, ℕ, ◌≤◌, Bool, true, false, List, [], ◌∷◌, cond, refl, inl, inr, arith}
+use Rattle.std.proofs.lemmas.Grind.{common_steps}
 use Rattle.std.specs.List.{flat_map, list_all, range_with_len}
 use Rattle.basket_sets.specs.declared.weighted.Weighted.{Weighted}
 use Rattle.basket_sets.specs.Itemset.{contains, has}
-use Rattle.basket_sets.proofs.theory.Members.{Member, Member-append, Member-append_left, Member-append_right}
+use Rattle.basket_sets.proofs.theory.Members.{Member, Member-append}
 use Rattle.basket_sets.proofs.theory.Rising.{Member-from_has}
 use Rattle.basket_sets.proofs.theory.Tests.{each_of}
 use Rattle.mine_conditional.specs.Paths.{is_branch}
@@ -14,10 +15,8 @@ module _ {X : Type 0} (test : Weighted → Bool) (f : Weighted → X) where
 
   pub into_picked : (places : List Weighted) (place : Weighted) → Member place places → test place ≡ true → Member (f place) (flat_map picked_place places)
   into_picked [] place m h = absurd m
-  into_picked (p ∷ places) place (inl e) h =
-      Member-append_left (f place) (picked_place p) (flat_map picked_place places)
-      (subst (λ b. Member (f place) (cond b (f p ∷ []) [])) (sym (ap test e ∙ h)) (inl (ap f e)))
-  into_picked (p ∷ places) place (inr m) h = Member-append_right (f place) (picked_place p) (flat_map picked_place places) (into_picked places place m h)
+  into_picked (p ∷ places) place (inl e) h = grind (arith, common_steps)
+  into_picked (p ∷ places) place (inr m) h = grind (arith, common_steps, into_picked places place m h)
 
   pub from_picked : (places : List Weighted) (x : X) → Member x (flat_map picked_place places) → (place : Weighted) × Member place places × (test place ≡ true) × (f place ≡ x)
   from_picked [] x m = absurd m

@@ -1,5 +1,6 @@
 -- The numbers that ranks have in a conditional database.
-use Rattle.std.proofs.Common.{◌≡◌, ℕ, ◌+◌, ◌<◌, true, List, [], ◌∷◌, ◌++◌, get_or, length, map, cond, refl, sym, ap, ◌∙◌, subst, inl, inr}
+use Rattle.std.proofs.Common.{◌≡◌, ℕ, ◌+◌, ◌<◌, true, List, [], ◌∷◌, ◌++◌, get_or, length, map, cond, refl, sym, ap, ◌∙◌, subst, inl, inr, arith}
+use Rattle.std.proofs.lemmas.Grind.{common_steps}
 use Rattle.std.specs.List.{list_all, range_with_len}
 use Rattle.std.proofs.lemmas.List.{get_or-map}
 use Rattle.std.proofs.lemmas.List.Elements.{recursion_from_All}
@@ -33,9 +34,7 @@ named_twice ranks chosen (k ∷ places) low =
 
 -- and the numbers that stand at them are in the list
 pub named_among : (chosen places : List ℕ) → AllBelow (length chosen) places → (number : ℕ) → Member number (named chosen places) → Member number chosen
-named_among chosen places low number m =
-    let d = Member-from_map (λ k. get_or chosen k 0) number places m in
-    subst (λ z. Member z chosen) d.2 (Member-at chosen d.0 (low d.0 (has-from_Member places d.0 d.1)))
+named_among chosen places low number m = grind (arith, common_steps, Member-from_map, Member, Member-at, has-from_Member)
 
 module _ (baskets : List Weighted) (least rank : ℕ) (below : RankBaskets) (is : IsConditional baskets least rank below) where
   abbrev kept : List ℕ

@@ -1,8 +1,8 @@
 use Rattle.std.proofs.Common.{◌≡◌, ◌+◌, ◌++◌, ◌∷◌, [], map, take, sym, subst, ap, ◌∙◌, arith}
+use Rattle.std.proofs.lemmas.Grind.{common_steps}
 use Rattle.std.specs.List.{sum_by}
 use Rattle.std.proofs.lemmas.List.{map-append, take_more}
-use Rattle.std.proofs.lemmas.List.Sums.{sum_by-append, sum_by-cons, sum_by_more_le}
-use Rattle.basket_sets.specs.declared.weighted.Weighted.{Weighted}
+use Rattle.std.proofs.lemmas.List.Sums.{sum_by-append, sum_by-cons}
 use Rattle.basket_sets.specs.Database.{weighted}
 use Rattle.basket_sets.specs.Support.{total_of, weight_at}
 use Rattle.mine_baskets.specs.declared.words.Word.{Word}
@@ -15,11 +15,7 @@ use Rattle.mine_baskets.proofs.theory.Weights.{word_more}
 
 -- the weight of the basket at hand is no more than what the total allows
 pub add-requires-clause-light : goal.add-requires-clause-light
-add-requires-clause-light c =
-    let more = sum_by_more_le (weight_at []) (baskets_in c.args.baskets) c.loop-index.index (weighted [] 0) (omega (arith, c.loop-index-test.true, c.len-index-end.ensures)) in
-    let weight = ap (λ (p : Weighted). p.weight) c.at-weight.ensures.basket in
-    let same = ap (sum_by (λ (word : Word). word.weight)) c.in_ok-reserve.ensures.items in
-    omega (arith, more, weight, same, c.loop-index.invariant.light, c.args.baskets.ranked.light)
+add-requires-clause-light c = grind (arith, common_steps)
 
 pub loop-index-preserved : goal.loop-index-preserved
 loop-index-preserved c =

@@ -1,5 +1,5 @@
-use Rattle.std.proofs.Common.{None, ◌+◌, ◌++◌, get_or, length, set, take, sym, ap, ◌∙◌, append_assoc, arith}
-use Rattle.std.specs.Option.{option_to_list}
+use Rattle.std.proofs.Common.{None, get_or, length, take, ap, ◌∙◌, arith}
+use Rattle.std.proofs.lemmas.Grind.{common_steps}
 use mir.Val.{bool_byte}
 use Rattle.mine_conditional.specs.LocalNumbers.{table_numbers}
 use Rattle.mine_conditional.proofs.NumberLemmas.{numbers_more, slot_put}
@@ -23,10 +23,4 @@ loop-rank-preserved c =
     let counted = c.from-end.ensures ∙ ap bool_byte c.is_some.ensures in
     let most = one_at_most c.is_some.result in
     let so_far = table_numbers of (take i basket) in
-    record {
-      few = omega (arith, was.few, most, c.from-end.ensures);
-      put = ap (λ n. take (end + c.from-end.result) (set locals end n)) c.unwrap_or.ensures
-          ∙ slot_put locals (old ++ so_far) end slot c.from-end.result (omega (arith, was.few, c.requires.room, c.loop-rank-test.true, c.loop-rank.auto.locals)) counted was.put
-          ∙ append_assoc old so_far (option_to_list slot)
-          ∙ ap (λ l. old ++ l) (sym (numbers_more (λ rank. get_or of rank None) basket i c.loop-rank-test.true));
-    }
+    grind (arith, common_steps, slot_put, numbers_more)

@@ -1,10 +1,10 @@
 use Rattle.std.proofs.Common.{◌≡◌, ℕ, Bool, List, length, map, subst, sym, ap, ◌∙◌, arith}
+use Rattle.std.proofs.lemmas.Grind.{common_steps}
 use Rattle.std.specs.List.{flat_map}
 use Rattle.std.proofs.lemmas.List.{length-map}
 use Rattle.basket_ranks.specs.Codes.{decoded_place}
 use Rattle.basket_sets.specs.declared.weighted.Weighted.{Weighted}
-use Rattle.basket_sets.specs.Counts.{AllBelow}
-use Rattle.basket_sets.specs.Itemset.{IsRising, has}
+use Rattle.basket_sets.specs.Itemset.{has}
 use Rattle.mine_classes.specs.Conditional.{kept_place}
 use Rattle.mine_baskets.specs.ListBaskets.{HaveSameWeights}
 use Rattle.mine_pairs.specs.Pairs.{kept_ranks, pairs_of}
@@ -18,19 +18,13 @@ are_kept : (baskets : List Weighted) (least rank : ℕ) (pairs : List (ℕ × �
 are_kept baskets least rank pairs is = ap ranks_of is ∙ pair_ranks baskets least rank
 
 pub below-requires-clause-rises : goal.below-requires-clause-rises
-below-requires-clause-rises c =
-    let kept = are_kept c.args.baskets.now.baskets c.args.least c.args.rank c.args.pairs.now c.requires.pairs in
-    subst IsRising (sym kept) (kept_rises c.args.baskets.now.baskets c.args.least c.args.rank)
+below-requires-clause-rises c = let kept = are_kept c.args.baskets.now.baskets c.args.least c.args.rank c.args.pairs.now c.requires.pairs in grind (arith, common_steps, kept_rises)
 
 pub below-requires-clause-below : goal.below-requires-clause-below
-below-requires-clause-below c =
-    let kept = are_kept c.args.baskets.now.baskets c.args.least c.args.rank c.args.pairs.now c.requires.pairs in
-    subst (AllBelow c.args.rank) (sym kept) (kept_below c.args.baskets.now.baskets c.args.least c.args.rank)
+below-requires-clause-below c = let kept = are_kept c.args.baskets.now.baskets c.args.least c.args.rank c.args.pairs.now c.requires.pairs in grind (arith, common_steps, kept_below)
 
 pub below-requires-clause-few : goal.below-requires-clause-few
-below-requires-clause-few c =
-    let kept = are_kept c.args.baskets.now.baskets c.args.least c.args.rank c.args.pairs.now c.requires.pairs in
-    omega (arith, ap length kept, length-map c.args.pairs.now (λ (pair : ℕ × ℕ). pair.0), kept_short c.args.baskets.now.baskets c.args.least c.args.rank)
+below-requires-clause-few c = grind (arith, common_steps, are_kept, length-map, kept_short)
 
 pub returns : goal.returns
 returns c =

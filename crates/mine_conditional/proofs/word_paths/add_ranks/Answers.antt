@@ -1,8 +1,8 @@
 use Rattle.std.proofs.Common.{arith}
+use Rattle.std.proofs.lemmas.Grind.{common_steps}
 use Rattle.std.specs.Int.{trailing_zeros, w64}
 use Rattle.std.proofs.lemmas.Nat.Bits.{bit_at-trailing_zeros}
-use Rattle.basket_sets.specs.Database.{MOST_WEIGHT}
-use Rattle.mine_conditional.proofs.RankSumLemmas.{lowest_below, lowest_fits, sums_begin, sums_end, sums_next}
+use Rattle.mine_conditional.proofs.RankSumLemmas.{lowest_below, sums_begin, sums_end, sums_next}
 use Rattle.mine_conditional.proofs.word_paths.add_ranks.Goals as goal
 
 pub loop-rest-init : goal.loop-rest-init
@@ -16,11 +16,7 @@ overflow_sub-rank-in-loop-rest c =
     omega (arith, below)
 
 pub overflow_add-sums : goal.overflow_add-sums
-overflow_add-sums c =
-    let rest = c.loop-rest.rest in
-    let bit = bit_at-trailing_zeros w64 rest (omega arith) c.loop-rest.auto.rest-fits.fits in
-    let fits = lowest_fits c.args.count rest c.args.word.now c.args.sums.now c.loop-rest.sums c.requires.count c.loop-rest.invariant (trailing_zeros w64 rest) bit.1 bit.2 MOST_WEIGHT c.requires.light in
-    omega (arith, fits)
+overflow_add-sums c = grind (arith, common_steps)
 
 pub loop-rest-preserved : goal.loop-rest-preserved
 loop-rest-preserved c =

@@ -1,7 +1,6 @@
-use Rattle.std.proofs.Common.{◌≡◌, ℕ, List, [], ◌∷◌, length, map, refl, subst, sym, ap, ◌∙◌, arith}
+use Rattle.std.proofs.Common.{◌≡◌, ℕ, List, length, map, subst, ap, ◌∙◌, arith}
+use Rattle.std.proofs.lemmas.Grind.{common_steps}
 use Rattle.basket_sets.specs.declared.weighted.Weighted.{Weighted}
-use Rattle.basket_sets.specs.Counts.{AllBelow}
-use Rattle.basket_sets.specs.Itemset.{IsRising}
 use Rattle.basket_ranks.specs.Codes.{coded_place}
 use Rattle.mine_conditional.specs.Conditional.{conditional_baskets}
 use Rattle.mine_baskets.specs.Baskets.{baskets_in}
@@ -16,15 +15,10 @@ firsts : (baskets : List Weighted) (least rank : ℕ) (pairs : List (ℕ × ℕ)
 firsts baskets least rank pairs ranks are is = is ∙ ap (map (λ (pair : ℕ × ℕ). pair.0)) are ∙ pair_ranks baskets least rank
 
 pub coded-requires-clause-rises : goal.coded-requires-clause-rises
-coded-requires-clause-rises c =
-    let kept = firsts c.args.runs.now.baskets c.args.least c.args.rank c.args.pairs.now c.in_ok-kept.kept.items c.requires.pairs c.in_ok-kept.ensures in
-    subst IsRising (sym (c.deref.ensures.value ∙ kept)) (kept_rises c.args.runs.now.baskets c.args.least c.args.rank)
+coded-requires-clause-rises c = grind (arith, common_steps, firsts, kept_rises)
 
 pub coded-requires-clause-below : goal.coded-requires-clause-below
-coded-requires-clause-below c =
-    let kept = firsts c.args.runs.now.baskets c.args.least c.args.rank c.args.pairs.now c.in_ok-kept.kept.items c.requires.pairs c.in_ok-kept.ensures in
-    subst (AllBelow c.args.numbers.now) (sym (c.deref.ensures.value ∙ kept))
-    (λ item h. let less = kept_below c.args.runs.now.baskets c.args.least c.args.rank item h in omega (arith, less, c.requires.rank, c.requires.numbers))
+coded-requires-clause-below c = grind (arith, common_steps, firsts, kept_below)
 
 pub returns-clause-below : goal.returns-clause-below
 returns-clause-below c =
