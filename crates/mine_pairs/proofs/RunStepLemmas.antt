@@ -1,5 +1,5 @@
 -- One basket more adds to the runs of its ranks.
-use Rattle.std.proofs.Common.{◌≡◌, ℕ, ◌+◌, ◌<◌, ◌≤◌, Bool, true, false, List, [], ◌∷◌, ◌++◌, length, take, get_or, cond, ltb, refl, sym, ap, ◌∙◌, subst, inl, inr, arith, zero, suc, add-zero}
+use Rattle.std.proofs.Common.{◌≡◌, ℕ, ◌+◌, ◌<◌, ◌≤◌, Bool, true, false, List, [], ◌∷◌, ◌++◌, length, take, get_or, cond, ltb, refl, sym, ap, ◌∙◌, subst, inl, inr, arith, zero, suc}
 use Rattle.std.proofs.lemmas.Grind.{common_steps}
 use Rattle.std.specs.Prelude.{All}
 use Rattle.std.specs.Cmp.Lexicographic.{bytes_decides}
@@ -7,7 +7,6 @@ use Rattle.std.specs.List.{AllByRecursion, filter, slice_range}
 use Rattle.std.proofs.lemmas.Bool.{cases_Bool, lt-ltb, ltb-true}
 use Rattle.std.proofs.lemmas.List.{map-append}
 use Rattle.std.proofs.lemmas.List.Elements.{All-from_recursion, recursion_from_All}
-use Rattle.std.proofs.lemmas.List.Sums.{sum_by-cons, sum_by-append}
 use Rattle.basket_sets.specs.declared.weighted.Weighted.{Weighted}
 use Rattle.basket_sets.specs.Database.{weighted}
 use Rattle.basket_sets.specs.Itemset.{IsRising, has}
@@ -35,8 +34,7 @@ front_is (x ∷ path) zero up here =
     filter_none (λ other. ltb other x) (x ∷ path) after
   where
     after : (y : ℕ) → Member y (x ∷ path) → ltb y x ≡ false
-    after y (inl e) = not_below y x (omega (arith, e))
-    after y (inr m) = not_below y x (let less = first_below x path up y m in omega arith)
+    after h1 h2 = grind (arith, common_steps, not_below, first_below)
 front_is (x ∷ path) (suc k) up here =
     ap (λ b. cond b (x ∷ filter (λ other. ltb other (get_or path k 0)) path) (filter (λ other. ltb other (get_or path k 0)) path))
     (lt-ltb x (get_or path k 0) (first_below x path up (get_or path k 0) (Member-at path k (omega arith))))
@@ -102,9 +100,7 @@ module _ (ranks : List ℕ) (rank : ℕ) (done : List Weighted) (index : Weighte
     places = subst (All (IsRankBasket rank)) (sym (map-append (basket_at ranks) runs (run ∷ [])))
         (All-from_recursion (IsRankBasket rank) (baskets_at ranks runs ++ basket_at ranks run ∷ [])
         (pushed_all (IsRankBasket rank) (heavier_place rank) (baskets_at ranks runs) (basket_at ranks run) (recursion_from_All (IsRankBasket rank) (baskets_at ranks runs) are.places) is));
-    weights = λ test. more_weight test
-        ∙ sym (ap (weight_where test) (map-append (basket_at ranks) runs (run ∷ [])) ∙ sum_by-append (weigh test) (baskets_at ranks runs) (basket_at ranks run ∷ [])
-        ∙ ap (λ n. weight_where test (baskets_at ranks runs) + n) (sum_by-cons (weigh test) (basket_at ranks run) [] ∙ add-zero (weigh test (basket_at ranks run))));
+    weights = λ test. grind (arith, common_steps);
   }
 
   pub heavier_are : repeats_last (baskets_at ranks runs) (basket_at ranks run).basket ≡ true → AreRunsOf ranks (done ++ index ∷ []) rank (with_last_heavier run.weight runs)
@@ -113,6 +109,5 @@ module _ (ranks : List ℕ) (rank : ℕ) (done : List Weighted) (index : Weighte
     places = subst (All (IsRankBasket rank)) (sym (heavier_baskets ranks run.weight runs))
         (All-from_recursion (IsRankBasket rank) (with_last_raised run.weight (baskets_at ranks runs))
         (raised_all (IsRankBasket rank) (heavier_place rank) run.weight (baskets_at ranks runs) (recursion_from_All (IsRankBasket rank) (baskets_at ranks runs) are.places)));
-    weights = λ test. more_weight test
-        ∙ sym (ap (weight_where test) (heavier_baskets ranks run.weight runs) ∙ raised_weight test run.weight (baskets_at ranks runs) (basket_at ranks run).basket again);
+    weights = λ test. grind (arith, common_steps, more_weight, heavier_baskets, raised_weight);
   }

@@ -65,13 +65,8 @@ module _ (first weight : ℕ) (ranks : List ℕ) (old now : List (List ℕ)) whe
         | inr differ ↦ ap length (get_or-set_other now k j row [] differ) ∙ with.long j below
       ];
       added = λ j below. elim (cases_eq j k) [
-        | inl e ↦
-            subst (λ n. WithBasket (cond (has (take (index + 1) ranks) (first + n)) ranks []) weight (row_at old n) (row_at (set now k row) n)) (sym e)
-            (λ lesser less. ap (λ l. get_or l lesser 0) (get_or-set_same now k row [] (omega arith)) ∙ whole lesser less
-            ∙ ap (λ b. get_or (row_at old k) lesser 0 + cond (has (cond b ranks []) lesser) weight 0) (sym there))
-        | inr differ ↦
-            λ lesser less. ap (λ l. get_or l lesser 0) (get_or-set_other now k j row [] differ) ∙ with.added j below lesser less
-            ∙ ap (λ b. get_or (row_at old j) lesser 0 + cond (has (cond b ranks []) lesser) weight 0) (other_front ranks index up here (first + j) (λ e. differ (omega arith)))
+        | inl e ↦ grind (arith, common_steps, get_or-set_same, whole, there)
+        | inr differ ↦ grind (arith, common_steps)
       ];
     }
       where
@@ -79,9 +74,7 @@ module _ (first weight : ℕ) (ranks : List ℕ) (old now : List (List ℕ)) whe
         there = has_more ranks index (first + k) here ∙ ap (λ b. has (take index ranks) (first + k) || b) (eq-eqb (get_or ranks index 0) (first + k) (sym is)) ∙ or-true (has (take index ranks) (first + k))
 
         whole : WithBasket ranks weight (row_at old k) row
-        whole lesser below = added lesser (omega (arith, with.long k within))
-            ∙ ap (λ n. n + cond (has (take index ranks) lesser) weight 0) (as_was lesser below)
-            ∙ ap (λ b. get_or (row_at old k) lesser 0 + cond b weight 0) (front_has ranks index up here lesser (omega arith))
+        whole lesser below = grind (arith, common_steps, as_was, front_has)
 
 pub none_added : (first weight : ℕ) (ranks : List ℕ) (rows : List (List ℕ)) → WithPairs first [] ranks weight rows rows
 none_added first weight ranks rows = record { long = λ k below. refl; added = λ k below lesser less. sym (add-zero (get_or (row_at rows k) lesser 0)) }

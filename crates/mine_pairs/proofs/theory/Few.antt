@@ -1,5 +1,6 @@
 -- The conditional database of a rank that keeps at most one other rank.
 use Rattle.std.proofs.Common.{◌≡◌, ◌⊎◌, ℕ, ◌+◌, ◌≤◌, Bool, true, false, ◌&&◌, List, [], ◌∷◌, ◌++◌, length, map, cond, refl, sym, ap, ◌∙◌, subst, inl, inr, arith}
+use Rattle.std.proofs.lemmas.Grind.{common_steps}
 use Rattle.std.specs.List.{AllByRecursion, filter, flat_map, range_with_len}
 use Rattle.std.specs.Ordering.{nat_cmp}
 use Rattle.std.proofs.lemmas.List.Kept.{IsStrictlySortedBy-filter}
@@ -11,14 +12,14 @@ use Rattle.basket_sets.specs.Database.{weighted}
 use Rattle.basket_sets.specs.Itemset.{IsRising, contains, has}
 use Rattle.basket_sets.specs.Support.{support_of}
 use Rattle.basket_sets.proofs.theory.Members.{Member, Member-filter}
-use Rattle.basket_sets.proofs.theory.Rising.{contains-refl, contains_each, first_below}
+use Rattle.basket_sets.proofs.theory.Rising.{contains_each, first_below}
 use Rattle.basket_sets.proofs.theory.Support.{support-cons, support_falls}
 use Rattle.mine_baskets.specs.ListBaskets.{HaveSameWeights, weight_where}
 use Rattle.mine_baskets.proofs.theory.Weights.{changed_weight}
 use Rattle.mine_classes.specs.Conditional.{conditional, is_kept, kept_place}
 use Rattle.mine_pairs.specs.Pairs.{first_support, kept_ranks, pairs_of}
 use Rattle.mine_classes.proofs.theory.Conditional.{conditional_supports}
-use Rattle.mine_pairs.proofs.theory.Kept.{Member-kept, kept_lower}
+use Rattle.mine_pairs.proofs.theory.Kept.{Member-kept}
 
 module _ (keeps : ℕ → Bool) (x rank : ℕ) (only : (y : ℕ) → keeps y ≡ true → y ≡ x) where
   -- a rising basket is kept to one rank or to none
@@ -50,16 +51,13 @@ module _ (keeps : ℕ → Bool) (x rank : ℕ) (only : (y : ℕ) → keeps y ≡
       -- its own weight, with the rank or without it
       own_weight : (b : Bool) (basket : List ℕ) → basket ≡ cond b (x ∷ []) []
           → cond (test basket) index.weight 0 ≡ cond (test (x ∷ [])) (cond b index.weight 0) 0 + cond (test []) (cond b 0 index.weight) 0
-      own_weight true basket is = let other = same_cond (test []) 0 in let own = ap (λ l. cond (test l) index.weight 0) is in omega (arith, other, own)
-      own_weight false basket is = let other = same_cond (test (x ∷ [])) 0 in let own = ap (λ l. cond (test l) index.weight 0) is in omega (arith, other, own)
+      own_weight h1 h2 h3 = grind (arith, common_steps)
 
       contained : (b : Bool) (basket : List ℕ) → basket ≡ cond b (x ∷ []) [] → contains basket (x ∷ []) ≡ b
-      contained true basket is = ap (λ l. contains l (x ∷ [])) is ∙ contains-refl (x ∷ [])
-      contained false basket is = ap (λ l. contains l (x ∷ [])) is
+      contained h1 h2 h3 = grind (arith, common_steps)
 
       parts : (b : Bool) (weight : ℕ) → cond b weight 0 + cond b 0 weight ≡ weight
-      parts true weight = omega arith
-      parts false weight = omega arith
+      parts h1 h2 = grind (arith, common_steps)
 
       more : (b : Bool) (basket : List ℕ) → basket ≡ cond b (x ∷ []) [] → WeighsFew test (places baskets) → WeighsFew test (weighted basket index.weight ∷ places baskets)
       more b basket is few =
@@ -118,8 +116,7 @@ module _ (baskets : List Weighted) (least rank : ℕ) where
       ∙ sym (changed_weight test (decoded []) others ∙ weigh (λ basket. test (decoded [] basket)))
     where
       not_own : (b : Bool) → is_kept baskets least rank rank ≡ b → cond (b && true) (support_of baskets (rank ∷ rank ∷ [])) 0 ≡ 0
-      not_own true e = let less = kept_lower baskets least rank rank e in absurd (omega (arith, less))
-      not_own false e = refl
+      not_own h1 h2 = grind (arith, common_steps)
   few_weights up (x ∷ []) are few with without is all others weigh test =
       weighs_so up x with without (λ y keeps. elim (subst (Member y) are (Member-kept baskets least rank y keeps)) [ inl e ↦ sym e | inr none ↦ absurd none ])
       (conditional_supports baskets least rank (x ∷ []) ∙ ap (λ b. cond (b && true) (support_of baskets (x ∷ rank ∷ [])) 0) kept_one ∙ sym is) all test

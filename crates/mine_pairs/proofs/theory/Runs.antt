@@ -61,14 +61,8 @@ module _ (path : List ℕ) (basket : Span) (shared first : ℕ) (old : List (Lis
   have_more n is here = record {
     long = length-set now n run ∙ have.long;
     on = λ k m less inside at. elim (cases_lt k depth) [
-      | inl before ↦ (let rises = rising_at path k depth up before below in
-          get_or-set_other now n m run [] (λ same. absurd (omega (arith, is, at))) ∙ have.on k m before inside at)
-      | inr after ↦ (let same : depth ≡ k = omega arith in
-          let rank : get_or path depth 0 ≡ get_or path k 0 = ap (λ j. get_or path j 0) same in
-          let one : n ≡ m = omega (arith, is, at, rank) in
-          subst (λ j. get_or (set now n run) j [] ≡ with_run (ltb k shared) (span_front basket k) (get_or old j [])) one
-          (subst (λ j. get_or (set now n run) n [] ≡ with_run (ltb j shared) (span_front basket j) (get_or old n [])) same
-          (get_or-set_same now n run [] here ∙ ap (with_run (ltb depth shared) (span_front basket depth)) (untouched n is))))
+      | inl before ↦ grind (arith, common_steps, rising_at, get_or-set_other, run)
+      | inr after ↦ grind (arith, common_steps, get_or-set_same, untouched, run)
     ];
     off = λ m other. get_or-set_other now n m run [] (λ same. other depth (omega arith) (is ∙ ap (λ j. first + j) (sym same))) ∙ have.off m (λ k less. other k (omega arith));
   }

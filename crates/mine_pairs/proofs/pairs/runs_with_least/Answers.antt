@@ -1,7 +1,6 @@
-use Rattle.std.proofs.Common.{◌≡◌, ℕ, List, ap, ◌∙◌, arith}
+use Rattle.std.proofs.Common.{◌≡◌, ℕ, List, arith}
 use Rattle.std.proofs.lemmas.Grind.{common_steps}
 use Rattle.basket_sets.specs.Support.{support_of}
-use Rattle.mine_baskets.specs.ListBaskets.{RankBaskets}
 use Rattle.mine_pairs.proofs.theory.Pairs.{same_pairs}
 use Rattle.mine_pairs.proofs.pairs.runs_with_least.Goals as goal
 
@@ -11,6 +10,5 @@ returns c =
     let least = c.least_support.result in
     let runs = c.in_ok-runs.runs in
     let made : runs ≡ c.in_ok-of_coded.field-0 = c.in_ok-runs.ensures in
-    let same : (set : List ℕ) → support_of runs.baskets set ≡ support_of coding.baskets set =
-    λ set. ap (λ (o : RankBaskets). support_of o.baskets set) made ∙ c.in_ok-of_coded.ensures.supports set in
+    let same : (set : List ℕ) → support_of runs.baskets set ≡ support_of coding.baskets set = grind (arith, common_steps) in
     grind (arith, common_steps, same_pairs)

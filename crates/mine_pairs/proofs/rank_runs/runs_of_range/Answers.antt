@@ -68,8 +68,7 @@ loop-basket-preserved c =
     let inside = c.args.baskets.within i none here in
     let is = rank_basket_at ranks count baskets i none c.args.baskets.ranked.places here in
     let back = with_items_is vec c.add_runs.new.of (omega (arith, vec.ok, c.add_runs.auto.of, c.deref_mut.ensures.len)) in
-    let have : HaveRuns path basket shared (length path) first old new = subst (λ l. HaveRuns path basket shared (length path) first (lists_in l) new) c.deref_mut.ensures.value
-    (subst (λ p. HaveRuns p basket shared (length p) first (lists_in c.deref_mut.result.now) new) c.of-path.ensures c.in_ok-add_runs.ensures) in
+    let have : HaveRuns path basket shared (length path) first old new = grind (arith, common_steps) in
     let are = λ (n : ℕ) (below : n < length old). inv.runs.are n (omega (arith, below, inv.runs.long)) in
     let again = λ (k n : ℕ) (before : k < shared) (within : k < length path) (below : n < length old) (at : get_or path k 0 ≡ first + n).
     subst (λ p. repeats_last (baskets_at ranks (get_or old n [])) (take k p) ≡ true) c.of-path.ensures

@@ -2,7 +2,6 @@ use Rattle.std.proofs.Common.{◌≡◌, ◌<◌, ◌≤◌, ◌++◌, ◌∷◌
 use Rattle.std.proofs.lemmas.Grind.{common_steps}
 use Rattle.std.specs.List.{filter, range_with_len}
 use Rattle.std.proofs.lemmas.Bool.{and_from, le-leb}
-use Rattle.std.proofs.lemmas.List.{map-append}
 use Rattle.std.proofs.lemmas.List.Elements.{filter-append}
 use Rattle.mine_pairs.specs.Sums.{is_met}
 use Rattle.mine_pairs.proofs.sums.met_in_order.Goals as goal
@@ -31,8 +30,7 @@ loop-rank-preserved c =
     ∙ filter-append met (range_with_len 0 rank) (rank ∷ []) in
     let lost = λ (e : is_met least sum ≡ false). c.loop-rank.invariant ∙ ap (map pair) (sym (more ∙ ap (λ b. so_far ++ cond b (rank ∷ []) []) e ∙ append-nil so_far)) in
     elim c.if-sum-ge1.branch [
-      | then-sum-ge1+then-sum-least+in_ok-push w ↦ ap (λ v. v.items) w.pairs-is ∙ w.in_ok-push.ensures.items ∙ ap (λ l. l ++ pair rank ∷ []) c.loop-rank.invariant
-          ∙ sym (ap (map pair) (more ∙ ap (λ b. so_far ++ cond b (rank ∷ []) []) (met_sum least sum w.if-sum-ge1.true w.if-sum-least.true)) ∙ map-append pair so_far (rank ∷ []))
+      | then-sum-ge1+then-sum-least+in_ok-push w ↦ grind (arith, common_steps)
       | else-sum-ge1 w ↦ ap (λ v. v.items) w.pairs-is ∙ lost (elim w.else-sum-ge1.branch [
         | else-sum-ge1-via-then-sum-ge1+else-sum-least w' ↦ low_sum least sum w'.if-sum-least.false
         | else-sum-ge1-via-else-sum-ge1 w' ↦ no_sum least sum w'.if-sum-ge1.false
