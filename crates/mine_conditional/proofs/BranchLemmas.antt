@@ -57,8 +57,7 @@ fills (suc n) a (x ∷ xs) up within long z low high =
     ]
   where
     later : (y : ℕ) → Member y (x ∷ xs) → a < x → a + 1 ≤ y
-    later y (inl e) more = omega arith
-    later y (inr m) more = let next = first_below x xs up y m in omega arith
+    later h1 h2 h3 = grind (arith, common_steps, first_below)
 
 -- ---- weights
 

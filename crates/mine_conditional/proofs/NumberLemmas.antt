@@ -5,8 +5,8 @@ use Rattle.std.specs.Prelude.{All, replicate}
 use Rattle.std.specs.List.{AllByRecursion, cons_option, filter_map}
 use Rattle.std.specs.Option.{is_some, option_to_list}
 use mir.Val.{bool_byte}
-use Rattle.std.proofs.lemmas.Bool.{cases_Bool, cases_eq, cases_lt, eq-eqb, ne_eqb, true≢false}
-use Rattle.std.proofs.lemmas.List.{ext_get_or, get_or_default, get_or-set_same, get_or-set_other, get_or-take, length-replicate, length-take, map-append, take_more}
+use Rattle.std.proofs.lemmas.Bool.{cases_Bool, cases_eq, cases_lt, eq-eqb, ne_eqb}
+use Rattle.std.proofs.lemmas.List.{ext_get_or, get_or_default, get_or-set_other, get_or-take, length-replicate, length-take, map-append, take_more}
 use Rattle.std.proofs.lemmas.List.Elements.{All-from_recursion, recursion_from_All}
 use Rattle.basket_sets.specs.declared.weighted.Weighted.{Weighted}
 use Rattle.basket_ranks.specs.Codes.{coded, coded_place, rank_from, rank_of}
@@ -20,7 +20,6 @@ use Rattle.mine_baskets.specs.declared.span.Span.{Span}
 use Rattle.mine_baskets.specs.ListBaskets.{AreRankBaskets, IsRankBasket}
 use Rattle.mine_conditional.specs.LocalNumbers.{AreNumbers, HasNumbers, by_table, table_numbers}
 use Rattle.mine_baskets.specs.Span.{IsWithin, baskets_at}
-use Rattle.basket_sets.proofs.theory.Rising.{has_more}
 use Rattle.mine_baskets.proofs.theory.Neighbours.{pushed_basket}
 
 pub index_le : (xs : List ℕ) (k : ℕ) → IsRising xs → k < length xs → k ≤ get_or xs k 0
@@ -70,16 +69,10 @@ module _ {T : Type 0} (made_of : Option ℕ → T) (kept : List ℕ) (up : IsRis
     at = λ k below. (let within : k < i + 1 = omega (arith, below, length-take (i + 1) kept) in
         let same = get_or-take (i + 1) kept k 0 within in
         ap (λ r. get_or new r (made_of None)) same ∙ (elim (cases_lt k i) [
-          | inl less ↦ (let rises = rising_at kept k i up less here in
-              let before = get_or-take i kept k 0 less in
-              get_or-set_other table (get_or kept i 0) (get_or kept k 0) (made_of (Some i)) (made_of None) (λ e. absurd (omega arith))
-              ∙ ap (λ r. get_or table r (made_of None)) (sym before) ∙ are.at k (omega (arith, length-take i kept)))
-          | inr last ↦ (let is : i ≡ k = omega arith in
-              subst (λ j. get_or new (get_or kept j 0) (made_of None) ≡ made_of (Some j)) is (get_or-set_same table (get_or kept i 0) (made_of (Some i)) (made_of None) inside))
+          | inl less ↦ grind (arith, common_steps, rising_at, get_or-take, get_or-set_other, length-take)
+          | inr last ↦ grind (arith, common_steps)
         ]));
-    none = λ rank missing.
-        let both = neither (has (take i kept) rank) (eqb (get_or kept i 0) rank) (sym (has_more kept i rank here) ∙ missing) in
-        get_or-set_other table (get_or kept i 0) rank (made_of (Some i)) (made_of None) (λ same. true≢false (sym (eq-eqb (get_or kept i 0) rank (sym same)) ∙ both.1)) ∙ are.none rank both.0;
+    none = λ rank missing. grind (arith, common_steps);
   }
     where
       new : List T
@@ -155,10 +148,7 @@ module _ (kept : List ℕ) (up : IsRising kept) where
       ]
         where
           no_more : (i j : ℕ) → i ≤ j → j < length kept → get_or kept i 0 ≤ get_or kept j 0
-          no_more i j le here = elim (cases_eq i j) [
-            | inl same ↦ (let is = ap (λ k. get_or kept k 0) same in omega arith)
-            | inr differ ↦ (let less = rising_at kept i j up (omega arith) here in omega arith)
-          ]
+          no_more i j le here = grind (arith, common_steps, cases_eq, rising_at)
 
       at : (o : Option ℕ) → rank_of kept first ≡ o → IsRising (numbers_in kept basket) → IsRising (cons_option o (numbers_in kept basket))
       at None e rest = rest

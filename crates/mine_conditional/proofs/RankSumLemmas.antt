@@ -1,5 +1,5 @@
 -- Sums to which the weight of a word is added at its ranks, from the lowest bit on.
-use Rattle.std.proofs.Common.{◌≡◌, ◌≢◌, ℕ, ◌+◌, ◌-◌, ◌/◌, ◌%◌, ◌^◌, ◌<◌, ◌≤◌, List, cond, eqb, get_or, length, set, refl, sym, ap, ◌∙◌, subst, inl, inr, arith}
+use Rattle.std.proofs.Common.{◌≡◌, ℕ, ◌+◌, ◌-◌, ◌/◌, ◌%◌, ◌^◌, ◌<◌, ◌≤◌, List, cond, eqb, get_or, length, set, refl, sym, ap, ◌∙◌, subst, inl, inr, arith}
 use Rattle.std.proofs.lemmas.Grind.{common_steps}
 use Rattle.std.specs.Prelude.{bit_and}
 use Rattle.std.specs.Int.{bit_at}
@@ -63,9 +63,6 @@ module _ (count rest : ℕ) (word : Word) (old new : List ℕ) (few : count ≤ 
                 let now = ap (λ r. get_or (set new rank added) r 0) same ∙ get_or-set_same new rank added 0 (omega (arith, inside, lowest_below, has.long)) in
                 let before = ap (λ r. get_or new r 0) same in
                 omega (arith, own, gone, now, before, has.sums other low))
-            | inr differ ↦
-                (let apart : count - 1 - other ≢ lowest = λ e. differ (omega (arith, e, low)) in
-                let kept = ap (λ b. cond (eqb b 1) word.weight 0) (without_lowest_other rest lowest one zeros (count - 1 - other) apart) in
-                omega (arith, kept, get_or-set_other new rank other added 0 differ, has.sums other low))
+            | inr differ ↦ grind (arith, common_steps, without_lowest_other, get_or-set_other)
           ];
     }

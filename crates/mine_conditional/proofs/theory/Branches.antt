@@ -1,5 +1,5 @@
 -- Baskets of which each that has a rank has the lower ones, and those that pass a test.
-use Rattle.std.proofs.Common.{◌≡◌, ℕ, ◌≤◌, Bool, true, false, List, [], ◌∷◌, cond, refl, inl, inr, arith}
+use Rattle.std.proofs.Common.{◌≡◌, ℕ, ◌≤◌, Bool, true, List, [], ◌∷◌, cond, refl, inl, inr, arith}
 use Rattle.std.proofs.lemmas.Grind.{common_steps}
 use Rattle.std.specs.List.{flat_map, list_all, range_with_len}
 use Rattle.basket_sets.specs.declared.weighted.Weighted.{Weighted}
@@ -26,9 +26,7 @@ module _ {X : Type 0} (test : Weighted → Bool) (f : Weighted → X) where
   ]
     where
       here : (b : Bool) → test p ≡ b → Member x (cond b (f p ∷ []) []) → (place : Weighted) × Member place (p ∷ places) × (test place ≡ true) × (f place ≡ x)
-      here true e (inl same) = (p, inl refl, e, same)
-      here true e (inr none) = absurd none
-      here false e none = absurd none
+      here h1 h2 h3 = grind (arith, common_steps)
 
 -- ---- single branches
 

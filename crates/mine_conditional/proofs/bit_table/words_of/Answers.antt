@@ -1,17 +1,14 @@
-use Rattle.std.proofs.Common.{◌≡◌, ◌+◌, ◌++◌, ◌∷◌, [], map, take, sym, subst, ap, ◌∙◌, arith}
+use Rattle.std.proofs.Common.{◌≡◌, ◌+◌, ◌++◌, ◌∷◌, [], map, take, sym, ap, ◌∙◌, arith}
 use Rattle.std.proofs.lemmas.Grind.{common_steps}
 use Rattle.std.specs.List.{sum_by}
-use Rattle.std.proofs.lemmas.List.{map-append, take_more}
+use Rattle.std.proofs.lemmas.List.{map-append}
 use Rattle.std.proofs.lemmas.List.Sums.{sum_by-append, sum_by-cons}
 use Rattle.basket_sets.specs.Database.{weighted}
 use Rattle.basket_sets.specs.Support.{total_of, weight_at}
 use Rattle.mine_baskets.specs.declared.words.Word.{Word}
 use Rattle.mine_baskets.specs.Baskets.{baskets_in}
-use Rattle.mine_baskets.specs.ListBaskets.{HaveSameWeights}
-use Rattle.mine_baskets.specs.Words.{word_place, word_places}
 use Rattle.mine_conditional.specs.BitTable.{table_word}
 use Rattle.mine_conditional.proofs.bit_table.words_of.Goals as goal
-use Rattle.mine_baskets.proofs.theory.Weights.{word_more}
 
 -- the weight of the basket at hand is no more than what the total allows
 pub add-requires-clause-light : goal.add-requires-clause-light
@@ -25,8 +22,7 @@ loop-index-preserved c =
     let basket = weighted c.at-weight.result.0.now c.at-weight.result.1 in
     let word : Word = record { bits = c.bits_of-bits.result; weight = basket.weight } in
     let is : table_word of basket ≡ word = ap (λ bits. record { bits = bits; weight = basket.weight }) (sym c.bits_of-bits.ensures) in
-    let next : take i all ++ basket ∷ [] ≡ take (i + 1) all =
-    (λ k. take i all ++ c.at-weight.ensures.basket k ∷ []) ∙ sym (take_more all i (weighted [] 0) (omega (arith, c.loop-index-test.true, c.len-index-end.ensures))) in
+    let next : take i all ++ basket ∷ [] ≡ take (i + 1) all = grind (arith, common_steps) in
     let grown = sym (ap total_of next) ∙ sum_by-append (weight_at []) (take i all) (basket ∷ []) in
     let one = sum_by-cons (weight_at []) basket [] in
     let longer : map (table_word of) (take i all) ++ table_word of basket ∷ [] ≡ map (table_word of) (take (i + 1) all) =
@@ -38,8 +34,5 @@ loop-index-preserved c =
     record {
       some = c.in_ok-add.ensures.some;
       light = omega (arith, c.in_ok-add.ensures.light, same, c.loop-index.invariant.light, grown, one);
-      weights = λ count. subst (λ l. HaveSameWeights l (word_places count new))
-          (sym (map-append (word_place count) (map (table_word of) (take i all)) (table_word of basket ∷ [])) ∙ ap (word_places count) longer)
-          (word_more count (word_places count (map (table_word of) (take i all))) (word_place count (table_word of basket)) old new word (ap (word_place count) is)
-          (c.loop-index.invariant.weights count) (subst (λ l. HaveSameWeights (word_places count (l ++ word ∷ [])) (word_places count new)) kept (c.in_ok-add.ensures.weights count)));
+      weights = λ count. grind (arith, common_steps);
     }

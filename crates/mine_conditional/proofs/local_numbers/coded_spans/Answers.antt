@@ -1,4 +1,5 @@
 use Rattle.std.proofs.Common.{◌≡◌, ◌≤◌, ◌+◌, ◌++◌, length, take, drop, refl, subst, sym, ap, ◌∙◌, arith}
+use Rattle.std.proofs.lemmas.Grind.{common_steps}
 use Rattle.std.specs.Prelude.{All}
 use Rattle.std.proofs.lemmas.List.{length-append, length-take-le}
 use Rattle.basket_sets.specs.Database.{weighted}
@@ -9,7 +10,6 @@ use Rattle.mine_baskets.specs.Span.{IsWithin, baskets_at}
 use Rattle.mine_conditional.proofs.NumberLemmas.{placed_more}
 use Rattle.std.proofs.lemmas.List.{with_items_is}
 use Rattle.mine_conditional.proofs.local_numbers.coded_spans.Goals as goal
-use Rattle.mine_baskets.proofs.theory.Neighbours.{within_push}
 
 pub loop-index-preserved : goal.loop-index-preserved
 loop-index-preserved c =
@@ -21,8 +21,7 @@ loop-index-preserved c =
     let more = table_numbers c.args.of.now c.at-weight.result.0.now in
     let made = c.make_room.new.list in
     let same : take made.len (now ++ drop (length now) made.items) ≡ now = with_items_is made now (omega (arith, made.ok, c.put_numbers-end.auto.locals, c.deref_mut.ensures.len)) in
-    let grown : take c.put_numbers-end.result now ≡ locals ++ more = c.put_numbers-end.ensures.numbers
-    ∙ ap (λ l. l ++ more) (ap (take first) c.deref_mut.ensures.value ∙ c.in_ok-make_room.ensures.front) in
+    let grown : take c.put_numbers-end.result now ≡ locals ++ more = grind (arith, common_steps) in
     let span : Span = record { start = c.in_ok-start.start; end = c.in_ok-as_index.field-0; weight = c.at-weight.result.1 } in
     let pushed = c.in_ok-push.ensures.items in
     let front : length locals ≡ first = length-take-le first c.loop-index.locals.items (omega (arith, was.room)) in
@@ -31,8 +30,7 @@ loop-index-preserved c =
     let inside : IsWithin c.put_numbers-end.result span = record { ordered = omega (arith, c.in_ok-start.ensures, c.in_ok-as_index.ensures, long); within = omega (arith, c.in_ok-as_index.ensures) } in
     record {
       room = subst (λ l. c.put_numbers-end.result ≤ length l) (sym same) (omega (arith, c.put_numbers-end.ensures.within, c.put_numbers-end.auto.locals));
-      within = subst (All (IsWithin c.put_numbers-end.result)) (sym pushed)
-          (within_push first c.put_numbers-end.result spans span (omega (arith, long)) was.within inside);
+      within = grind (arith, common_steps);
       placed = ap (λ l. baskets_at (take c.put_numbers-end.result l) c.push.new.self.items) same
           ∙ ap (λ l. baskets_at l c.push.new.self.items) grown ∙ ap (baskets_at (locals ++ more)) pushed
           ∙ placed_more (baskets_in c.args.baskets) locals c.args.of.now spans c.loop-index.index (weighted c.at-weight.result.0.now c.at-weight.result.1) span

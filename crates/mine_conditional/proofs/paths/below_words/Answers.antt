@@ -1,4 +1,4 @@
-use Rattle.std.proofs.Common.{◌≡◌, ℕ, Bool, List, length, map, subst, sym, ap, ◌∙◌, arith}
+use Rattle.std.proofs.Common.{◌≡◌, ℕ, List, length, map, subst, sym, ap, ◌∙◌, arith}
 use Rattle.std.proofs.lemmas.Grind.{common_steps}
 use Rattle.std.specs.List.{flat_map}
 use Rattle.std.proofs.lemmas.List.{length-map}
@@ -36,6 +36,5 @@ returns c =
     record {
       ranks = c.in_ok-below.ensures.ranks ∙ sym (length-map c.args.pairs.now (λ (pair : ℕ × ℕ). pair.0)) ∙ ap length kept;
       ranked = c.in_ok-below.ensures.ranked;
-      weights = subst (λ (keeps : ℕ → Bool). HaveSameWeights (flat_map (kept_place keeps rank) baskets) (map (decoded_place (kept_ranks baskets c.args.least rank)) below))
-          (λ i other. has_kept baskets c.args.least rank other i) by_list;
+      weights = grind (arith, common_steps, has_kept);
     }
