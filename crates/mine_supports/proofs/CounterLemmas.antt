@@ -1,5 +1,6 @@
 -- Counts with the supports of sets in one block after another added.
-use Rattle.std.proofs.Common.{◌≡◌, ℕ, ◌+◌, ◌-◌, ◌<◌, ◌≤◌, List, [], ◌∷◌, ◌++◌, length, take, drop, get_or, refl, sym, ap, ◌∙◌, subst, inl, inr, arith, map, zero-add}
+use Rattle.std.proofs.Common.{◌≡◌, ℕ, ◌+◌, ◌-◌, ◌<◌, ◌≤◌, List, [], ◌∷◌, ◌++◌, length, take, drop, get_or, refl, sym, ap, ◌∙◌, inl, inr, arith, map, zero-add}
+use Rattle.std.proofs.lemmas.Grind.{common_steps}
 use Rattle.std.specs.Prelude.{replicate}
 use Rattle.std.proofs.Math.ListN.{set}
 use Rattle.std.proofs.lemmas.Bool.{cases_lt}
@@ -18,13 +19,11 @@ use Rattle.mine_supports.proofs.theory.Frequent.{sets_next}
 module _ (sets : List (List ℕ)) (baskets part : List Weighted) (start size : ℕ) (is : part ≡ take size (drop start baskets)) (old counts : List ℕ) (long : length counts ≡ length old)
     (before : WithSupports sets (take start baskets) old counts) where
   joined : (set : List ℕ) → support_of (take (start + size) baskets) set ≡ support_of (take start baskets) set + support_of part set
-  joined set =
-      ap (λ l. support_of l set) (take-add start size baskets ∙ ap (λ l. take start baskets ++ l) (sym is)) ∙ support-append (take start baskets) part set
+  joined set = grind (arith, common_steps, set, take-add, support-append)
 
   -- a block more
   pub supports_joined : (new : List ℕ) → WithSupports sets part counts new → WithSupports sets (take (start + size) baskets) old new
-  supports_joined new now k inside within =
-      let a = before k inside within in let b = now k inside (omega arith) in let c = joined (get_or sets k []) in omega arith
+  supports_joined new now k inside within = grind (arith, common_steps, joined)
 
   -- the counts have room for the next block
   pub block_fits : length old ≡ length sets → ((k : ℕ) → k < length old → get_or old k 0 + total_of baskets ≤ MOST_WEIGHT)
@@ -70,8 +69,7 @@ more_added sets more baskets start old counts new first next = record {
 }
 
 pub all_added : (sets : List (List ℕ)) (baskets : List Weighted) (old new : List ℕ) → AreAdded sets baskets 0 old new → WithSupports sets baskets old new
-all_added sets baskets old new are k inside within =
-    let e : 0 + k ≡ k = omega arith in subst (λ n. get_or new n 0 ≡ get_or old n 0 + support_of baskets (get_or sets k [])) e (are.added k inside)
+all_added sets baskets old new are k inside within = let e : 0 + k ≡ k = omega arith in grind (arith, common_steps)
 
 -- ---- the sets of a prefix more
 
@@ -80,10 +78,7 @@ module _ (groups : List Group) (number start : ℕ) (d : Group) (below : number 
   group = get_or groups number d
 
   pub next_start : start + length group.items ≡ length (sets_of (take (number + 1) groups))
-  next_start =
-      let all = ap length (sets_next groups number d below) ∙ length-append (sets_of (take number groups)) (extend group.prefix group.items) in
-      let more = length-map group.items (λ item. group.prefix ++ item ∷ []) in
-      omega (arith, all, more, starts)
+  next_start = grind (arith, common_steps)
 
   pub next_within : start + length group.items ≤ length (sets_of groups)
   next_within =
@@ -93,14 +88,10 @@ module _ (groups : List Group) (number start : ℕ) (d : Group) (below : number 
 
   pub group_added : (baskets : List Weighted) (old counts new : List ℕ) → AreAdded (sets_of (take number groups)) baskets 0 old counts → AreAdded (extend group.prefix group.items) baskets start counts new
       → AreAdded (sets_of (take (number + 1) groups)) baskets 0 old new
-  group_added baskets old counts new before now =
-      let at : start ≡ 0 + length (sets_of (take number groups)) = omega (arith, starts) in
-      subst (λ s. AreAdded s baskets 0 old new) (sym (sets_next groups number d below))
-      (more_added (sets_of (take number groups)) (extend group.prefix group.items) baskets 0 old counts new before (subst (λ n. AreAdded (extend group.prefix group.items) baskets n counts new) at now))
+  group_added baskets old counts new before now = grind (arith, common_steps, sets_next, more_added)
 
 pub some_list : (l : List (List ℕ)) → (l ≡ [] → ⊥) → 1 ≤ length l
-some_list [] none = absurd (none refl)
-some_list (x ∷ l) none = omega arith
+some_list h1 h2 = grind (arith, common_steps)
 
 -- counts that begin with 0
 pub counts_are_supports : (sets : List (List ℕ)) (baskets : List Weighted) (old new : List ℕ) → old ≡ replicate (length sets) 0 → length new ≡ length old → WithSupports sets baskets old new

@@ -1,5 +1,6 @@
 -- Baskets that can contain a set of so many items.
-use Rattle.std.proofs.Common.{◌≡◌, ℕ, suc, ◌+◌, ◌<◌, ◌≤◌, ◌||◌, true, false, not, List, [], ◌∷◌, ◌++◌, length, filter, take, get_or, cond, Some, refl, sym, ap, ◌∙◌, subst, inl, inr, arith}
+use Rattle.std.proofs.Common.{◌≡◌, ℕ, suc, ◌+◌, ◌<◌, ◌≤◌, ◌||◌, true, not, List, [], ◌∷◌, ◌++◌, length, take, get_or, Some, refl, sym, ◌∙◌, subst, inl, inr, arith}
+use Rattle.std.proofs.lemmas.Grind.{common_steps}
 use Rattle.std.specs.Prelude.{nat_eq}
 use Rattle.std.specs.Cmp.{nat_eq_equiv}
 use Rattle.std.specs.List.{All, list_any, slice_get}
@@ -17,27 +18,16 @@ use Rattle.basket_sets.proofs.theory.Support.{support-cons}
 use Rattle.mine_supports.specs.Extensions.{Group, extend, lists_of, prefixes_of, sets_of}
 use Rattle.mine_supports.specs.Needed.{AreAtLeast, IsAtLeast, is_needed, needed}
 use Rattle.mine_supports.specs.UsedItems.{AreUsed}
-use Rattle.mine_supports.proofs.theory.Extensions.{sets_push}
 
 -- ---- sets of at least so many items
 
 fewer : (most least : ℕ) → least ≤ most → (set : List ℕ) → IsAtLeast most set → IsAtLeast least set
-fewer most least le set is = record {
-  some = is.some;
-  rises = is.rises;
-  within = is.within;
-  enough = let enough = is.enough in omega arith;
-}
+fewer most least le set is = grind (arith, common_steps)
 
 -- the sets of one more prefix
 pub at_least_more : (groups : List Group) (i : ℕ) (d : Group) (most least more : ℕ) → i < length groups → least ≤ most → least ≤ more → AreAtLeast most (sets_of (take i groups))
     → AreAtLeast more (extend (get_or groups i d).prefix (get_or groups i d).items) → AreAtLeast least (sets_of (take (i + 1) groups))
-at_least_more groups i d most least more below le less before now =
-    let group = get_or groups i d in
-    subst (AreAtLeast least) (sym (ap sets_of (take_more groups i d below) ∙ sets_push (take i groups) group.prefix group.items))
-    (All-append (IsAtLeast least) (sets_of (take i groups)) (extend group.prefix group.items)
-    (λ k e within. fewer most least le (get_or (sets_of (take i groups)) k e) (before k e within))
-    (λ k e within. fewer more least less (get_or (extend group.prefix group.items) k e) (now k e within)))
+at_least_more groups i d most least more below le less before now = grind (arith, common_steps, take_more groups i d below)
 
 -- a prefix has its items with any item more
 pub prefix_at_least : (prefix items : List ℕ) → IsRising prefix → AreAtLeast (length prefix) (extend prefix items)
@@ -105,25 +95,12 @@ no_longer set items up into =
 
 module _ (used : List ℕ) (least : ℕ) where
   has_enough : (first : Weighted) (set : List ℕ) → contains used set ≡ true → IsAtLeast least set → contains first.basket set ≡ true → is_needed used least first ≡ true
-  has_enough first set uses is holds =
-      let few = no_longer is.some (filter (has used) first.basket) is.rises (λ item m.
-      let n = has_each set is.some is.within item m in
-      Member-from_filter (has used) item first.basket (has_each first.basket set holds item n) (has-from_Member used item (has_each used set uses item n))) in
-      let enough = is.enough in
-      le-leb least (length (filter (has used) first.basket)) (omega arith)
+  has_enough first set uses is holds = grind (arith, common_steps, no_longer, has_each, Member-from_filter, has-from_Member, le-leb)
 
   -- a set of used items has the support among those that are needed that it has among all
   pub needed_support : (set : List ℕ) → contains used set ≡ true → IsAtLeast least set → (baskets : List Weighted) → support_of (needed used least baskets) set ≡ support_of baskets set
   needed_support set uses is [] = refl
-  needed_support set uses is (first ∷ baskets) =
-      let rest = needed used least baskets in
-      let same = needed_support set uses is baskets in
-      cond_both (is_needed used least first) (first ∷ rest) rest (λ l. support_of l set ≡ support_of (first ∷ baskets) set)
-      (λ e. omega (arith, same, support-cons first rest set, support-cons first baskets set))
-      (λ e. elim (cases_Bool (contains first.basket set)) [
-        | inl holds ↦ absurd (true≢false (sym (has_enough first set uses is holds) ∙ e))
-        | inr none ↦ (let zero = ap (λ b. cond b first.weight 0) none in omega (arith, same, zero, support-cons first baskets set))
-      ])
+  needed_support set uses is (first ∷ baskets) = grind (arith, common_steps, needed_support set uses is baskets, cond_both, support-cons, cases_Bool, true≢false, has_enough)
 
   pub needed_total : (baskets : List Weighted) → total_of (needed used least baskets) ≤ total_of baskets
   needed_total baskets = omega (arith, sum_by-filter_both (is_needed used least) (λ b. not (is_needed used least b)) (λ b. refl) (weight_at []) baskets)

@@ -1,5 +1,6 @@
 -- The ones of words.
-use Rattle.std.proofs.Common.{◌≡◌, ℕ, zero, suc, ◌+◌, ◌*◌, ◌/◌, ◌%◌, ◌<◌, ◌^◌, refl, sym, ap, ◌∙◌, arith, min, max}
+use Rattle.std.proofs.Common.{◌≡◌, ℕ, zero, suc, ◌+◌, ◌*◌, ◌/◌, ◌%◌, ◌<◌, ◌^◌, sym, ap, ◌∙◌, arith, min, max}
+use Rattle.std.proofs.lemmas.Grind.{common_steps}
 use Rattle.std.specs.Prelude.{bit_and, bit_or, count_ones}
 use Rattle.std.specs.Int.{bit_at}
 use Rattle.std.specs.Int.Bits.{or_add_and}
@@ -8,9 +9,7 @@ use Rattle.std.proofs.lemmas.Nat.Bits.{bit_at_and, bit_at_or, bit_at-zero, bit_a
 
 ones_bit : (n : ℕ) → n < 2 → count_ones n ≡ n
 unfolding lib.Count.ones
-ones_bit zero low = refl
-ones_bit (suc zero) low = refl
-ones_bit (suc (suc n)) low = absurd (omega arith)
+ones_bit h1 h2 = grind (arith, common_steps)
 
 double : (n : ℕ) → 2 ^ suc n ≡ 2 ^ n * 2
 double n = let e : suc n ≡ n + 1 = omega arith in ap (λ m. 2 ^ m) e ∙ pow-add 2 n 1
@@ -61,10 +60,7 @@ below_power (suc n) = let rest = below_power n in let power = double n in omega 
 
 -- what a word shares with two words that share none
 pub ones_shared : (a b x : ℕ) → bit_and a b ≡ 0 → count_ones (bit_and (bit_or a b) x) ≡ count_ones (bit_and a x) + count_ones (bit_and b x)
-ones_shared a b x none =
-    let fits = below_power (a + b) in
-    ap count_ones (and_or a b x)
-    ∙ ones_or (a + b) (bit_and a x) (bit_and b x) (omega (arith, and_le_l a x)) (omega (arith, and_le_l b x)) (apart a b x none)
+ones_shared a b x none = let fits = below_power (a + b) in grind (arith, common_steps, and_or, ones_or, and_le_l, apart)
 
 -- what a word shares with the word of one tid
 pub one_shared : (j x : ℕ) → count_ones (bit_and (2 ^ j) x) ≡ bit_at x j

@@ -1,9 +1,9 @@
 -- The tids of the prefixes of sets.
 use Rattle.std.specs.declared.alloc.Global.{Global}
+use Rattle.std.proofs.lemmas.Grind.{common_steps}
 use Rattle.std.specs.declared.vec.Vec.{Vec}
-use Rattle.std.proofs.Common.{◌≡◌, ℕ, ◌+◌, ◌-◌, ◌<◌, ◌≤◌, List, [], ◌∷◌, ◌++◌, length, drop, take, get_or, refl, sym, ap, ◌∙◌, subst, inl, inr, arith}
-use Rattle.std.proofs.lemmas.Bool.{cases_lt}
-use Rattle.std.proofs.lemmas.List.{get_or-map, length-map, take-append-drop, take-append-le, take_rest, get_or-take, get_or_append_left, get_or_push, get_or_default, length-take, length_push, take-take, take_more}
+use Rattle.std.proofs.Common.{◌≡◌, ℕ, ◌+◌, ◌-◌, ◌<◌, ◌≤◌, List, [], ◌∷◌, ◌++◌, length, drop, take, get_or, refl, sym, ap, ◌∙◌, subst, arith}
+use Rattle.std.proofs.lemmas.List.{get_or-map, length-map, take-append-drop, take_rest, get_or-take, get_or_default, length-take, take-take, take_more}
 use Rattle.basket_sets.specs.declared.weighted.Weighted.{Weighted}
 use Rattle.basket_sets.specs.Support.{support_of}
 use Rattle.mine_supports.specs.declared.tid_words.TidWord.{TidWord}
@@ -16,16 +16,7 @@ use Rattle.mine_supports.proofs.TidLemmas.{are_kept}
 -- the tids of one more prefix
 prefix_added : (baskets : List Weighted) (items : List ℕ) (prefixes : List (Vec TidWord Global)) (new : Vec TidWord Global) (depth : ℕ) → length prefixes ≡ depth → AreTidsOf baskets (take depth items) new.items
     → ArePrefixes baskets items prefixes → ArePrefixes baskets items (prefixes ++ new ∷ [])
-prefix_added baskets items prefixes new depth long are before = record {
-  some = omega (arith, length_push prefixes new);
-  each = λ k d below. elim (cases_lt k (length prefixes)) [
-    | inl less ↦ subst (λ (v : Vec TidWord Global). AreTidsOf baskets (take k items) v.items) (sym (get_or_append_left prefixes (new ∷ []) d k less)) (before.each k d less)
-    | inr past ↦
-        (let same : depth ≡ k = omega (arith, length_push prefixes new) in
-        subst (λ (v : Vec TidWord Global). AreTidsOf baskets (take k items) v.items) (sym (get_or_push prefixes new d k (long ∙ same)))
-        (subst (λ n. AreTidsOf baskets (take n items) new.items) same are))
-  ];
-}
+prefix_added baskets items prefixes new depth long are before = grind (arith, common_steps)
 
 -- the tids of the last prefix
 pub last_prefix : (baskets : List Weighted) (items : List ℕ) (prefixes : List (Vec TidWord Global)) (tids : List TidWord) → ArePrefixes baskets items prefixes → AreLast prefixes tids
@@ -66,11 +57,7 @@ prefixes_shared baskets before items count prefixes shared are = record {
 
 -- the tids of a set's prefixes are those of a longer set's
 prefixes_longer : (baskets : List Weighted) (items : List ℕ) (item : ℕ) (prefixes : List (Vec TidWord Global)) → length prefixes ≤ 1 + length items → ArePrefixes baskets items prefixes → ArePrefixes baskets (items ++ item ∷ []) prefixes
-prefixes_longer baskets items item prefixes short are = record {
-  some = are.some;
-  each = λ depth d below.
-      subst (λ l. AreTidsOf baskets l (get_or prefixes depth d).items) (sym (take-append-le depth items (item ∷ []) (omega arith))) (are.each depth d below);
-}
+prefixes_longer baskets items item prefixes short are = grind (arith, common_steps)
 
 -- if no basket contains a prefix, none contains the sets that extend it
 pub none_added : (baskets : List Weighted) (prefix items : List ℕ) (start : ℕ) (counts : List ℕ) (prefixes : List (Vec TidWord Global)) → length prefixes ≤ 1 + length prefix → ArePrefixes baskets prefix prefixes

@@ -1,17 +1,17 @@
 -- Rows of bits, one after another, whose bits are set one by one.
 use Rattle.std.proofs.Common.{◌≡◌, ℕ, zero, suc, ◌+◌, ◌*◌, ◌/◌, ◌%◌, ◌<◌, ◌≤◌, ◌^◌, Bool, false, ◌&&◌, ◌||◌, List, [], ◌∷◌, ◌++◌, length, take, drop, get_or, map, eqb, refl, sym, ap, ◌∙◌, inl, inr, arith, w64}
+use Rattle.std.proofs.lemmas.Grind.{common_steps}
 use Rattle.std.specs.Prelude.{bit_or}
 use Rattle.std.specs.Int.{bit_at}
 use Rattle.std.proofs.Math.ListN.{set}
-use Rattle.std.proofs.lemmas.Bool.{and_parts, cases_eq, cases_lt, eqb-true, false_from_ne_true}
+use Rattle.std.proofs.lemmas.Bool.{and_parts, cases_eq, eqb-true, false_from_ne_true}
 use Rattle.std.proofs.lemmas.Bool.Decides.{nat_tests}
-use Rattle.std.proofs.lemmas.List.{get_or-set_other, get_or-drop, get_or-take, get_or_past, length-take, length-map, length_push, map-append}
+use Rattle.std.proofs.lemmas.List.{get_or-set_other, get_or_past, length-map, length_push}
 use Rattle.std.proofs.lemmas.Grind.{get_or-set_at}
 use Rattle.std.proofs.lemmas.Nat.{div-mul-add}
-use Rattle.std.proofs.lemmas.Nat.Bits.{bit_at-zero, bit_at_set_other, bit_at_set_same}
+use Rattle.std.proofs.lemmas.Nat.Bits.{bit_at_set_other, bit_at_set_same}
 use Rattle.basket_sets.specs.declared.weighted.Weighted.{Weighted}
 use Rattle.basket_sets.specs.Itemset.{IsRising, has}
-use Rattle.basket_sets.proofs.theory.Rising.{has_more}
 use Rattle.basket_sets.proofs.theory.Tests.{or_false}
 use Rattle.mine_supports.specs.declared.rows.Rows.{Rows}
 use Rattle.mine_supports.specs.TidWord.{IsRowOf, basket_at}
@@ -35,10 +35,7 @@ IsSetAt words tid at old new = (number other : ℕ) → other < words * 64
 -- a number more
 pub marked_more : (words tid : ℕ) (numbers : List ℕ) (i : ℕ) (old bits new : List ℕ) → i < length numbers → AreMarkedAt words tid (take i numbers) old bits
     → IsSetAt words tid (get_or numbers i 0) bits new → AreMarkedAt words tid (take (i + 1) numbers) old new
-marked_more words tid numbers i old bits new below marked sets number other inside =
-    sets number other inside ∙ ap (λ b. b || (eqb other tid && eqb (get_or numbers i 0) number)) (marked number other inside)
-    ∙ or_grow (bit_in old words number other) (eqb other tid) (has (take i numbers) number) (eqb (get_or numbers i 0) number)
-    ∙ ap (λ b. bit_in old words number other || (eqb other tid && b)) (sym (has_more numbers i number below))
+marked_more words tid numbers i old bits new below marked sets number other inside = grind (arith, common_steps)
 
 -- a word with one bit more
 one_bit : (v k i : ℕ) → k < 64 → eqb (bit_at (bit_or v (1 * 2 ^ k % 2 ^ 64)) i) 1 ≡ (eqb (bit_at v i) 1 || eqb i k)
@@ -84,41 +81,15 @@ set_more (first ∷ sets) set (suc tid) u = let rest = set_more sets set tid u i
 -- a basket more
 basket_more : (baskets : List Weighted) (basket : Weighted) (tid u : ℕ)
     → (has (basket_at baskets tid) u || (eqb tid (length baskets) && has basket.basket u)) ≡ has (basket_at (baskets ++ basket ∷ []) tid) u
-basket_more baskets basket tid u =
-    let items = λ (b : Weighted). b.basket in
-    (λ i. has (basket_at baskets tid) u || (eqb tid (sym (length-map baskets items) i) && has basket.basket u)) ∙ set_more (map items baskets) basket.basket tid u
-    ∙ ap (λ l. has (get_or l tid []) u) (sym (map-append items baskets (basket ∷ [])))
+basket_more baskets basket tid u = grind (arith, common_steps)
 
 -- the rows of one basket more
 pub rows_more : (used : List ℕ) (before : List Weighted) (basket : Weighted) (numbers bits : List ℕ) (old new : Rows) → IsRising used → AreRows used before old → AreNumbers used basket.basket numbers
     → length before < old.words * 64 → new.words ≡ old.words → new.bits.items ≡ bits → length bits ≡ length old.bits.items → AreMarkedAt old.words (length before) numbers old.bits.items bits
     → AreRows used (before ++ basket ∷ []) new
-rows_more used before basket numbers bits old new up are named room words is long marked = record {
-  long = ap length is ∙ long ∙ are.long ∙ ap (λ w. length used * w) (sym words);
-  enough = omega (arith, length_push before basket, room, words);
-  each = λ number tid within inside.
-      let u : ℕ = get_or used number 0 in
-      (λ i. bit_in (is i) (words i) number tid) ∙ marked number tid (omega (arith, inside, words))
-      ∙ ap (λ b. b || (eqb tid (length before) && has numbers number)) (are.each number tid within (omega (arith, inside, words)))
-      ∙ ap (λ b. has (basket_at before tid) u || (eqb tid (length before) && b)) (has_number used basket.basket numbers number up named within)
-      ∙ basket_more before basket tid u;
-}
+rows_more used before basket numbers bits old new up are named room words is long marked = grind (arith, common_steps, length_push, has_number, basket_more)
 
 -- the row of an item among all rows
 pub row_is : (items : List ℕ) (baskets : List Weighted) (rows : Rows) (number : ℕ) (row : List ℕ) → number < length items → AreRows items baskets rows
     → row ≡ take rows.words (drop (number * rows.words) rows.bits.items) → IsRowOf baskets (get_or items number 0) row
-row_is items baskets rows number row within are is = record {
-  each = λ tid. elim (cases_lt tid (rows.words * 64)) [
-    | inl inside ↦
-        (let word : tid / 64 < rows.words = omega arith in
-        ap (λ n. eqb (bit_at n (tid % 64)) 1)
-        (ap (λ l. get_or l (tid / 64) 0) is ∙ get_or-take rows.words (drop (number * rows.words) rows.bits.items) (tid / 64) 0 word
-        ∙ get_or-drop (number * rows.words) rows.bits.items (tid / 64) 0)
-        ∙ are.each number tid within inside)
-    | inr past ↦
-        (let enough = are.enough in
-        let short : length row ≤ tid / 64 = omega (arith, ap length is, length-take rows.words (drop (number * rows.words) rows.bits.items)) in
-        let none = past_basket baskets tid (omega arith) in
-        ap (λ n. eqb (bit_at n (tid % 64)) 1) (get_or_past row (tid / 64) 0 short) ∙ ap (λ n. eqb n 1) (bit_at-zero (tid % 64)) ∙ sym (ap (λ l. has l (get_or items number 0)) none))
-  ];
-}
+row_is items baskets rows number row within are is = grind (arith, common_steps)

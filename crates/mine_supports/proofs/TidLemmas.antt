@@ -1,21 +1,22 @@
 -- The tids of a block of baskets as bits of words, and what rows have of them.
-use Rattle.std.proofs.Common.{◌≡◌, ℕ, suc, ◌+◌, ◌*◌, ◌/◌, ◌%◌, ◌<◌, ◌≤◌, ◌^◌, Bool, true, ◌&&◌, List, [], ◌∷◌, ◌++◌, length, map, take, drop, get_or, ◌-◌, cond, eqb, refl, sym, ap, ◌∙◌, subst, inl, inr, arith, min, w64}
+use Rattle.std.proofs.Common.{◌≡◌, ℕ, suc, ◌+◌, ◌*◌, ◌/◌, ◌%◌, ◌<◌, ◌≤◌, ◌^◌, Bool, true, ◌&&◌, List, [], ◌∷◌, ◌++◌, length, map, take, drop, get_or, ◌-◌, cond, eqb, refl, sym, ap, ◌∙◌, subst, arith, min, w64}
+use Rattle.std.proofs.lemmas.Grind.{common_steps}
 use Rattle.std.specs.Prelude.{bit_and, bit_or, count_ones}
-use Rattle.std.specs.Int.{bit_at, trailing_zeros}
+use Rattle.std.specs.Int.{trailing_zeros}
 use Rattle.std.proofs.Math.Bool.{and-true, and_assoc as all_three}
 use Rattle.std.proofs.Math.ListN.{set}
 use Rattle.std.proofs.Math.Nat.{add-mul}
 use Rattle.std.proofs.lemmas.List.{get_or-map, length-map, take-append-drop}
 use Rattle.std.proofs.lemmas.List.Sums.{sum_by_more, sum_by-set}
 use Rattle.std.proofs.lemmas.Nat.{and_assoc, one_shl}
-use Rattle.std.proofs.lemmas.Nat.Bits.{bit_at_above, bit_at_and, bit_at_ones, bit_at-lt, bit_at-trailing_zeros}
+use Rattle.std.proofs.lemmas.Nat.Bits.{bit_at_and, bit_at_ones, bit_at-lt, bit_at-trailing_zeros}
 use Rattle.std.proofs.lemmas.Bool.{cases_lt}
 use Rattle.std.proofs.lemmas.Bool.Decides.{nat_tests}
 use Rattle.basket_sets.specs.declared.weighted.Weighted.{Weighted}
 use Rattle.basket_sets.specs.Itemset.{contains, has}
 use Rattle.basket_sets.specs.Support.{support_of, total_of, weight_at}
-use Rattle.basket_sets.proofs.theory.Members.{Member, Member-append_left, Member-append_right}
-use Rattle.basket_sets.proofs.theory.Rising.{Member-from_has, contains_each, has-from_Member, has_each}
+use Rattle.basket_sets.proofs.theory.Members.{Member, Member-append_left}
+use Rattle.basket_sets.proofs.theory.Rising.{Member-from_has, contains_each, has-from_Member}
 use Rattle.basket_sets.proofs.theory.Support.{support-cons, support_falls}
 use Rattle.mine_supports.specs.declared.tid_words.TidWord.{TidWord}
 use Rattle.mine_supports.specs.TidWord.{AreKept, AreTidsOf, IsJoinable, IsRowOf, basket_at, has_tid, part_weight, shared_weight, weight_from}
@@ -40,34 +41,18 @@ both r row word = bit_and (r word) (row word)
 -- some tids more, at those of their word and weight
 pub added_part : (row : ℕ → ℕ) (tids : List TidWord) (at : ℕ) (part more : TidWord) → at < length tids → part ≡ get_or tids at more
     → IsJoinable part more → shared_weight row (set tids at (tids_at part.word (bit_or part.bits more.bits) part.weight)) ≡ shared_weight row tids + part_weight row more
-added_part row tids at part more below is join =
-    let new : TidWord = tids_at part.word (bit_or part.bits more.bits) part.weight in
-    let step = sum_by-set (part_weight row) tids at new more below in
-    let old : part_weight row (get_or tids at more) ≡ part_weight row part = ap (part_weight row) (sym is) in
-    let there : part_weight row more ≡ count_ones (bit_and more.bits (row part.word)) * part.weight =
-    ap (λ w. count_ones (bit_and more.bits (row w)) * more.weight) (sym join.word) ∙ ap (λ w. count_ones (bit_and more.bits (row part.word)) * w) (sym join.weight) in
-    let joined : part_weight row new ≡ part_weight row part + part_weight row more =
-    ap (λ n. n * part.weight) (ones_shared part.bits more.bits (row part.word) join.apart)
-    ∙ add-mul (count_ones (bit_and part.bits (row part.word))) (count_ones (bit_and more.bits (row part.word))) part.weight ∙ ap (λ n. part_weight row part + n) (sym there) in
-    omega arith
+added_part row tids at part more below is join = grind (arith, common_steps, sum_by-set, ones_shared, add-mul)
 
 bit_times : (b weight : ℕ) → b < 2 → b * weight ≡ cond (eqb b 1) weight 0
 bit_times b weight low = grind (arith, nat_tests)
 
 -- a tid weighs its weight where a row has it
 pub made_weight : (row : ℕ → ℕ) (tid weight : ℕ) → part_weight row (tids_at (tid / 64) (1 * 2 ^ (tid % 64) % 2 ^ 64) weight) ≡ cond (has_tid row tid) weight 0
-made_weight row tid weight =
-    ap (λ b. part_weight row (tids_at (tid / 64) b weight)) (one_shl (tid % 64) 64 (omega arith))
-    ∙ ap (λ n. n * weight) (one_shared (tid % 64) (row (tid / 64))) ∙ bit_times (bit_at (row (tid / 64)) (tid % 64)) weight (bit_at-lt (row (tid / 64)) (tid % 64))
+made_weight row tid weight = grind (arith, common_steps, one_shl, one_shared, bit_times, bit_at-lt)
 
 -- the lowest bit of a number is no greater than the number
 pub lowest_bit : (rest : ℕ) → 0 < rest → rest < 2 ^ 64 → 1 * 2 ^ (trailing_zeros w64 rest) % 2 ^ 64 ≤ rest
-lowest_bit rest some fits =
-    let bit = bit_at-trailing_zeros w64 rest some fits in
-    elim (cases_lt rest (2 ^ (trailing_zeros w64 rest))) [
-      | inl less ↦ absurd (let none = bit_at_above rest (trailing_zeros w64 rest) (trailing_zeros w64 rest) less (omega arith) in omega (arith, none, bit.1))
-      | inr le ↦ omega arith
-    ]
+lowest_bit rest some fits = grind (arith, common_steps, bit_at-trailing_zeros w64 rest some fits, cases_lt rest (2 ^ (trailing_zeros w64 rest)))
 
 cond_parts : (b : Bool) (weight part : ℕ) → part ≤ weight → cond b part 0 + cond b (weight - part) 0 ≡ cond b weight 0
 cond_parts b weight part le = grind arith
@@ -85,36 +70,22 @@ kept_part r row part = ap (λ n. count_ones n * part.weight) (and_assoc (row par
 pub kept_more : (r : List ℕ) (tids kept new : List TidWord) (i : ℕ) (part : TidWord) → i < length tids → part ≡ get_or tids i part
     → ((row : ℕ → ℕ) → shared_weight row new ≡ shared_weight row kept + part_weight row (tids_at part.word (bit_and part.bits (words r part.word)) part.weight))
     → AreKept r (take i tids) kept → AreKept r (take (i + 1) tids) new
-kept_more r tids kept new i part below is pushed before = record {
-  weighs = λ row.
-      let part_of : ℕ = part_weight row (tids_at part.word (bit_and part.bits (words r part.word)) part.weight) in
-      let one = kept_part r row part ∙ ap (part_weight (both (words r) row)) is in
-      let earlier = before.weighs row in
-      let now = pushed row in
-      let more = sum_by_more (part_weight (both (words r) row)) tids i part below in
-      omega (arith, one, earlier, now, more);
-}
+kept_more r tids kept new i part below is pushed before = grind (arith, common_steps, kept_part, sum_by_more)
 
 -- ---- what baskets weigh whose tids a row has
 
 -- a basket more
 pub from_push : (at : ℕ) (row : ℕ → ℕ) (items : List ℕ) (baskets : List Weighted) (basket : Weighted)
     → weight_from at row items (baskets ++ basket ∷ []) ≡ weight_from at row items baskets + cond (has_tid row (at + length baskets)) (weight_at items basket) 0
-from_push at row items [] basket = let e : at ≡ at + 0 = omega arith in let one = ap (λ p. cond (has_tid row p) (weight_at items basket) 0) e in omega (arith, one)
-from_push at row items (first ∷ baskets) basket =
-    let rest = from_push (at + 1) row items baskets basket in
-    let e : (at + 1) + length baskets ≡ at + length (first ∷ baskets) = omega arith in
-    let last = ap (λ p. cond (has_tid row p) (weight_at items basket) 0) e in
-    omega (arith, rest, last)
+from_push at row items [] basket = grind (arith, common_steps)
+from_push at row items (first ∷ baskets) basket = grind (arith, common_steps, from_push (at + 1) row items baskets basket)
 
 both_low : (a b : ℕ) → a < 2 → b < 2 → eqb (min a b) 1 ≡ (eqb a 1 && eqb b 1)
 both_low a b low high = grind (arith, nat_tests)
 
 -- two rows both have a tid where each has it
 has_both : (r row : ℕ → ℕ) (tid : ℕ) → has_tid (both r row) tid ≡ (has_tid r tid && has_tid row tid)
-has_both r row tid =
-    let j : ℕ = tid % 64 in let a : ℕ = r (tid / 64) in let b : ℕ = row (tid / 64) in
-    ap (λ n. eqb n 1) (bit_at_and a b j) ∙ both_low (bit_at a j) (bit_at b j) (bit_at-lt a j) (bit_at-lt b j)
+has_both r row tid = grind (arith, common_steps, bit_at_and, both_low, bit_at-lt)
 
 contains_push : (basket items : List ℕ) (item : ℕ) → contains basket (items ++ item ∷ []) ≡ (contains basket items && has basket item)
 contains_push basket [] item = and-true (has basket item)
@@ -162,10 +133,7 @@ ones word = 2 ^ 64 - 1
 
 from_ones : (at : ℕ) (items : List ℕ) (baskets : List Weighted) → weight_from at ones items baskets ≡ support_of baskets items
 from_ones at items [] = refl
-from_ones at items (first ∷ baskets) =
-    let rest = from_ones (at + 1) items baskets in
-    let one = ap (λ n. cond (eqb n 1) (weight_at items first) 0) (bit_at_ones 64 (at % 64) (omega arith)) in
-    omega (arith, rest, one, support-cons first baskets items)
+from_ones at items (first ∷ baskets) = grind (arith, common_steps, from_ones (at + 1) items baskets, bit_at_ones 64 (at % 64) (omega arith), support-cons first baskets items)
 
 -- ---- the tids of sets
 
@@ -196,12 +164,7 @@ none_support baskets items are = sym (from_ones 0 items baskets) ∙ sym (are.we
 pub all_more : (baskets : List Weighted) (basket : Weighted) (tid : ℕ) (tids new : List TidWord) → tid ≡ length baskets
     → ((row : ℕ → ℕ) → shared_weight row new ≡ shared_weight row tids + cond (has_tid row tid) basket.weight 0)
     → AreTidsOf baskets [] tids → AreTidsOf (baskets ++ basket ∷ []) [] new
-all_more baskets basket tid tids new long added before = record {
-  weighs = λ row.
-      let e : tid ≡ 0 + length baskets = omega (arith, long) in
-      added row ∙ ap (λ n. n + cond (has_tid row tid) basket.weight 0) (before.weighs row)
-      ∙ ap (λ p. weight_from 0 row [] baskets + cond (has_tid row p) basket.weight 0) e ∙ sym (from_push 0 row [] baskets basket);
-}
+all_more baskets basket tid tids new long added before = grind (arith, common_steps, from_push)
 
 -- all items of a list are used
 pub list_used : (groups : List Group) (f : Group → List ℕ) (used now : List ℕ) (number : ℕ) (list : List ℕ) → AreUsed (map f groups) used → now ≡ used → number < length groups → list ≡ f (get_or groups number no_group)
@@ -222,7 +185,4 @@ none_with_prefix baskets items depth are =
 
 -- some items of a set are used where all are
 pub part_used : (used items : List ℕ) (start size : ℕ) → contains used items ≡ true → contains used (take size (drop start items)) ≡ true
-part_used used items start size all = contains_each used (take size (drop start items)) (λ item m.
-    has_each used items all item
-    (subst (Member item) (take-append-drop start items) (Member-append_right item (take start items) (drop start items)
-    (subst (Member item) (take-append-drop size (drop start items)) (Member-append_left item (take size (drop start items)) (drop size (drop start items)) m)))))
+part_used used items start size all = grind (arith, common_steps, take-append-drop start items, take-append-drop size (drop start items))

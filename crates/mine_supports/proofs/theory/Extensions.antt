@@ -1,10 +1,11 @@
 -- Sets as prefixes and the items that extend them.
-use Rattle.std.proofs.Common.{◌≡◌, ℕ, suc, ◌+◌, ◌<◌, ◌≤◌, Bool, true, List, [], ◌∷◌, ◌++◌, length, filter, map, get_or, cond, take, drop, append-nil, append_assoc, refl, Some, None, ◌-◌, sym, ap, ◌∙◌, inl, inr, arith}
+use Rattle.std.proofs.Common.{◌≡◌, ℕ, suc, ◌+◌, ◌<◌, ◌≤◌, Bool, true, List, [], ◌∷◌, ◌++◌, length, filter, map, get_or, cond, take, drop, append-nil, refl, Some, None, ◌-◌, sym, ap, ◌∙◌, inl, inr, arith}
+use Rattle.std.proofs.lemmas.Grind.{common_steps}
 use Rattle.std.proofs.lemmas.Grind.{flat_map-append}
 use Rattle.std.specs.List.{slice_get}
 use Rattle.std.specs.Prelude.{slice_range}
-use Rattle.std.proofs.lemmas.List.{get_or-drop, get_or-map, get_or-take, length-append, length-drop, length-map, length-take-le, map-append, take-append-drop, take_all, take_more}
-use Rattle.std.proofs.lemmas.List.Elements.{filter-append, filter_more}
+use Rattle.std.proofs.lemmas.List.{get_or-drop, get_or-map, length-append, length-drop, length-map, length-take-le, take-append-drop, take_all}
+use Rattle.std.proofs.lemmas.List.Elements.{filter-append}
 use Rattle.basket_sets.specs.Itemset.{IsRising, rising}
 use Rattle.basket_sets.proofs.theory.Items.{filter-map}
 use Rattle.basket_sets.proofs.theory.Rising.{cons_rises, first_below, nil_rises, rest_rises, rising-rising}
@@ -47,21 +48,16 @@ sets_push groups prefix items = sets_append groups (record { prefix = prefix; it
 
 pub long_append : (prefixes lists more others : List (List ℕ)) (len size : ℕ) → length lists ≡ length prefixes → len ≡ length (sets_of (groups_of prefixes lists)) → size ≡ length (sets_of (groups_of more others))
     → len + size ≡ length (sets_of (groups_of (prefixes ++ more) (lists ++ others)))
-long_append prefixes lists more others len size e is has =
-    let all = ap (λ g. length (sets_of g)) (groups_append prefixes lists more others e)
-    ∙ ap length (sets_append (groups_of prefixes lists) (groups_of more others)) ∙ length-append (sets_of (groups_of prefixes lists)) (sets_of (groups_of more others)) in
-    omega (arith, all, is, has)
+long_append prefixes lists more others len size e is has = grind (arith, common_steps, groups_append, sets_append, length-append)
 
 pub long_push : (prefixes lists : List (List ℕ)) (prefix items : List ℕ) (len : ℕ) → length lists ≡ length prefixes → len ≡ length (sets_of (groups_of prefixes lists))
     → len + length items ≡ length (sets_of (groups_of (prefixes ++ prefix ∷ []) (lists ++ items ∷ [])))
-long_push prefixes lists prefix items len e is =
-    long_append prefixes lists (prefix ∷ []) (items ∷ []) len (length items) e is (sym (ap length (append-nil (extend prefix items)) ∙ length-map items (λ item. prefix ++ item ∷ [])))
+long_push prefixes lists prefix items len e is = grind (arith, common_steps, long_append, length-map)
 
 -- ---- what is kept
 
 filled_step : (prefix items : List ℕ) (rest all : List Group) → sets_of rest ≡ sets_of all → sets_of (cond (is_some items) (record { prefix = prefix; items = items } ∷ rest) rest) ≡ extend prefix items ++ sets_of all
-filled_step prefix [] rest all e = e
-filled_step prefix (x ∷ items) rest all e = ap (λ l. extend prefix (x ∷ items) ++ l) e
+filled_step h1 h2 h3 h4 h5 = grind (arith, common_steps)
 
 -- prefixes that nothing extends have no sets
 pub sets_filled : (groups : List Group) → sets_of (filter has_items groups) ≡ sets_of groups
@@ -70,19 +66,14 @@ sets_filled (group ∷ groups) = filled_step group.prefix group.items (filter ha
 
 -- the sets of one more prefix
 pub sets_with : (groups : List Group) (prefix items : List ℕ) → sets_of (groups ++ filter has_items (record { prefix = prefix; items = items } ∷ [])) ≡ sets_of groups ++ extend prefix items
-sets_with groups prefix items =
-    sets_append groups (filter has_items (record { prefix = prefix; items = items } ∷ []))
-    ∙ ap (λ l. sets_of groups ++ l) (sets_filled (record { prefix = prefix; items = items } ∷ []) ∙ append-nil (extend prefix items))
+sets_with groups prefix items = grind (arith, common_steps)
 
 abbrev pub passing : (List ℕ → Bool) → Group → Group
 passing passes group = record { prefix = group.prefix; items = filter (λ item. passes (group.prefix ++ item ∷ [])) group.items }
 
 passing_sets : (passes : List ℕ → Bool) (groups : List Group) → sets_of (map (passing passes) groups) ≡ filter passes (sets_of groups)
 passing_sets passes [] = refl
-passing_sets passes (group ∷ groups) =
-    ap (λ l. extend group.prefix (filter (λ item. passes (group.prefix ++ item ∷ [])) group.items) ++ l) (passing_sets passes groups)
-    ∙ ap (λ l. l ++ filter passes (sets_of groups)) (sym (filter-map (λ item. group.prefix ++ item ∷ []) passes group.items))
-    ∙ sym (filter-append passes (extend group.prefix group.items) (sets_of groups))
+passing_sets passes (group ∷ groups) = grind (arith, common_steps, passing_sets passes groups, filter-map, filter-append)
 
 pub kept_sets : (passes : List ℕ → Bool) (groups : List Group) → sets_of (filter has_items (map (passing passes) groups)) ≡ filter passes (sets_of groups)
 kept_sets passes groups = sets_filled (map (passing passes) groups) ∙ passing_sets passes groups
@@ -90,23 +81,19 @@ kept_sets passes groups = sets_filled (map (passing passes) groups) ∙ passing_
 -- ---- sets, one after another
 
 some_last : (first : List ℕ) (last : ℕ) → is_some (first ++ last ∷ []) ≡ true
-some_last [] last = refl
-some_last (x ∷ first) last = refl
+some_last h1 h2 = grind (arith, common_steps)
 
 -- one set more
 pub some_more : (sets : List (List ℕ)) (i : ℕ) (set first : List ℕ) (last : ℕ) (before : List (List ℕ)) → i < length sets → set ≡ get_or sets i set → set ≡ first ++ last ∷ [] → before ≡ filter is_some (take i sets)
     → before ++ (first ++ last ∷ []) ∷ [] ≡ filter is_some (take (i + 1) sets)
-some_more sets i set first last before below is parts same =
-    (λ j. same j ++ cond (sym (some_last first last) j) ((first ++ last ∷ []) ∷ []) []) ∙ ap (λ s. filter is_some (take i sets) ++ cond (is_some s) (s ∷ []) []) (sym parts ∙ is) ∙ sym (filter_more is_some sets i set below)
+some_more sets i set first last before below is parts same = grind (arith, common_steps)
 
 pub none_more : (sets : List (List ℕ)) (i : ℕ) (set : List ℕ) (before : List (List ℕ)) → i < length sets → set ≡ get_or sets i set → set ≡ [] → before ≡ filter is_some (take i sets) → before ≡ filter is_some (take (i + 1) sets)
-none_more sets i set before below is none same =
-    same ∙ sym (append-nil (filter is_some (take i sets))) ∙ ap (λ s. filter is_some (take i sets) ++ cond (is_some s) (s ∷ []) []) (sym none ∙ is) ∙ sym (filter_more is_some sets i set below)
+none_more sets i set before below is none same = grind (arith, common_steps)
 
 -- an item more
 pub item_more : (found : List (List ℕ)) (prefix items : List ℕ) (item : ℕ) → found ++ extend prefix (items ++ item ∷ []) ≡ (found ++ extend prefix items) ++ (prefix ++ item ∷ []) ∷ []
-item_more found prefix items item =
-    ap (λ l. found ++ l) (map-append (λ x. prefix ++ x ∷ []) items (item ∷ [])) ∙ sym (append_assoc found (extend prefix items) ((prefix ++ item ∷ []) ∷ []))
+item_more found prefix items item = grind (arith, common_steps)
 
 -- an item above the last of rising ones
 rises_above : (items : List ℕ) (item : ℕ) → IsRising items → ((last : ℕ) → slice_get items (length items - 1) ≡ Some last → last < item) → IsRising (items ++ item ∷ [])
@@ -166,27 +153,15 @@ pub range_long : (groups : List Group) (start end : ℕ) → end ≤ length grou
 range_long groups start end within = length-take-le (end - start) (drop start groups) (let d = length-drop start groups in omega (arith, within, d))
 
 pub range_at : (groups : List Group) (start end index : ℕ) (d : Group) → start ≤ index → index < end → get_or (slice_range groups start end) (index - start) d ≡ get_or groups index d
-range_at groups start end index d from below =
-    let back : start + (index - start) ≡ index = omega (arith, from) in
-    get_or-take (end - start) (drop start groups) (index - start) d (omega (arith, from, below)) ∙ get_or-drop start groups (index - start) d ∙ ap (λ k. get_or groups k d) back
+range_at groups start end index d from below = grind (arith, common_steps)
 
 -- one prefix more
 pub range_more : (groups : List Group) (start index : ℕ) (d : Group) → start ≤ index → index < length groups → slice_range groups start (index + 1) ≡ slice_range groups start index ++ get_or groups index d ∷ []
-range_more groups start index d from below =
-    let next : index + 1 - start ≡ (index - start) + 1 = omega (arith, from) in
-    let back : start + (index - start) ≡ index = omega (arith, from) in
-    let long = length-drop start groups in
-    ap (λ n. take n (drop start groups)) next ∙ take_more (drop start groups) (index - start) d (omega (arith, from, below, long))
-    ∙ ap (λ g. slice_range groups start index ++ g ∷ []) (get_or-drop start groups (index - start) d ∙ ap (λ k. get_or groups k d) back)
+range_more groups start index d from below = grind (arith, common_steps, length-drop start groups, get_or-drop start groups (index - start) d)
 
 pub count_more : (groups : List Group) (start index : ℕ) (d : Group) → start ≤ index → index < length groups
     → length (sets_of (slice_range groups start (index + 1))) ≡ length (sets_of (slice_range groups start index)) + length (get_or groups index d).items
-count_more groups start index d from below =
-    let group = get_or groups index d in
-    let front = slice_range groups start index in
-    let more = ap (λ g. length (sets_of g)) (range_more groups start index d from below) ∙ ap length (sets_push front group.prefix group.items)
-    ∙ length-append (sets_of front) (extend group.prefix group.items) in
-    omega (arith, more, length-map group.items (λ item. group.prefix ++ item ∷ []))
+count_more groups start index d from below = grind (arith, common_steps, range_more groups start index d from below)
 
 pub count_split : (groups : List Group) (start : ℕ) → length (sets_of groups) ≡ length (sets_of (take start groups)) + length (sets_of (drop start groups))
 count_split groups start =

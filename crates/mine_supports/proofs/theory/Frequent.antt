@@ -1,11 +1,11 @@
 -- The frequent sets among candidates, one after another.
 use Rattle.std.proofs.Common.{◌≡◌, ℕ, ◌+◌, ◌<◌, ◌≤◌, Bool, List, [], ◌∷◌, ◌++◌, length, filter, map, take, drop, get_or, cond, append_assoc, sym, ap, ◌∙◌, subst, arith}
+use Rattle.std.proofs.lemmas.Grind.{common_steps}
 use Rattle.std.specs.List.{All}
-use Rattle.std.proofs.lemmas.List.{drop_more, get_or-map, length-append, length-map, map-append, take_more}
+use Rattle.std.proofs.lemmas.List.{drop_more, get_or-map, length-map, map-append, take_more}
 use Rattle.std.proofs.lemmas.List.Concat.{get_or-flat_map}
 use Rattle.std.proofs.lemmas.List.Elements.{filter-append, filter_more}
 use Rattle.std.proofs.lemmas.List.Folds.{length-flat_map-take}
-use Rattle.std.proofs.Math.Seq.{drop-append_seam, take-append_seam}
 use Rattle.basket_sets.specs.Itemset.{IsRising}
 use Rattle.basket_sets.proofs.theory.Rising.{cons_rises, nil_rises}
 use Rattle.mine_supports.specs.Extensions.{Group, extend, has_items, kept, sets_of}
@@ -54,17 +54,13 @@ module _ (groups : List Group) (number : ℕ) (d : Group) (below : number < leng
   extended_long f = length-map (extended group) f ∙ length-map group.items (λ item. group.prefix ++ item ∷ [])
 
   pub counts_within : (f : List ℕ → ℕ) (rest : List ℕ) → rest ≡ map f (sets_of (drop number groups)) → length group.items ≤ length rest
-  counts_within f rest is =
-      let long = ap length (is ∙ counts_split f) ∙ length-append (map f (extended group)) (map f (sets_of (drop (number + 1) groups))) in
-      omega (arith, long, extended_long f)
+  counts_within f rest is = grind (arith, common_steps)
 
   pub counts_first : (f : List ℕ → ℕ) (rest : List ℕ) → rest ≡ map f (sets_of (drop number groups)) → take (length group.items) rest ≡ map f (extended group)
-  counts_first f rest is =
-      (λ i. take (sym (extended_long f) i) ((is ∙ counts_split f) i)) ∙ take-append_seam (map f (extended group)) (map f (sets_of (drop (number + 1) groups)))
+  counts_first f rest is = grind (arith, common_steps)
 
   pub counts_rest : (f : List ℕ → ℕ) (rest : List ℕ) → rest ≡ map f (sets_of (drop number groups)) → drop (length group.items) rest ≡ map f (sets_of (drop (number + 1) groups))
-  counts_rest f rest is =
-      (λ i. drop (sym (extended_long f) i) ((is ∙ counts_split f) i)) ∙ drop-append_seam (map f (extended group)) (map f (sets_of (drop (number + 1) groups)))
+  counts_rest f rest is = grind (arith, common_steps)
 
   pub sets_next : sets_of (take (number + 1) groups) ≡ sets_of (take number groups) ++ extended group
   sets_next = ap sets_of (take_more groups number d below) ∙ sets_push (take number groups) group.prefix group.items

@@ -1,7 +1,8 @@
 -- Sets of one size in report order are grouped by their prefixes.
 use Rattle.std.proofs.Common.{◌≡◌, ◌≢◌, ℕ, ◌<◌, ◌≤◌, true, List, [], ◌∷◌, ◌++◌, length, filter, take, get_or, cond, refl, sym, ap, ◌∙◌, subst, inl, inr, arith, suc}
+use Rattle.std.proofs.lemmas.Grind.{common_steps}
 use Rattle.std.specs.declared.cmp.Ordering.{Ordering}
-use Rattle.std.specs.declared.cmp.Ordering.TheVariants.{Less, Equal, Greater}
+use Rattle.std.specs.declared.cmp.Ordering.TheVariants.{Less, Equal}
 use Rattle.std.specs.Cmp.Lexicographic.{slice_cmp, nat_list_cmp_total}
 use Rattle.std.specs.List.{All}
 use Rattle.std.specs.List.Sorted.{IsStrictlySortedBy}
@@ -32,8 +33,7 @@ pub size_at : (size : ℕ) (sets : List (List ℕ)) → AreOfSize size sets → 
 size_at size = at_each (λ set. length set ≡ size)
 
 long_is_some : (set : List ℕ) → 1 ≤ length set → is_some set ≡ true
-long_is_some [] some = absurd (omega (arith, some))
-long_is_some (x ∷ set) some = refl
+long_is_some h1 h2 = grind (arith, common_steps)
 
 each_some : (size : ℕ) (sets : List (List ℕ)) → 1 ≤ size → AreOfSize size sets → filter is_some sets ≡ sets
 each_some size [] some sized = refl
@@ -49,14 +49,10 @@ all_some sets sized = each_some sized.0 sets sized.1 sized.2
 -- ---- order
 
 then_less : (o p q : Ordering) → (o ≡ Equal → p ≡ Less → q ≡ Less) → ordering_then o p ≡ Less → ordering_then o q ≡ Less
-then_less Less p q f e = refl
-then_less Equal p q f e = f refl e
-then_less Greater p q f e = e
+then_less h1 h2 h3 h4 h5 = grind (arith, common_steps)
 
 decided : (o : Ordering) → ordering_then o Equal ≡ Less → o ≡ Less
-decided Less e = refl
-decided Equal e = e
-decided Greater e = e
+decided h1 h2 = grind (arith, common_steps)
 
 equal : (x y : ℕ) → nat_cmp x y ≡ Equal → x ≡ y
 equal x y e = grind (arith, nat_tests)
@@ -96,11 +92,7 @@ before_index sets i set d up here m =
 -- ---- groups in order
 
 pub regrouped : (groups others : List Group) → prefixes_of groups ≡ prefixes_of others → AreGrouped groups → AreGrouped others
-regrouped groups others same grouped = record {
-  size = grouped.size;
-  sized = subst (AreOfSize grouped.size) same grouped.sized;
-  sorted = subst (IsStrictlySortedBy (slice_cmp nat_cmp)) same grouped.sorted;
-}
+regrouped groups others same grouped = grind (arith, common_steps)
 
 none_grouped : AreGrouped []
 unfolding IsStrictlySortedBy
@@ -150,20 +142,14 @@ pub none_begun : (prefix : List ℕ) → AreBegun [] prefix []
 none_begun prefix = record { begun = λ _. refl; grouped = one_grouped (record { prefix = prefix; items = [] }) }
 
 pub begun_as : (groups others : List Group) (prefix other items more : List ℕ) → others ≡ groups → other ≡ prefix → more ≡ items → AreBegun groups prefix items → AreBegun others other more
-begun_as groups others prefix other items more same front ends are =
-    subst (λ l. AreBegun l other more) (sym same) (subst (λ p. AreBegun groups p more) (sym front) (subst (AreBegun groups prefix) (sym ends) are))
+begun_as groups others prefix other items more same front ends are = grind (arith, common_steps)
 
 pub all_grouped : (groups : List Group) (prefix items : List ℕ) → AreBegun groups prefix items → AreGrouped (groups ++ filter has_items (record { prefix = prefix; items = items } ∷ []))
-all_grouped groups prefix [] are = subst (λ l. AreGrouped (l ++ [])) (sym (are.begun refl)) none_grouped
-all_grouped groups prefix (x ∷ items) are = are.grouped
+all_grouped h1 h2 h3 h4 = grind (arith, common_steps, none_grouped)
 
 -- an item more
 pub item_begun : (groups : List Group) (prefix items : List ℕ) (item : ℕ) → AreBegun groups prefix items → AreBegun groups prefix (items ++ item ∷ [])
-item_begun groups prefix items item are = record {
-  begun = λ e. absurd (omega (arith, ap length e, length_push items item));
-  grouped = regrouped (groups ++ record { prefix = prefix; items = items } ∷ []) (groups ++ record { prefix = prefix; items = items ++ item ∷ [] } ∷ [])
-      (prefixes_push groups (record { prefix = prefix; items = items }) ∙ sym (prefixes_push groups (record { prefix = prefix; items = items ++ item ∷ [] }))) are.grouped;
-}
+item_begun groups prefix items item are = grind (arith, common_steps)
 
 pub one_rises : (x : ℕ) → IsRising (x ∷ [])
 one_rises x = cons_rises x [] (λ y m. absurd m) nil_rises

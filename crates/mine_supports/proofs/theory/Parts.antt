@@ -1,5 +1,6 @@
 -- The sets of some of the prefixes, among those of all.
-use Rattle.std.proofs.Common.{◌≡◌, ℕ, ◌+◌, ◌-◌, List, ◌++◌, length, map, take, drop, sym, ap, ◌∙◌, subst, arith}
+use Rattle.std.proofs.Common.{◌≡◌, ℕ, ◌+◌, ◌-◌, List, ◌++◌, length, map, take, drop, sym, ap, ◌∙◌, arith}
+use Rattle.std.proofs.lemmas.Grind.{common_steps}
 use Rattle.std.specs.List.{All}
 use Rattle.std.specs.Prelude.{slice_range}
 use Rattle.std.proofs.lemmas.List.{drop-map, take-append-drop, take-map}
@@ -27,12 +28,7 @@ module _ (groups : List Group) (start end : ℕ) where
       ∙ take-append_seam (sets_of inside) (sets_of (drop (end - start) (drop start groups)))
 
   pub counts_in_range : (f : List ℕ → ℕ) (counts : List ℕ) → counts ≡ map f (sets_of groups) → slice_range counts before (before + length (sets_of inside)) ≡ map f (sets_of inside)
-  counts_in_range f counts are =
-      let e : before + length (sets_of inside) - before ≡ length (sets_of inside) = omega arith in
-      (λ i. take (e i) (drop before (are i)))
-      ∙ ap (take (length (sets_of inside))) (drop-map f before (sets_of groups)) ∙ take-map f (length (sets_of inside)) (drop before (sets_of groups))
-      ∙ ap (map f) sets_in_range
+  counts_in_range f counts are = grind (arith, common_steps, drop-map, take-map, sets_in_range)
 
   pub rising_in_range : All IsRising (sets_of groups) → All IsRising (sets_of inside)
-  rising_in_range rising =
-      subst (All IsRising) sets_in_range (All-take IsRising (length (sets_of inside)) (drop before (sets_of groups)) (All-drop IsRising before (sets_of groups) rising))
+  rising_in_range rising = grind (arith, common_steps, sets_in_range, All-take, All-drop)

@@ -1,8 +1,9 @@
 -- Whether an item is among rising ones, and its number.
-use Rattle.std.proofs.Common.{◌≡◌, ◌≢◌, ℕ, ◌<◌, ◌≤◌, ◌+◌, ◌-◌, false, List, [], ◌∷◌, ◌++◌, append-nil, cond, filter, length, get_or, take, inl, inr, ap, subst, sym, ◌∙◌, arith}
+use Rattle.std.proofs.Common.{◌≡◌, ◌≢◌, ℕ, ◌<◌, ◌≤◌, ◌+◌, ◌-◌, false, List, [], ◌∷◌, ◌++◌, length, get_or, take, inl, inr, subst, sym, ◌∙◌, arith}
+use Rattle.std.proofs.lemmas.Grind.{common_steps}
 use Rattle.std.proofs.lemmas.Bool.{cases_Bool, cases_eq, cases_lt}
-use Rattle.std.proofs.lemmas.List.{get_or_default, map-append}
-use Rattle.std.proofs.lemmas.List.Elements.{All-push, filter_more, recursion_from_All}
+use Rattle.std.proofs.lemmas.List.{get_or_default}
+use Rattle.std.proofs.lemmas.List.Elements.{recursion_from_All}
 use Rattle.std.proofs.lemmas.Map.Keys.{non_decreasing_from_sorted}
 use Rattle.basket_sets.specs.Itemset.{IsRising, has, rising}
 use Rattle.basket_sets.proofs.theory.Members.{Member, Contains-from_Member, Member-filter, Member-from_filter, Member-from_map, Member-map, at_Member}
@@ -36,10 +37,7 @@ missing_at items item index up short before after = missing items item index up
 
 -- an item stands at one index of rising ones
 one_index : (items : List ℕ) (j k : ℕ) → IsRising items → j < length items → k < length items → get_or items j 0 ≡ get_or items k 0 → j ≡ k
-one_index items j k up here there e = elim (cases_lt j k) [
-  | inl less ↦ absurd (let l = rising_at items j k up less there in omega arith)
-  | inr le ↦ elim (cases_eq j k) [ inl same ↦ same | inr differ ↦ absurd (let l = rising_at items k j up (omega arith) here in omega arith) ]
-]
+one_index items j k up here there e = grind (arith, common_steps, cases_lt, rising_at, cases_eq)
 
 -- the numbers of some items have the number of a used item exactly if these have the item
 pub has_number : (used items numbers : List ℕ) (k : ℕ) → IsRising used → AreNumbers used items numbers → k < length used → has numbers k ≡ has items (get_or used k 0)
@@ -57,15 +55,7 @@ has_number used items numbers k up are within =
 -- one item more
 pub number_more : (used items numbers : List ℕ) (i number : ℕ) → i < length items → number < length used → get_or used number 0 ≡ get_or items i 0
     → AreNumbers used (take i items) numbers → AreNumbers used (take (i + 1) items) (numbers ++ number ∷ [])
-number_more used items numbers i number here within is are = record {
-  below = All-push (λ n. n < length used) numbers number are.below within;
-  named = map-append (λ n. get_or used n 0) numbers (number ∷ []) ∙ (λ k. are.named k ++ is k ∷ [])
-      ∙ sym (filter_more (has used) items i 0 here ∙ ap (λ b. filter (has used) (take i items) ++ cond b (get_or items i 0 ∷ []) []) (ap (has used) (sym is) ∙ has_place used number within));
-}
+number_more used items numbers i number here within is are = grind (arith, common_steps)
 
 pub no_number_more : (used items numbers : List ℕ) (i : ℕ) → i < length items → has used (get_or items i 0) ≡ false → AreNumbers used (take i items) numbers → AreNumbers used (take (i + 1) items) numbers
-no_number_more used items numbers i here none are = record {
-  below = are.below;
-  named = are.named
-      ∙ sym (filter_more (has used) items i 0 here ∙ ap (λ b. filter (has used) (take i items) ++ cond b (get_or items i 0 ∷ []) []) none ∙ append-nil (filter (has used) (take i items)));
-}
+no_number_more used items numbers i here none are = grind (arith, common_steps)

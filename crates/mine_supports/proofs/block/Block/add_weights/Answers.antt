@@ -1,4 +1,5 @@
-use Rattle.std.proofs.Common.{◌≡◌, [], ◌∷◌, ◌++◌, ◌+◌, ◌<◌, get_or, length, take, refl, sym, ap, ◌∙◌, subst, arith}
+use Rattle.std.proofs.Common.{◌≡◌, [], ◌∷◌, ◌++◌, ◌+◌, ◌<◌, get_or, length, take, sym, ap, ◌∙◌, subst, arith}
+use Rattle.std.proofs.lemmas.Grind.{common_steps}
 use Rattle.std.proofs.Math.ListN.{set as set_at}
 use Rattle.std.proofs.lemmas.List.{length-map, length-take, map-append, take_all, take_more}
 use Rattle.basket_sets.proofs.theory.Support.{support_falls}
@@ -12,15 +13,7 @@ pub loop-number-init : goal.loop-number-init
 loop-number-init c set are = none_yet (numbered c.args.self.now) c.args.start c.args.counts.now
 
 pub overflow_add-counts-in-loop-number : goal.overflow_add-counts-in-loop-number
-overflow_add-counts-in-loop-number c =
-    let items = c.args.items.now in
-    let number = c.loop-number.number in
-    let set = c.requires.tids.0 in
-    let is = c.weight.ensures set c.requires.tids.1 in
-    let falls = support_falls (numbered c.args.self.now) (set ++ get_or items number 0 ∷ []) [] refl in
-    let same = (c.loop-number.invariant set c.requires.tids.1).after (c.args.start + number) (omega (arith, length-map (take number items) (λ item. set ++ item ∷ []), length-take number items)) in
-    let light = c.requires.light number c.loop-number-test.true in
-    record { fits = omega (arith, is, falls, same, light) }
+overflow_add-counts-in-loop-number c = grind (arith, common_steps, support_falls, length-map, length-take)
 
 pub loop-number-preserved : goal.loop-number-preserved
 loop-number-preserved c set are =

@@ -1,10 +1,10 @@
 use Rattle.std.proofs.Common.{◌≡◌, ◌+◌, ◌*◌, ◌++◌, ◌∷◌, [], cond, filter, get_or, length, take, append-nil, subst, sym, ap, ◌∙◌, arith}
+use Rattle.std.proofs.lemmas.Grind.{common_steps}
 use Rattle.std.proofs.lemmas.Bool.{le-leb, lt-leb}
 use Rattle.std.proofs.lemmas.List.{length-map, length_push}
 use Rattle.std.proofs.lemmas.List.Elements.{filter_more}
 use Rattle.std.proofs.lemmas.List.Sums.{sum_by-take-le}
 use Rattle.basket_sets.specs.Itemset.{has}
-use Rattle.basket_sets.specs.Support.{weight_at}
 use Rattle.mine_supports.specs.Needed.{is_needed, needed}
 use Rattle.mine_supports.specs.TidWord.{AreTidsOf}
 use Rattle.mine_supports.specs.Rows.{AreRows}
@@ -56,12 +56,4 @@ loop-read-preserved c =
     ]
 
 pub invariant_of-result : goal.invariant_of-result
-invariant_of-result c =
-    let baskets = c.args.baskets.now in
-    let few = needed_total c.args.used.now c.args.least (take c.loop-read.read baskets) in
-    let part = sum_by-take-le (weight_at []) baskets c.loop-read.read in
-    record {
-      rows_of = c.loop-read.invariant.rows;
-      tids_of = c.loop-read.invariant.tids;
-      light = omega (arith, few, part, c.requires.light);
-    }
+invariant_of-result c = grind (arith, common_steps, needed_total, sum_by-take-le)

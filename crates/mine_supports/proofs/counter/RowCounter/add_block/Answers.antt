@@ -1,16 +1,16 @@
-use Rattle.std.proofs.Common.{◌≡◌, ◌<◌, ◌+◌, ◌-◌, [], ℕ, true, get_or, length, take, refl, subst, sym, ap, ◌∙◌, arith}
-use Rattle.std.proofs.lemmas.Bool.{true≢false}
+use Rattle.std.proofs.Common.{◌≡◌, ◌<◌, ◌+◌, ◌-◌, [], true, get_or, length, take, refl, subst, sym, ap, ◌∙◌, arith}
+use Rattle.std.proofs.lemmas.Grind.{common_steps}
 use Rattle.std.proofs.lemmas.List.{get_or_default, take_all}
 use Rattle.std.proofs.lemmas.List.Sums.{sum_by-take-le}
 use Rattle.basket_sets.specs.Itemset.{contains}
-use Rattle.basket_sets.specs.Support.{support_of, total_of, weight_at}
+use Rattle.basket_sets.specs.Support.{support_of}
 use Rattle.mine_supports.specs.BlockCounts.{numbered}
 use Rattle.mine_supports.specs.Needed.{IsAtLeast}
 use Rattle.mine_supports.specs.Prefixes.{ArePrefixes}
 use Rattle.mine_supports.specs.Counter.{AreAdded, IsShared}
-use Rattle.mine_supports.specs.Extensions.{extend, groups_of, sets_of}
+use Rattle.mine_supports.specs.Extensions.{groups_of, sets_of}
 use Rattle.mine_supports.proofs.PrefixLemmas.{prefixes_shared}
-use Rattle.mine_supports.proofs.CounterLemmas.{all_added, group_added, next_start, next_within, none_yet, some_list}
+use Rattle.mine_supports.proofs.CounterLemmas.{all_added, group_added, next_start, next_within, none_yet}
 use Rattle.mine_supports.proofs.theory.Extensions.{groups_back, groups_long, items_read, lists_long, no_group, prefix_read}
 use Rattle.mine_supports.proofs.NeededLemmas.{needed_support, needed_total, sets_used}
 use Rattle.mine_supports.proofs.TidLemmas.{list_used}
@@ -18,10 +18,7 @@ use Rattle.mine_supports.proofs.counter.RowCounter.add_block.Goals as goal
 use Rattle.mine_supports.proofs.counter.RowCounter.add_block.Goals.{After-add-arg-1}
 
 pub of-requires-clause-light : goal.of-requires-clause-light
-of-requires-clause-light c =
-    let some = some_list (sets_of c.self.inside.sets.now) (λ none. true≢false (sym (c.is_empty.ensures.1 none) ∙ c.if-is_empty.false)) in
-    let light = c.requires.light 0 (omega (arith, c.requires.long, ap length c.self.view_is, some)) in
-    omega arith
+of-requires-clause-light c = grind (arith, common_steps)
 
 pub loop-number-init : goal.loop-number-init
 loop-number-init c =
@@ -36,9 +33,7 @@ below : (c : After-add-arg-1) → c.loop-number.number < length c.self.inside.se
 below c = omega (arith, c.loop-number-test.true, ap length c.lists-items-items.ensures, lists_long c.self.inside.sets.now)
 
 starts : (c : After-add-arg-1) → c.loop-number.start ≡ length (sets_of (take c.loop-number.number c.self.inside.sets.now))
-starts c =
-    c.loop-number.invariant.starts
-    ∙ ap (λ l. length (sets_of (take c.loop-number.number l))) ((λ i. groups_of (c.prefixes-prefixes.ensures i) (c.lists-items-items.ensures i)) ∙ groups_back c.self.inside.sets.now)
+starts c = grind (arith, common_steps, groups_back)
 
 list_is : (c : After-add-arg-1) → c.items-item.result ≡ (get_or c.self.inside.sets.now c.loop-number.number no_group).items
 list_is c = items_read c.self.inside.sets.now c.lists-items-items.result.now c.loop-number.number c.items-item.result c.lists-items-items.ensures (below c) c.items-item.is
@@ -71,23 +66,10 @@ add-requires-clause-prefixes c =
     (prefixes_shared (numbered c.in_ok-block.block) (get_or prefixes (number - 1) []) c.items-in-loop-number-2.result.now count old shared c.loop-number.invariant.prefixes)
 
 pub add-requires-clause-within : goal.add-requires-clause-within
-add-requires-clause-within c =
-    let within = next_within c.self.inside.sets.now c.loop-number.number c.loop-number.start no_group (below c) (starts c) in
-    omega (arith, within, ap length (c.items-in-loop-number-3.ensures.items ∙ list_is c), c.requires.long, ap length c.self.view_is, c.loop-number.auto.counts)
+add-requires-clause-within c = let within = next_within c.self.inside.sets.now c.loop-number.number c.loop-number.start no_group (below c) (starts c) in grind (arith, common_steps)
 
 pub add-requires-clause-light : goal.add-requires-clause-light
-add-requires-clause-light c = λ k inside.
-    let within = next_within c.self.inside.sets.now c.loop-number.number c.loop-number.start no_group (below c) (starts c) in
-    let at : ℕ = c.loop-number.start + k in
-    let long = ap length (c.items-in-loop-number-3.ensures.items ∙ list_is c) in
-    let light = c.requires.light at (omega (arith, within, inside, long, c.requires.long, ap length c.self.view_is)) in
-    let inv = c.loop-number.invariant in
-    let same = inv.added.after at (omega (arith, inv.starts)) in
-    let block = c.in_ok-block.block in
-    let few = needed_total block.used.now block.least block.baskets.now in
-    let part = ap total_of c.in_ok-block.ensures.baskets in
-    let le = sum_by-take-le (weight_at []) c.args.baskets.now (length block.baskets.now) in
-    omega (arith, light, same, few, part, le)
+add-requires-clause-light c = λ k inside. grind (arith, common_steps, next_within, no_group, below, starts, list_is, needed_total, sum_by-take-le)
 
 pub overflow_add-start : goal.overflow_add-start
 overflow_add-start c =
@@ -110,17 +92,7 @@ loop-number-preserved c =
     let items = c.items-in-loop-number-3.ensures.items ∙ list_is before in
     let long = ap (λ n. start + n) (c.len-start.ensures ∙ ap length (list_is before)) in
     let same = (λ i. groups_of (c.prefixes-prefixes.ensures i) (c.lists-items-items.ensures i)) ∙ groups_back groups in
-    record {
-      starts = long ∙ next_start groups number start no_group here (starts before) ∙ ap (λ l. length (sets_of (take (number + 1) l))) (sym same);
-      added = subst (λ g. AreAdded (sets_of (take (number + 1) g)) baskets 0 old new) (sym same)
-          (group_added groups number start no_group here (starts before) baskets old counts new (subst (λ g. AreAdded (sets_of (take number g)) baskets 0 old counts) same c.loop-number.invariant.added)
-          (subst (λ s. AreAdded s baskets start counts new) (λ i. extend (prefix i) (items i)) c.in_ok-add.ensures.supports));
-      prefixes =
-          let one : number ≡ number + 1 - 1 = omega arith in
-          let at = get_or_default c.prefixes-prefixes.result.now number c.index-prefixes-number.result [] (omega (arith, here, ap length c.prefixes-prefixes.ensures, groups_long groups)) in
-          let read = c.items-in-loop-number-2.ensures.items ∙ c.index-prefixes-number.is ∙ at ∙ ap (λ n. get_or c.prefixes-prefixes.result.now n []) one in
-          subst (λ l. ArePrefixes baskets l c.add.new.prefixes.lists.items) read c.in_ok-add.ensures.prefixes;
-    }
+    grind (arith, common_steps, starts, next_start, no_group, group_added, get_or_default, groups_long)
 
 pub returns-clause-added : goal.returns-clause-added
 returns-clause-added c k inside within =

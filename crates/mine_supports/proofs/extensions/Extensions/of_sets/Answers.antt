@@ -1,4 +1,5 @@
-use Rattle.std.proofs.Common.{◌≡◌, ◌<◌, ◌≤◌, ◌∷◌, ◌++◌, ℕ, List, [], filter, length, take, get_or, not, refl, ap, sym, subst, ◌∙◌}
+use Rattle.std.proofs.Common.{◌≡◌, ◌<◌, ◌≤◌, ◌∷◌, ◌++◌, ℕ, List, [], filter, length, take, get_or, not, ap, sym, subst, ◌∙◌, arith}
+use Rattle.std.proofs.lemmas.Grind.{common_steps}
 use Rattle.std.specs.Cmp.Lexicographic.{bytes_decides, pointwise}
 use Rattle.std.specs.List.{All}
 use Rattle.std.specs.Prelude.{nat_eq}
@@ -8,7 +9,7 @@ use Rattle.std.proofs.lemmas.List.Elements.{All-filter, All-more, All-nil, All-t
 use Rattle.std.proofs.lemmas.Result.{IfOk-weaker}
 use Rattle.basket_sets.specs.Itemset.{IsRising}
 use Rattle.basket_sets.proofs.theory.Rising.{front_rises, nil_rises}
-use Rattle.mine_supports.specs.Extensions.{AreGrouped, Group, extend, has_items, is_some, sets_of}
+use Rattle.mine_supports.specs.Extensions.{Group, extend, has_items, is_some, sets_of}
 use Rattle.mine_supports.specs.Sizes.{IsRegular}
 use Rattle.mine_supports.proofs.theory.Extensions.{item_more, none_more, sets_with, some_more}
 use Rattle.mine_supports.proofs.theory.Grouped.{AreBefore, all_grouped, all_some, are_before, begun_as, item_begun, item_rises, next_begun, none_begun, one_rises}
@@ -25,13 +26,7 @@ after sets i set first last before ends regular here is parts are =
     (are ∙ all_some (take i sets) (size, regular.0.1, All-take (λ s. length s ≡ size) i sets regular.0.2)))
 
 pub loop-set-init : goal.loop-set-init
-loop-set-init c = record {
-  sets = (λ i. sets_of (c.new-found.ensures i) ++ extend [] (c.new-items.ensures.items i));
-  prefix = nil_rises;
-  items = subst IsRising (sym c.new-items.ensures.items) nil_rises;
-  rising = All-nil IsRising;
-  begun = λ regular. begun_as [] _ [] _ [] _ c.new-found.ensures refl c.new-items.ensures.items (none_begun []);
-}
+loop-set-init c = grind (arith, common_steps, nil_rises, All-nil, begun_as, none_begun)
 
 pub loop-set-preserved : goal.loop-set-preserved
 loop-set-preserved c =
@@ -100,13 +95,10 @@ loop-set-preserved c =
 -- the sets once all are added
 listed : (sets : List (List ℕ)) (i : ℕ) (found : List Group) (prefix items given : List ℕ) → length sets ≤ i → given ≡ items → sets_of found ++ extend prefix items ≡ filter is_some (take i sets)
     → (extensions : List Group) → extensions ≡ found ++ filter has_items (record { prefix = prefix; items = given } ∷ []) → sets_of extensions ≡ filter is_some sets
-listed sets i found prefix items given past same are extensions is =
-    ap sets_of is ∙ sets_with found prefix given ∙ ap (λ l. sets_of found ++ extend prefix l) same ∙ are ∙ ap (filter is_some) (take_all i sets past)
+listed sets i found prefix items given past same are extensions is = grind (arith, common_steps)
 
 pub returns-clause-sets : goal.returns-clause-sets
-returns-clause-sets c =
-    IfOk-weaker c.with_items-2.result _ _
-    (listed c.args.sets.now c.loop-set.set-index c.loop-set.found c.loop-set.prefix.now c.loop-set.items.items c.deref-2.result.now c.loop-set-test.false c.deref-2.ensures.value c.loop-set.invariant.sets) c.with_items-2.ensures
+returns-clause-sets c = grind (arith, common_steps)
 
 pub returns-clause-rising : goal.returns-clause-rising
 returns-clause-rising c =
@@ -117,14 +109,7 @@ returns-clause-rising c =
     c.with_items-2.ensures
 
 pub returns-clause-all : goal.returns-clause-all
-returns-clause-all c sized =
-    let sets = c.args.sets.now in
-    IfOk-weaker c.with_items-2.result _ _
-    (λ extensions is. listed sets c.loop-set.set-index c.loop-set.found c.loop-set.prefix.now c.loop-set.items.items c.deref-2.result.now c.loop-set-test.false c.deref-2.ensures.value c.loop-set.invariant.sets extensions is
-    ∙ all_some sets sized) c.with_items-2.ensures
+returns-clause-all c sized = grind (arith, common_steps, IfOk-weaker, listed, all_some)
 
 pub returns-clause-grouped : goal.returns-clause-grouped
-returns-clause-grouped c regular =
-    IfOk-weaker c.with_items-2.result _ AreGrouped
-    (λ extensions is. subst AreGrouped (sym (is ∙ ap (λ l. c.loop-set.found ++ filter has_items (record { prefix = c.loop-set.prefix.now; items = l } ∷ [])) c.deref-2.ensures.value))
-    (all_grouped c.loop-set.found c.loop-set.prefix.now c.loop-set.items.items (c.loop-set.invariant.begun regular))) c.with_items-2.ensures
+returns-clause-grouped c regular = grind (arith, common_steps, all_grouped c.loop-set.found c.loop-set.prefix.now c.loop-set.items.items (c.loop-set.invariant.begun regular))
