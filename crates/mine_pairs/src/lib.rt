@@ -3,7 +3,7 @@
 //! `pairs` finds them by a count for each pair, in `triangle`, over baskets as `ranked` has them, if
 //! the ranks are few, else rank by rank, by `sums` over `runs`: the indexes of each rank in the prefix
 //! tree of the baskets, which `rank_runs` finds.
-#![tactic(auto)]
+#![tactic(auto, using(std::proofs::lemmas::Grind::common_steps))]
 
 mod pairs;
 mod rank_list;

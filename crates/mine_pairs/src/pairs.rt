@@ -51,6 +51,7 @@ pub fn least_support(coded: &Coded) -> u64
 
 /// The runs of the coded baskets, which keep the frequent pairs of each rank, or none if none are
 /// given.
+#[tactic(auto, using(std::proofs::lemmas::Grind::common_steps, crate::proofs::theory::PairSums::pairs_for))]
 pub fn runs_keeping(coded: &Coded, mut runs: Runs, pairs: Vec<Vec<(u32, u64)>>) -> Runs
     requires supports { (set : List ℕ) → support_of runs.baskets set ≡ support_of coded.now.baskets set }
     requires pairs { 0 < length pairs.items → ArePairs coded.now (lists_of pairs.items) }

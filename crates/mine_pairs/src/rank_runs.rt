@@ -81,6 +81,7 @@ fn add_runs(
 }
 
 /// Adds a run to those of a rank, or its weight to the last one if that is the same.
+#[tactic(auto, using(std::proofs::lemmas::Grind::common_steps, crate::proofs::theory::Runs::heavier_is, crate::proofs::theory::Runs::same_run, crate::proofs::theory::Runs::other_run))]
 fn add_run(runs: &mut Vec<Span>, run: Span, same: bool) -> Result<(), AllocError>
     requires some { IsTrue same → 0 < length runs.old.items }
     requires light { sum_by (λ (other : Run). other.weight) runs.old.items + run.weight ≤ MOST_WEIGHT }

@@ -114,6 +114,7 @@ impl Runs {
     }
 
     /// The support of a rank, which is the weight of its runs.
+    #[tactic(auto, using(std::proofs::lemmas::Grind::common_steps, std::proofs::lemmas::List::take_all, crate::proofs::theory::Sums::weights_of, crate::proofs::theory::Sums::paths_weigh))]
     pub fn support(&self, rank: u32) -> u64
         requires { rank < self.now.ranks }
         ensures { result ≡ support_of self.now.baskets (rank ∷ []) }

@@ -63,6 +63,7 @@ impl Sums {
 }
 
 /// Adds the weights of baskets to the sums of their ranks.
+#[tactic(auto, using(std::proofs::lemmas::Grind::common_steps, crate::proofs::theory::Sums::weigh, crate::proofs::theory::Sums::sum_more))]
 fn add_up(sums: &mut [u64], found: &mut RankList, baskets: Baskets<'_>) -> Result<(), AllocError>
     requires zero { sums.old ≡ replicate (length sums.old) 0 }
     requires none { found.old ≡ [] }

@@ -40,6 +40,7 @@ pub fn pairs_of_range<B: RankedBaskets>(
 }
 
 /// A row for each rank of a range, which has a count of 0 for each lesser rank.
+#[tactic(auto, using(std::proofs::lemmas::Grind::common_steps, crate::proofs::theory::PairSums::lists_pushed))]
 fn no_counts(alloc: Global, range: RankRange) -> Result<Vec<Vec<u64>>, AllocError>
     ensures { IfOk result (λ rows. lists_of rows.items ≡ map zeros (ranks_in range)) }
 {

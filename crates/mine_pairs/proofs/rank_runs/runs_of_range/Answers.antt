@@ -18,9 +18,6 @@ use Rattle.mine_baskets.proofs.theory.Neighbours.{some_repeats}
 abbrev none : Span
 none = record { start = 0; end = 0; weight = 0 }
 
-pub add_runs-requires-clause-whole : goal.add_runs-requires-clause-whole
-add_runs-requires-clause-whole c = grind (arith, common_steps)
-
 pub add_runs-requires-clause-rises : goal.add_runs-requires-clause-rises
 add_runs-requires-clause-rises c = subst IsRising (sym c.of-path.ensures)
     (rank_basket_at c.args.baskets.ranks.now c.args.baskets.count c.args.baskets.spans.now c.loop-basket.basket-index none c.args.baskets.ranked.places c.loop-basket-test.true).rises

@@ -1,9 +1,8 @@
 use Rattle.std.proofs.Common.{[], ap, arith}
-use Rattle.std.proofs.lemmas.Grind.{common_steps}
 use Rattle.basket_sets.specs.declared.weighted.Weighted.{Weighted}
 use Rattle.basket_sets.specs.Database.{weighted}
 use Rattle.mine_baskets.specs.Baskets.{baskets_in}
-use Rattle.mine_pairs.proofs.theory.Sums.{sum_light, sum_more, weigh}
+use Rattle.mine_pairs.proofs.theory.Sums.{sum_light}
 use Rattle.mine_pairs.proofs.sums.add_up.Goals as goal
 
 pub add_basket-requires-clause-light : goal.add_basket-requires-clause-light
@@ -13,6 +12,3 @@ add_basket-requires-clause-light c = λ rank here.
     let weight = ap (λ (p : Weighted). p.weight) c.at-weight.ensures.basket in
     let sum = c.loop-index.invariant.added rank (omega (arith, here, c.loop-index.auto.sums)) in
     omega (arith, light, weight, sum)
-
-pub loop-index-preserved : goal.loop-index-preserved
-loop-index-preserved c = grind (arith, common_steps, weigh, sum_more)
