@@ -3,7 +3,7 @@
 //! `paths` has coded baskets in the form from which classes are mined: as runs, or as words if there
 //! are few ranks (`word_paths`). `conditional` keeps the baskets that have a rank to the ranks that
 //! are frequent together with it, which `local_numbers` and `bit_table` number anew. `scratch` is used again from rank to rank.
-#![tactic(auto)]
+#![tactic(auto, using(std::proofs::lemmas::Grind::common_steps))]
 
 mod bit_table;
 mod conditional;

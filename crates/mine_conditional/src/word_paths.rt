@@ -104,6 +104,7 @@ fn is_front(word: &Word, count: u32) -> bool
 }
 
 /// For each rank below one, the weight of the words that have both.
+#[tactic(auto, using(std::proofs::lemmas::Grind::common_steps, std::proofs::lemmas::List::Sums::sum_by_more_le_part, crate::proofs::WordPathLemmas::none, crate::proofs::WordPathLemmas::pair_weight_le))]
 fn pair_sums(words: &[Word], rank: u32) -> [u64; WORD_RANKS]
     requires rank { rank < WORD_RANKS }
     requires light { sum_by (λ (word : Bits). word.weight) words.now ≤ MOST_WEIGHT }
@@ -119,6 +120,7 @@ fn pair_sums(words: &[Word], rank: u32) -> [u64; WORD_RANKS]
 }
 
 /// Adds the weight of a word to the sum of each rank that it has below a number.
+#[tactic(auto, using(std::proofs::lemmas::Grind::common_steps, crate::proofs::RankSumLemmas::sums_begin, crate::proofs::RankSumLemmas::sums_end))]
 fn add_ranks(sums: &mut [u64; WORD_RANKS], word: &Word, count: u32)
     requires count { count ≤ WORD_RANKS }
     requires light { (rank : ℕ) → rank < count → slice_index sums.old rank + word.now.weight ≤ MOST_WEIGHT }

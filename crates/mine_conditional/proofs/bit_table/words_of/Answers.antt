@@ -10,10 +10,6 @@ use Rattle.mine_baskets.specs.Baskets.{baskets_in}
 use Rattle.mine_conditional.specs.BitTable.{table_word}
 use Rattle.mine_conditional.proofs.bit_table.words_of.Goals as goal
 
--- the weight of the basket at hand is no more than what the total allows
-pub add-requires-clause-light : goal.add-requires-clause-light
-add-requires-clause-light c = grind (arith, common_steps)
-
 pub loop-index-preserved : goal.loop-index-preserved
 loop-index-preserved c =
     let of = c.args.of.now in
