@@ -47,6 +47,7 @@ impl Extensions {
     }
 
     /// The sets that have items. Sets with one prefix and rising last items are best in a row, as in report order.
+    #[tactic(auto, using(std::proofs::lemmas::Grind::common_steps, crate::proofs::theory::Grouped::all_grouped))]
     pub fn of_sets(alloc: Global, sets: &[Itemset]) -> Result<Self, AllocError>
         ensures sets { IfOk result (λ extensions. sets_of extensions ≡ filter is_some sets.now) }
         ensures rising { IfOk result (λ extensions. All IsRising (sets_of extensions)) }

@@ -10,7 +10,7 @@
 //! prefixes in a row. `shard` counts sets by a `counter`: in each `block` of baskets the `used_items`
 //! have `rows` of bits, and the `tid_words` of the baskets that contain a set are found from those of
 //! its `prefixes` (`block_counts`).
-#![tactic(auto)]
+#![tactic(auto, using(std::proofs::lemmas::Grind::common_steps))]
 
 mod block;
 mod block_counts;

@@ -12,7 +12,7 @@ use Rattle.basket_sets.proofs.theory.Rising.{front_rises, nil_rises}
 use Rattle.mine_supports.specs.Extensions.{Group, extend, has_items, is_some, sets_of}
 use Rattle.mine_supports.specs.Sizes.{IsRegular}
 use Rattle.mine_supports.proofs.theory.Extensions.{item_more, none_more, sets_with, some_more}
-use Rattle.mine_supports.proofs.theory.Grouped.{AreBefore, all_grouped, all_some, are_before, begun_as, item_begun, item_rises, next_begun, none_begun, one_rises}
+use Rattle.mine_supports.proofs.theory.Grouped.{AreBefore, all_some, are_before, begun_as, item_begun, item_rises, next_begun, none_begun, one_rises}
 use Rattle.mine_supports.proofs.extensions.Extensions.of_sets.Goals as goal
 use Rattle.mine_supports.proofs.extensions.Extensions.of_sets.Goals.{in-Some+in_ok-push, then-ne+in_ok-found, then-ne-via-then-ne, then-ne-via-else-ne+then-not-rises, else-ne+else-not-rises, in_default}
 
@@ -97,9 +97,6 @@ listed : (sets : List (List ℕ)) (i : ℕ) (found : List Group) (prefix items g
     → (extensions : List Group) → extensions ≡ found ++ filter has_items (record { prefix = prefix; items = given } ∷ []) → sets_of extensions ≡ filter is_some sets
 listed sets i found prefix items given past same are extensions is = grind (arith, common_steps)
 
-pub returns-clause-sets : goal.returns-clause-sets
-returns-clause-sets c = grind (arith, common_steps)
-
 pub returns-clause-rising : goal.returns-clause-rising
 returns-clause-rising c =
     let sets = c.args.sets.now in
@@ -110,6 +107,3 @@ returns-clause-rising c =
 
 pub returns-clause-all : goal.returns-clause-all
 returns-clause-all c sized = grind (arith, common_steps, IfOk-weaker, listed, all_some)
-
-pub returns-clause-grouped : goal.returns-clause-grouped
-returns-clause-grouped c regular = grind (arith, common_steps, all_grouped c.loop-set.found c.loop-set.prefix.now c.loop-set.items.items (c.loop-set.invariant.begun regular))
