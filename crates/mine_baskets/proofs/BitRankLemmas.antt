@@ -1,5 +1,6 @@
 -- The ranks of bits, from the highest bit on.
 use Rattle.std.proofs.Common.{◌≡◌, ℕ, ◌+◌, ◌-◌, ◌*◌, ◌^◌, ◌<◌, ◌≤◌, [], ◌∷◌, eqb, sym, ap, ◌∙◌, inl, inr, arith, suc}
+use Rattle.std.proofs.lemmas.Grind.{common_steps}
 use Rattle.std.specs.Int.{bit_at}
 use Rattle.std.specs.List.{range_with_len}
 use Rattle.std.proofs.Math.Nat.{pow-suc}
@@ -12,8 +13,7 @@ use Rattle.mine_baskets.specs.Words.{has_rank, ranks_in}
 
 -- no bits have no ranks
 pub no_ranks : (count : ℕ) → ranks_in count 0 ≡ []
-no_ranks count = same_rising (ranks_in count 0) [] (filtered_range_rises (has_rank 0) 0 count) nil_rises
-    (λ rank m. absurd (true≢false (sym (Member-filter (has_rank 0) rank (range_with_len 0 count) m).1 ∙ ap (λ n. eqb n 1) (bit_at-zero (63 - rank))))) (λ rank m. absurd m)
+no_ranks count = grind (arith, common_steps, same_rising, filtered_range_rises, nil_rises, true≢false, Member-filter, bit_at-zero)
 
 -- bits of which the highest is at a place
 module _ (bits bit : ℕ) (low : 2 ^ bit ≤ bits) (high : bits < 2 * 2 ^ bit) where
@@ -75,9 +75,4 @@ module _ (bits bit : ℕ) (low : 2 ^ bit ≤ bits) (high : bits < 2 * 2 ^ bit) w
 
   -- where its rank is no longer below a number, there are none
   pub no_first_rank : (count : ℕ) → bit ≤ 63 → count ≤ 63 - bit → ranks_in count bits ≡ []
-  no_first_rank count small past = same_rising (ranks_in count bits) [] (filtered_range_rises (has_rank bits) 0 count) nil_rises
-      (λ rank m.
-      let p = Member-filter (has_rank bits) rank (range_with_len 0 count) m in
-      let r = Member-range 0 count rank p.0 in
-      let top = r.1 in
-      absurd (true≢false (sym p.1 ∙ ap (λ n. eqb n 1) (none_above (63 - rank) (omega arith))))) (λ rank m. absurd m)
+  no_first_rank count small past = grind (arith, common_steps, same_rising, filtered_range_rises, nil_rises, Member-filter, Member-range, true≢false, none_above)

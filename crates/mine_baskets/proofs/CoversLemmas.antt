@@ -1,18 +1,18 @@
 -- Covers of ranks, made tid by tid.
-use Rattle.std.proofs.Common.{◌≡◌, ℕ, ◌+◌, ◌<◌, Bool, true, false, ◌&&◌, ◌||◌, List, [], ◌∷◌, ◌++◌, drop, length, get_or, map, cond, refl, sym, ap, ◌∙◌, subst, inl, inr, arith, zero, suc, zero-add, add-one}
+use Rattle.std.proofs.Common.{◌≡◌, ℕ, ◌+◌, ◌<◌, Bool, true, false, ◌&&◌, List, [], ◌∷◌, ◌++◌, drop, length, get_or, map, cond, refl, sym, ap, ◌∙◌, subst, inl, inr, arith, zero, suc, zero-add, add-one}
+use Rattle.std.proofs.lemmas.Grind.{common_steps}
 use Rattle.std.specs.declared.vec.Vec.{Vec}
 use Rattle.std.specs.declared.alloc.Global.{Global}
 use Rattle.std.specs.List.{filter, range_with_len}
 use Rattle.std.proofs.Math.ListN.{set}
 use Rattle.std.proofs.lemmas.Bool.{cases_Bool, cases_eq, eq-eqb}
-use Rattle.std.proofs.lemmas.List.{append-nil, get_or-map, get_or-set_other, get_or-set_same, length-map, length-set, map-set}
+use Rattle.std.proofs.lemmas.List.{append-nil, get_or-map, get_or-set_same, length-map, length-set, map-set}
 use Rattle.std.proofs.lemmas.List.Elements.{filter-append}
 use Rattle.std.proofs.lemmas.Simd.{map-map}
 use Rattle.basket_sets.specs.declared.weighted.Weighted.{Weighted}
 use Rattle.basket_sets.specs.Database.{weighted}
 use Rattle.basket_sets.specs.Itemset.{IsRising, contains, has}
 use Rattle.basket_sets.proofs.theory.Rising.{Member-from_has, first_below, nil_rises, rest_rises}
-use Rattle.basket_sets.proofs.theory.Tests.{apart_eqb}
 use Rattle.basket_sets.proofs.theory.Ranges.{range_more}
 use Rattle.mine_baskets.specs.declared.span.Span.{Span}
 use Rattle.mine_baskets.specs.Covers.{AreCovers, HasTid, basket_at, covers_in, weights_of}
@@ -43,21 +43,7 @@ module _ (tid first : ℕ) (ranks : List ℕ) (up : IsRising (first ∷ ranks)) 
   ]
 
   first_tid : (now end : List (List ℕ)) → first < length now → HasTid tid ranks (set now first (get_or now first [] ++ tid ∷ [])) end → HasTid tid (first ∷ ranks) now end
-  first_tid now end here later = record {
-    same = later.same ∙ length-set now first added;
-    at = λ rank low. later.at rank (subst (λ n. rank < n) (sym (length-set now first added)) low) ∙ (elim (cases_eq first rank) [
-      | inl e ↦
-          ap (λ b. get_or (set now first added) rank [] ++ cond b (tid ∷ []) []) (once rank e) ∙ append-nil (get_or (set now first added) rank [])
-          ∙ ap (λ k. get_or (set now first added) k []) (sym e) ∙ get_or-set_same now first added [] here ∙ ap (λ k. get_or now k [] ++ tid ∷ []) e
-          ∙ sym (ap (λ b. get_or now rank [] ++ cond (b || has ranks rank) (tid ∷ []) []) (eq-eqb first rank e))
-      | inr differ ↦
-          ap (λ l. l ++ cond (has ranks rank) (tid ∷ []) []) (get_or-set_other now first rank added [] (λ same. differ (sym same)))
-          ∙ sym (ap (λ b. get_or now rank [] ++ cond (b || has ranks rank) (tid ∷ []) []) (apart_eqb first rank differ))
-    ]);
-  }
-    where
-      added : List ℕ
-      added = get_or now first [] ++ tid ∷ []
+  first_tid now end here later = grind (arith, common_steps, length-set, cases_eq, set, once, append-nil, get_or-set_same, eq-eqb)
 
   -- the same in vectors, one of which is changed
   pub pushed_tid : (covers : List (Vec ℕ Global)) (d pushed : Vec ℕ Global) (end : List (List ℕ)) → first < length covers → pushed.items ≡ (get_or covers first d).items ++ tid ∷ []
@@ -72,8 +58,7 @@ abbrev pub tids_below : List Weighted → ℕ → ℕ → List ℕ
 tids_below baskets tids rank = filter (λ tid. contains (basket_at baskets tid) (rank ∷ [])) (range_with_len 0 tids)
 
 only_one : (b : Bool) → b ≡ (b && true)
-only_one true = refl
-only_one false = refl
+only_one h1 = grind (arith, common_steps)
 
 -- one more tid of each cover
 pub next_covers : (baskets : List Weighted) (n count : ℕ) (basket : List ℕ) (old new : List (List ℕ)) → basket ≡ basket_at baskets n → length old ≡ count
@@ -90,15 +75,11 @@ next_covers baskets n count basket old new is long so_far added rank low =
 -- the covers as far as all tids go
 pub all_covers : (baskets : List Weighted) (tids count : ℕ) (covers : List (Vec ℕ Global)) → tids ≡ length baskets → length (covers_in covers) ≡ count
     → ((rank : ℕ) → rank < count → get_or (covers_in covers) rank [] ≡ tids_below baskets tids rank) → AreCovers (record { ranks = count; baskets = baskets }) covers
-all_covers baskets tids count covers all long at = record {
-  long = sym (length-covers_in covers) ∙ long;
-  at = λ rank none low. sym (covers_at covers rank none (let same = length-covers_in covers in omega (arith, low, long))) ∙ at rank low ∙ ap (λ n. tids_below baskets n rank) all;
-}
+all_covers baskets tids count covers all long at = grind (arith, common_steps, length-covers_in, covers_at)
 
 -- the basket of a tid
 pub basket_of : (baskets : List Weighted) (n : ℕ) (basket : Weighted) → n < length baskets → basket ≡ get_or baskets n (weighted [] 0) → basket.basket ≡ basket_at baskets n
-basket_of baskets n basket here is =
-    ap (λ (p : Weighted). p.basket) is ∙ sym (get_or-map (λ (p : Weighted). p.basket) baskets n (weighted [] 0) [] here)
+basket_of baskets n basket here is = grind (arith, common_steps)
 
 -- ---- weights
 

@@ -1,12 +1,11 @@
 -- Words with weights.
-use Rattle.std.proofs.Common.{◌||◌, ◌^◌, eqb, true, false, ◌≡◌, ℕ, ◌+◌, ◌-◌, ◌<◌, ◌≤◌, Bool, List, [], ◌∷◌, ◌++◌, length, take, get_or, set, cond, refl, sym, ap, ◌∙◌, subst, inl, inr, arith}
+use Rattle.std.proofs.Common.{◌||◌, ◌^◌, eqb, ◌≡◌, ℕ, ◌+◌, ◌-◌, ◌<◌, ◌≤◌, Bool, List, [], ◌∷◌, ◌++◌, length, take, get_or, set, cond, refl, sym, ap, ◌∙◌, subst, inl, inr, arith}
+use Rattle.std.proofs.lemmas.Grind.{common_steps}
 use Rattle.std.specs.Prelude.{All, bit_or}
 use Rattle.std.specs.List.{fold, range_with_len, sum_by}
 use Rattle.std.specs.List.Sorted.{IsPermutation}
-use Rattle.std.proofs.Math.Seq.{get_or-append_seam, map-set_same}
-use Rattle.std.proofs.lemmas.Bool.{cases_lt}
 use Rattle.std.proofs.lemmas.Nat.Bits.{bit_at-zero}
-use Rattle.std.proofs.lemmas.List.{get_or-map, get_or_append_left, get_or_default, length-append, length-map, length-set, map-append, take_more}
+use Rattle.std.proofs.lemmas.List.{get_or-map, length-map}
 use Rattle.std.proofs.lemmas.List.Sorted.{IsPermutation-map}
 use Rattle.std.proofs.lemmas.List.Sums.{sum_by-append, sum_by-cons, sum_by-set}
 use Rattle.basket_sets.specs.declared.weighted.Weighted.{Weighted}
@@ -33,17 +32,7 @@ module _ (test : List ℕ → Bool) where
   pub heavier_word : (count : ℕ) (words : List Word) (i : ℕ) (d word : Word) → i < length words → (get_or words i d).bits ≡ word.bits
       → weight_where test (word_places count (words ++ word ∷ []))
       ≡ weight_where test (word_places count (set words i (record { bits = (get_or words i d).bits; weight = (get_or words i d).weight + word.weight })))
-  heavier_word count words i d word here same =
-      let last = get_or words i d in
-      let new : Word = record { bits = last.bits; weight = last.weight + word.weight } in
-      let f : Word → ℕ = λ w. weigh (word_place count w) in
-      let all = sum_by-append f words (word ∷ []) in
-      let one = sum_by-cons f word [] in
-      let replaced = sum_by-set f words i new d here in
-      let both = cond_sum (test (ranks_in count last.bits)) last.weight word.weight in
-      let alike = ap (λ b. cond (test (ranks_in count b)) word.weight 0) same in
-      let raised : sum_by f (words ++ word ∷ []) ≡ sum_by f (set words i new) = omega arith in
-      word_sum weigh count (words ++ word ∷ []) ∙ raised ∙ sym (word_sum weigh count (set words i new))
+  heavier_word count words i d word here same = grind (arith, common_steps, sum_by-append, sum_by-cons, sum_by-set, cond_sum, word_sum)
 
 -- words in another order have the same weights
 pub moved_words : (count : ℕ) (words moved : List Word) → IsPermutation words moved → HaveSameWeights (word_places count words) (word_places count moved)
@@ -85,57 +74,30 @@ module _ (count : ℕ) (words : List Word) (are : AreRankBaskets (record { ranks
 -- one word more of a list
 pub next_word : (count : ℕ) (words : List Word) (i : ℕ) (d : Word) → i < length words
     → word_places count (take i words) ++ word_place count (get_or words i d) ∷ [] ≡ word_places count (take (i + 1) words)
-next_word count words i d here =
-    sym (ap (word_places count) (take_more words i d here) ∙ map-append (word_place count) (take i words) (get_or words i d ∷ []))
+next_word count words i d here = grind (arith, common_steps)
 
 -- ---- words in order
 
 -- a word whose bits stay
 bits_stay : (words : List Word) (i : ℕ) (d new : Word) → i < length words → new.bits ≡ (get_or words i d).bits → (k : ℕ) (e : Word) → k < length words → (get_or (set words i new) k e).bits ≡ (get_or words k e).bits
-bits_stay words i d new here same k e low =
-    sym (get_or-map (λ (w : Word). w.bits) (set words i new) k e e.bits (subst (λ n. k < n) (sym (length-set words i new)) low))
-    ∙ ap (λ l. get_or l k e.bits) (map-set_same (λ (w : Word). w.bits) words i new d same) ∙ get_or-map (λ (w : Word). w.bits) words k e e.bits low
+bits_stay words i d new here same k e low = grind (arith, common_steps)
 
 pub heavier_order : (words : List Word) (i : ℕ) (d new : Word) → i < length words → new.bits ≡ (get_or words i d).bits → AreInOrder words → AreInOrder (set words i new)
-heavier_order words i d new here same order k e low =
-    let long = length-set words i new in
-    let first = bits_stay words i d new here same k e (omega (arith, low, long)) in
-    let second = bits_stay words i d new here same (k + 1) e (omega (arith, low, long)) in
-    let less = order k e (omega (arith, low, long)) in
-    omega (arith, first, second, less)
+heavier_order words i d new here same order k e low = grind (arith, common_steps)
 
 pub heavier_end : (words : List Word) (i : ℕ) (d new : Word) → i < length words → i ≡ length words - 1 → new.bits ≡ (get_or words i d).bits → EndsBy new.bits (set words i new)
-heavier_end words i d new here last same e some =
-    let at : length (set words i new) - 1 ≡ i = omega (arith, last, length-set words i new) in
-    let stays = ap (λ n. (get_or (set words i new) n e).bits) at ∙ bits_stay words i d new here same i e here ∙ ap (λ (w : Word). w.bits) (get_or_default words i e d here) ∙ sym same in
-    omega (arith, stays)
+heavier_end words i d new here last same e some = grind (arith, common_steps)
 
 pub pushed_order : (words : List Word) (word : Word) → AreInOrder words → ((last : Word) → 0 < length words → (get_or words (length words - 1) last).bits < word.bits) → AreInOrder (words ++ word ∷ [])
-pushed_order words word order above k e low = elim (cases_lt (k + 1) (length words)) [
-  | inl less ↦
-      (let first = ap (λ (w : Word). w.bits) (get_or_append_left words (word ∷ []) e k (omega (arith, less))) in
-      let second = ap (λ (w : Word). w.bits) (get_or_append_left words (word ∷ []) e (k + 1) less) in
-      let before = order k e less in omega (arith, first, second, before))
-  | inr more ↦
-      (let long = length-append words (word ∷ []) in
-      let at : k ≡ length words - 1 = omega (arith, low, long, more) in
-      let end : k + 1 ≡ length words = omega (arith, low, long, more) in
-      let first = ap (λ (w : Word). w.bits) (get_or_append_left words (word ∷ []) e k (omega (arith, end)) ∙ ap (λ n. get_or words n e) at) in
-      let second = ap (λ n. (get_or (words ++ word ∷ []) n e).bits) end ∙ ap (λ (w : Word). w.bits) (get_or-append_seam words word [] e) in
-      let less = above e (omega (arith, end)) in omega (arith, first, second, less))
-]
+pushed_order words word order above k e low = grind (arith, common_steps)
 
 pub pushed_end : (words : List Word) (word : Word) → EndsBy word.bits (words ++ word ∷ [])
-pushed_end words word e some =
-    let at : length (words ++ word ∷ []) - 1 ≡ length words = omega (arith, length-append words (word ∷ [])) in
-    let is = ap (λ n. (get_or (words ++ word ∷ []) n e).bits) at ∙ ap (λ (w : Word). w.bits) (get_or-append_seam words word [] e) in
-    omega (arith, is)
+pushed_end words word e some = grind (arith, common_steps)
 
 -- ---- the bits of ranks
 
 or_assoc : (a b c : Bool) → ((a || b) || c) ≡ (a || (b || c))
-or_assoc true b c = refl
-or_assoc false b c = refl
+or_assoc h1 h2 h3 = grind (arith, common_steps)
 
 bits_have : (basket : List ℕ) (bits rank : ℕ) → AllBelow WORD_RANKS basket → rank < WORD_RANKS → has_rank (fold (λ bits rank. bit_or bits (2 ^ (63 - rank))) bits basket) rank ≡ (has_rank bits rank || has basket rank)
 bits_have [] bits rank below within = sym (or_false (has_rank bits rank))

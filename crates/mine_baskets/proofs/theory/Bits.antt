@@ -1,5 +1,6 @@
 -- The ranks that bits have, and numbers without their lowest one.
-use Rattle.std.proofs.Common.{◌≡◌, ◌≢◌, ℕ, ◌+◌, ◌-◌, ◌*◌, ◌/◌, ◌%◌, ◌^◌, ◌<◌, ◌≤◌, ◌||◌, refl, sym, ap, ◌∙◌, eqb, inl, inr, arith, zero, suc}
+use Rattle.std.proofs.Common.{◌≡◌, ◌≢◌, ℕ, ◌+◌, ◌-◌, ◌*◌, ◌/◌, ◌%◌, ◌^◌, ◌<◌, ◌||◌, sym, ap, ◌∙◌, eqb, inl, inr, arith, suc}
+use Rattle.std.proofs.lemmas.Grind.{common_steps}
 use Rattle.std.specs.Prelude.{bit_and, bit_or, max}
 use Rattle.std.specs.Int.{bit_at}
 use Rattle.std.proofs.Math.Nat.{pow-suc}
@@ -11,22 +12,13 @@ use Rattle.mine_baskets.specs.Words.{has_rank}
 use Rattle.basket_sets.proofs.theory.Tests.{apart_eqb}
 
 one_of_two : (x y : ℕ) → x < 2 → y < 2 → eqb (max x y) 1 ≡ (eqb x 1 || eqb y 1)
-one_of_two zero zero low high = refl
-one_of_two zero (suc zero) low high = refl
-one_of_two zero (suc (suc y)) low high = absurd (omega arith)
-one_of_two (suc zero) zero low high = refl
-one_of_two (suc zero) (suc zero) low high = refl
-one_of_two (suc zero) (suc (suc y)) low high = absurd (omega arith)
-one_of_two (suc (suc x)) y low high = absurd (omega arith)
+one_of_two h1 h2 h3 h4 = grind (arith, common_steps)
 
 pub has_either : (a b rank : ℕ) → has_rank (bit_or a b) rank ≡ (has_rank a rank || has_rank b rank)
 has_either a b rank = ap (λ n. eqb n 1) (bit_at_or a b (63 - rank)) ∙ one_of_two (bit_at a (63 - rank)) (bit_at b (63 - rank)) (bit_at-lt a (63 - rank)) (bit_at-lt b (63 - rank))
 
 pub one_rank : (first rank : ℕ) → first < WORD_RANKS → rank < WORD_RANKS → has_rank (2 ^ (63 - first)) rank ≡ eqb first rank
-one_rank first rank low within = elim (cases_eq first rank) [
-  | inl e ↦ ap (λ r. has_rank (2 ^ (63 - first)) r) (sym e) ∙ ap (λ n. eqb n 1) (bit_at-pow_same (63 - first)) ∙ sym (eq-eqb first rank e)
-  | inr differ ↦ ap (λ n. eqb n 1) (bit_at-pow_other (63 - first) (63 - rank) (λ e. differ (omega arith))) ∙ sym (apart_eqb first rank differ)
-]
+one_rank first rank low within = grind (arith, common_steps, cases_eq, bit_at-pow_same, eq-eqb, bit_at-pow_other, apart_eqb)
 
 -- ---- a number without its lowest one
 
@@ -50,18 +42,8 @@ module _ (n lowest : ℕ) (one : bit_at n lowest ≡ 1) (zeros : (i : ℕ) → i
 
   -- the lowest bit is gone
   pub without_lowest : bit_at (bit_and n (n - 1)) lowest ≡ 0
-  without_lowest =
-      let small : 2 ^ lowest - 1 < 2 ^ suc lowest = omega (arith, pow-suc 2 lowest, pow_pos lowest) in
-      let gone : bit_at (n - 1) lowest ≡ 0 = ap (λ m. bit_at m lowest) one_less ∙ bit_at_cat_low upper (suc lowest) (2 ^ lowest - 1) lowest (omega arith) ∙ bit_at_ones_above lowest lowest (omega arith) in
-      bit_at_and n (n - 1) lowest ∙ omega (arith, gone)
+  without_lowest = grind (arith, common_steps, pow-suc, pow_pos, one_less, bit_at_cat_low, bit_at_ones_above, bit_at_and)
 
   -- and the others are as they were
   pub without_lowest_other : (i : ℕ) → i ≢ lowest → bit_at (bit_and n (n - 1)) i ≡ bit_at n i
-  without_lowest_other i other = elim (cases_lt i lowest) [
-    | inl less ↦ bit_at_and n (n - 1) i ∙ omega (arith, zeros i less)
-    | inr more ↦
-        (let above : suc lowest ≤ i = omega (arith, more, other) in
-        let high = ap (λ m. bit_at m i) whole ∙ bit_at_cat_high upper (suc lowest) (2 ^ lowest) i (omega (arith, pow-suc 2 lowest, pow_pos lowest)) above in
-        let lower = ap (λ m. bit_at m i) one_less ∙ bit_at_cat_high upper (suc lowest) (2 ^ lowest - 1) i (omega (arith, pow-suc 2 lowest, pow_pos lowest)) above in
-        bit_at_and n (n - 1) i ∙ omega (arith, high, lower))
-  ]
+  without_lowest_other i other = grind (arith, common_steps, cases_lt, bit_at_and, whole, bit_at_cat_high, pow-suc, pow_pos, one_less)

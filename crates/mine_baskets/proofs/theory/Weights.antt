@@ -1,7 +1,6 @@
 -- Weights of baskets.
-use Rattle.std.proofs.Common.{◌++◌, ◌≡◌, ℕ, ◌+◌, Bool, List, [], ◌∷◌, map, cond, refl, sym, ap, ◌∙◌}
-use Rattle.std.proofs.lemmas.List.{map-append}
-use Rattle.std.proofs.lemmas.List.Sums.{sum_by-append, sum_by-cons}
+use Rattle.std.proofs.Common.{◌++◌, ◌≡◌, ℕ, Bool, List, [], ◌∷◌, map, refl, arith}
+use Rattle.std.proofs.lemmas.Grind.{common_steps}
 use Rattle.std.specs.List.{sum_by}
 use Rattle.basket_ranks.specs.Codes.{decoded, decoded_place}
 use Rattle.basket_sets.specs.declared.weighted.Weighted.{Weighted}
@@ -13,29 +12,19 @@ use Rattle.mine_baskets.specs.Words.{word_place, word_places}
 pub changed_weight : (test : List ℕ → Bool) (f : List ℕ → List ℕ) (places : List Weighted)
     → weight_where test (map (λ (place : Weighted). weighted (f place.basket) place.weight) places) ≡ weight_where (λ basket. test (f basket)) places
 changed_weight test f [] = refl
-changed_weight test f (place ∷ places) =
-    sum_by-cons (λ (p : Weighted). cond (test p.basket) p.weight 0) (weighted (f place.basket) place.weight) (map (λ (p : Weighted). weighted (f p.basket) p.weight) places)
-    ∙ ap (λ n. cond (test (f place.basket)) place.weight 0 + n) (changed_weight test f places)
-    ∙ sym (sum_by-cons (λ (p : Weighted). cond (test (f p.basket)) p.weight 0) place places)
+changed_weight test f (place ∷ places) = grind (arith, common_steps, changed_weight test f places)
 
 -- what is summed of words' baskets, word by word
 pub word_sum : (f : Weighted → ℕ) (count : ℕ) (words : List Word) → sum_by f (word_places count words) ≡ sum_by (λ (word : Word). f (word_place count word)) words
 word_sum f count [] = refl
-word_sum f count (word ∷ words) =
-    sum_by-cons f (word_place count word) (word_places count words) ∙ ap (λ n. f (word_place count word) + n) (word_sum f count words)
-    ∙ sym (sum_by-cons (λ (w : Word). f (word_place count w)) word words)
+word_sum f count (word ∷ words) = grind (arith, common_steps, word_sum f count words)
 
 -- what has the same weights has them as items too
 pub decoded_weights : (items : List ℕ) (baskets others : List Weighted) → HaveSameWeights baskets others → HaveSameWeights (map (decoded_place items) baskets) (map (decoded_place items) others)
-decoded_weights items baskets others same test =
-    changed_weight test (decoded items) baskets ∙ same (λ basket. test (decoded items basket)) ∙ sym (changed_weight test (decoded items) others)
+decoded_weights items baskets others same test = grind (arith, common_steps, changed_weight test (decoded items) baskets, changed_weight test (decoded items) others)
 
 -- one basket more, as a word that was added
 pub word_more : (count : ℕ) (before : List Weighted) (place : Weighted) (old new : List Word) (word : Word) → place ≡ word_place count word
     → HaveSameWeights before (word_places count old) → HaveSameWeights (word_places count (old ++ word ∷ [])) (word_places count new)
     → HaveSameWeights (before ++ place ∷ []) (word_places count new)
-word_more count before place old new word is so_far added test =
-    sum_by-append (λ (p : Weighted). cond (test p.basket) p.weight 0) before (place ∷ []) ∙ ap (λ n. n + weight_where test (place ∷ [])) (so_far test)
-    ∙ ap (λ p. weight_where test (word_places count old) + weight_where test (p ∷ [])) is
-    ∙ sym (ap (weight_where test) (map-append (word_place count) old (word ∷ [])) ∙ sum_by-append (λ (p : Weighted). cond (test p.basket) p.weight 0) (word_places count old) (word_place count word ∷ []))
-    ∙ added test
+word_more count before place old new word is so_far added test = grind (arith, common_steps)

@@ -1,4 +1,3 @@
-use Rattle.std.proofs.Common.{◌-◌}
 use Rattle.mine_baskets.specs.declared.words.TheConstants.{WORD_RANKS}
 use Rattle.mine_baskets.proofs.word_baskets.bits_of_ranks.Goals as goal
 use Rattle.basket_sets.proofs.theory.Tests.{all_below_at}

@@ -1,10 +1,10 @@
-use Rattle.std.proofs.Common.{◌≡◌, ◌++◌, ◌∷◌, [], take, sym, subst, ap, ◌∙◌}
+use Rattle.std.proofs.Common.{◌≡◌, sym, subst, ap, ◌∙◌, arith}
+use Rattle.std.proofs.lemmas.Grind.{common_steps}
 use Rattle.std.proofs.lemmas.List.{map-append, take_more}
-use Rattle.basket_sets.specs.declared.weighted.Weighted.{Weighted}
 use Rattle.basket_sets.specs.Database.{weighted}
 use Rattle.mine_baskets.specs.declared.words.Word.{Word}
 use Rattle.mine_baskets.specs.ListBaskets.{IsRankBasket}
-use Rattle.mine_baskets.specs.Words.{rank_bits, ranks_in, word_place, word_places}
+use Rattle.mine_baskets.specs.Words.{rank_bits, ranks_in, word_place}
 use Rattle.mine_baskets.proofs.word_baskets.words_of_ranks.Goals as goal
 use Rattle.mine_baskets.proofs.WordLemmas.{rank_bits_are}
 
@@ -19,6 +19,4 @@ loop-place-preserved c =
     let word : Word = record { bits = c.bits_of_ranks-bits.result; weight = place.weight } in
     let bits = c.bits_of_ranks-bits.ensures ∙ ap rank_bits c.items.ensures.items in
     let same : word_place count word ≡ place = ap (λ l. weighted l place.weight) (ap (ranks_in count) bits ∙ rank_bits_are count place.basket c.requires.few is.rises is.below) in
-    ap (word_places count) c.in_ok-push.ensures.items ∙ map-append (word_place count) c.loop-place.words.items (word ∷ [])
-    ∙ ap (λ l. l ++ word_place count word ∷ []) c.loop-place.invariant ∙ ap (λ (p : Weighted). take i all ++ p ∷ []) (same ∙ c.place-item.is)
-    ∙ sym (take_more all i place here)
+    grind (arith, common_steps, map-append, take_more)

@@ -1,4 +1,5 @@
 use Rattle.std.proofs.Common.{[], get_or, length, ap, ◌∙◌, arith}
+use Rattle.std.proofs.lemmas.Grind.{common_steps}
 use Rattle.std.proofs.lemmas.List.{take_at}
 use Rattle.basket_sets.specs.Database.{weighted}
 use Rattle.mine_baskets.specs.Baskets.{baskets_in}
@@ -7,9 +8,7 @@ use Rattle.mine_baskets.proofs.CoversLemmas.{all_covers, basket_of, length-cover
 use Rattle.mine_baskets.proofs.baskets.Baskets.covers.Goals as goal
 
 pub add_tid-requires-clause-below : goal.add_tid-requires-clause-below
-add_tid-requires-clause-below c = λ item h.
-    let low = c.at-weight.ensures.ranked.below item h in
-    omega (arith, low, c.loop-tid.invariant.long, length-covers_in c.loop-tid.covers.items, ap length c.deref_mut.ensures.value)
+add_tid-requires-clause-below c = λ item h. grind (arith, common_steps, length-covers_in)
 
 pub loop-tid-preserved : goal.loop-tid-preserved
 loop-tid-preserved c =

@@ -1,11 +1,10 @@
 use Rattle.std.proofs.Common.{rules, ℕ, ◌≤◌, subst, sym, ap, ◌∙◌, arith}
+use Rattle.std.proofs.lemmas.Grind.{common_steps}
 use Rattle.std.specs.Prelude.{All}
 use Rattle.std.specs.List.{sum_by}
 use Rattle.std.proofs.lemmas.List.Sorted.{All-permutation, IsNonDecreasingBy-from_sort_by_key, sum_by-IsPermutation}
 use Rattle.std.specs.List.Sorted.{IsNonDecreasingBy}
 use Rattle.mine_baskets.specs.declared.words.Word.{Word}
-use Rattle.mine_baskets.specs.ListBaskets.{weight_where}
-use Rattle.mine_baskets.specs.Words.{word_places}
 use Rattle.mine_baskets.proofs.WordLemmas.{moved_words, words_ranked}
 use Rattle.mine_baskets.proofs.word_baskets.WordBaskets.of.Goals as goal
 
@@ -18,9 +17,7 @@ merged-requires-clause-some c =
     (All-permutation (λ (word : Word). 1 ≤ word.weight) c.args.words.items c.sort_unstable_by_key.new.self.items c.sort_unstable_by_key.ensures.permutation c.requires.some)
 
 pub merged-requires-clause-light : goal.merged-requires-clause-light
-merged-requires-clause-light c =
-    let same = ap (sum_by weight) c.deref.ensures.value ∙ sum_by-IsPermutation weight c.args.words.items c.sort_unstable_by_key.new.self.items c.sort_unstable_by_key.ensures.permutation in
-    omega (arith, same, c.requires.light)
+merged-requires-clause-light c = grind (arith, common_steps, sum_by-IsPermutation)
 
 pub merged-requires-clause-sorted : goal.merged-requires-clause-sorted
 merged-requires-clause-sorted c =
@@ -28,10 +25,7 @@ merged-requires-clause-sorted c =
     (IsNonDecreasingBy-from_sort_by_key (λ (word : Word). word.bits) c.sort_unstable_by_key.new.self.items c.sort_unstable_by_key.ensures.sorted (λ a r q k. search rules))
 
 pub returns-clause-weights : goal.returns-clause-weights
-returns-clause-weights c = λ test.
-    let count = c.args.count in
-    moved_words count c.args.words.items c.sort_unstable_by_key.new.self.items c.sort_unstable_by_key.ensures.permutation test
-    ∙ ap (λ l. weight_where test (word_places count l)) (sym c.deref.ensures.value) ∙ c.in_ok-distinct.ensures.weights count test
+returns-clause-weights c = λ test. grind (arith, common_steps, moved_words)
 
 pub returns-clause-ranked : goal.returns-clause-ranked
 returns-clause-ranked c =

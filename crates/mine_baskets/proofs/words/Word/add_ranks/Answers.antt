@@ -1,4 +1,5 @@
-use Rattle.std.proofs.Common.{◌≡◌, ◌-◌, ◌*◌, ◌%◌, ◌^◌, ◌++◌, ◌∷◌, [], sym, ap, ◌∙◌, arith, append_assoc, append-nil}
+use Rattle.std.proofs.Common.{◌≡◌, ◌*◌, ◌%◌, ◌^◌, ◌++◌, sym, ap, ◌∙◌, arith, append-nil}
+use Rattle.std.proofs.lemmas.Grind.{common_steps}
 use Rattle.std.proofs.lemmas.Nat.{one_shl}
 use Rattle.mine_baskets.specs.Words.{ranks_in}
 use Rattle.mine_baskets.proofs.BitRankLemmas.{first_rank, no_first_rank, no_ranks}
@@ -12,10 +13,7 @@ loop-rest-preserved c =
     let ranks = c.loop-rest.ranks.items in
     let shifted : 1 * 2 ^ bit % 2 ^ 64 ≡ 2 ^ bit = one_shl bit 64 c.ilog2-bit.ensures.bound in
     let next = first_rank rest bit c.ilog2-bit.ensures.power_le c.ilog2-bit.ensures.next_power_gt count c.requires (omega (arith, c.ilog2-bit.ensures.bound)) c.if-rank-count.false in
-    ap (λ l. l ++ ranks_in count (rest - 1 * 2 ^ bit % 2 ^ 64)) c.in_ok-push.ensures.items
-    ∙ ap (λ b. (ranks ++ (63 - bit) ∷ []) ++ ranks_in count (rest - b)) shifted
-    ∙ append_assoc ranks ((63 - bit) ∷ []) (ranks_in count (rest - 2 ^ bit))
-    ∙ ap (λ l. ranks ++ l) (sym next) ∙ c.loop-rest.invariant
+    grind (arith, common_steps)
 
 pub returns : goal.returns
 returns c =
@@ -23,7 +21,4 @@ returns c =
     sym (append-nil ranks) ∙ ap (λ l. ranks ++ l) (sym (ap (ranks_in c.args.count) c.loop-rest-test.false ∙ no_ranks c.args.count)) ∙ c.loop-rest.invariant
 
 pub returns-then-rank-count : goal.returns-then-rank-count
-returns-then-rank-count c =
-    let ranks = c.loop-rest.ranks.items in
-    let none = no_first_rank c.loop-rest.rest c.ilog2-bit.result c.ilog2-bit.ensures.power_le c.ilog2-bit.ensures.next_power_gt c.args.count (omega (arith, c.ilog2-bit.ensures.bound)) c.if-rank-count.true in
-    sym (append-nil ranks) ∙ ap (λ l. ranks ++ l) (sym none) ∙ c.loop-rest.invariant
+returns-then-rank-count c = grind (arith, common_steps, no_first_rank)
