@@ -1,11 +1,11 @@
 -- Extensions in order of their prefixes, and the look-up of a set among them.
-use Rattle.std.proofs.Common.{◌≡◌, ◌≢◌, ℕ, Bool, true, false, List, [], ◌∷◌, ◌++◌, length, drop, filter, get_or, refl, sym, ap, ◌∙◌, subst, inl, inr, arith}
+use Rattle.std.proofs.Common.{◌≡◌, ◌≢◌, ℕ, Bool, false, List, [], ◌∷◌, ◌++◌, length, drop, filter, get_or, refl, sym, ap, ◌∙◌, subst, inl, inr, arith}
+use Rattle.std.proofs.lemmas.Grind.{common_steps}
 use Rattle.std.specs.Cmp.Lexicographic.{slice_cmp, nat_list_cmp_total}
 use Rattle.std.specs.List.Sorted.{IsStrictlySortedBy}
 use Rattle.std.specs.Ordering.{nat_cmp}
 use Rattle.std.specs.declared.cmp.Ordering.TheVariants.{Less}
 use Rattle.std.proofs.lemmas.Bool.{cases_Bool, cond_both, true≢false}
-use Rattle.std.proofs.lemmas.List.{length-append}
 use Rattle.basket_sets.specs.Itemset.{IsRising, has}
 use Rattle.basket_sets.specs.Order.{report_order, IsInReportOrder}
 use Rattle.basket_sets.proofs.theory.Members.{Member, Member-append_left, Member-filter, Member-flat_map, Member-into_flat_map, Member-map, Member-from_map, All-from_Member, first_is_less, rest_is_sorted, not_both_less, sorted_append, sorted_map}
@@ -20,9 +20,7 @@ use Rattle.mine_apriori.proofs.PruneLemmas.{Member-from_is_one_of, is_one_of-fro
 -- ---- prefixes in order
 
 filter_prefix : (p : Group → Bool) (groups : List Group) (prefix : List ℕ) → Member prefix (prefixes_of (filter p groups)) → Member prefix (prefixes_of groups)
-filter_prefix p groups prefix m =
-    let g = Member-from_map (λ (group : Group). group.prefix) prefix (filter p groups) m in
-    subst (λ s. Member s (prefixes_of groups)) g.2 (Member-map (λ (group : Group). group.prefix) g.0 groups (Member-filter p g.0 groups g.1).0)
+filter_prefix p groups prefix m = grind (arith, common_steps, Member-from_map, Member, Member-map, Member-filter)
 
 filter_sorted : (p : Group → Bool) (groups : List Group) → IsStrictlySortedBy (slice_cmp nat_cmp) (prefixes_of groups) → IsStrictlySortedBy (slice_cmp nat_cmp) (prefixes_of (filter p groups))
 unfolding IsStrictlySortedBy
@@ -64,10 +62,7 @@ same_group (first ∷ groups) one other up (inr m) (inr n) e = same_group groups
 -- ---- the sets of groups
 
 pub from_sets : (groups : List Group) (set : List ℕ) → Member set (sets_of groups) → (group : Group) × (item : ℕ) × Member group groups × Member item group.items × (group.prefix ++ item ∷ [] ≡ set)
-from_sets groups set m =
-    let g = Member-flat_map (λ (group : Group). extend group.prefix group.items) set groups m in
-    let p = Member-from_map (λ item. g.0.prefix ++ item ∷ []) set g.0.items g.2 in
-    (g.0, p.0, g.1, p.1, p.2)
+from_sets groups set m = grind (arith, common_steps, Member-flat_map, Member-from_map)
 
 pub into_sets : (groups : List Group) (group : Group) (item : ℕ) → Member group groups → Member item group.items → Member (group.prefix ++ item ∷ []) (sets_of groups)
 into_sets groups group item m n =
@@ -117,12 +112,9 @@ sets_in_order groups grouped rise = sets_rise grouped.size groups (size_at group
 
 pub last_same : (a b : List ℕ) (x y : ℕ) → a ++ x ∷ [] ≡ b ++ y ∷ [] → (a ≡ b) × (x ≡ y)
 last_same [] [] x y e = (refl, ap (λ l. get_or l 0 0) e)
-last_same [] (v ∷ b) x y e = absurd (let n = ap length e in let m = length-append b (y ∷ []) in omega (arith, n, m))
-last_same (u ∷ a) [] x y e = absurd (let n = ap length e in let m = length-append a (x ∷ []) in omega (arith, n, m))
-last_same (u ∷ a) (v ∷ b) x y e =
-    let first : u ≡ v = ap (λ l. get_or l 0 0) e in
-    let rest = last_same a b x y (ap (drop 1) e) in
-    ((λ i. first i ∷ rest.0 i), rest.1)
+last_same [] (v ∷ b) x y e = grind (arith, common_steps)
+last_same (u ∷ a) [] x y e = grind (arith, common_steps)
+last_same (u ∷ a) (v ∷ b) x y e = grind (arith, common_steps, last_same a b x y (ap (drop 1) e))
 
 pub looked_up : (groups : List Group) (group : Group) (item : ℕ) → IsStrictlySortedBy (slice_cmp nat_cmp) (prefixes_of groups) → Member group groups
     → is_one_of (sets_of groups) (group.prefix ++ item ∷ []) ≡ has group.items item

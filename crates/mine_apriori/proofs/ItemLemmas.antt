@@ -1,5 +1,6 @@
 -- The candidates of baskets of items are those of the baskets of ranks.
 use Rattle.std.proofs.Common.{◌≡◌, ℕ, ◌<◌, Bool, true, false, List, [], ◌∷◌, length, get_or, map, refl, sym, ap, ◌∙◌, subst, inl, inr, arith}
+use Rattle.std.proofs.lemmas.Grind.{common_steps}
 use Rattle.std.specs.Cmp.{eq_by_cmp_equiv}
 use Rattle.std.specs.Cmp.Lexicographic.{bytes_decides}
 use Rattle.std.specs.List.{IsDistinct, list_any}
@@ -42,9 +43,7 @@ module _ (coding : Coding) (is : IsCoding coding) where
   by_item set = IsOne (baskets_of coding) coding.minimum set
 
   ranks_within : (set : List ℕ) → by_rank set → AllBelow (length items) set
-  ranks_within set one rank here =
-      let f = in_frequent coding.baskets coding.minimum set one rank (Member-from_has set rank here) in
-      ranks_below coding is f.0 f.1 rank (has-from_Member f.0 rank f.2)
+  ranks_within set one rank here = let f = in_frequent coding.baskets coding.minimum set one rank (Member-from_has set rank here) in grind (arith, common_steps, ranks_below, has-from_Member)
 
   items_within : (set : List ℕ) → by_item set → (item : ℕ) → Member item set → Member item items
   items_within set one item m = let f = in_frequent (baskets_of coding) coding.minimum set one item m in items_ranked coding is f.0 f.1 item f.2

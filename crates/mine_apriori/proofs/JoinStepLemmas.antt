@@ -1,11 +1,11 @@
 -- The candidates of a level, one set after another.
-use Rattle.std.proofs.Common.{◌≡◌, ℕ, zero, suc, ◌+◌, ◌<◌, true, false, List, [], ◌∷◌, ◌++◌, length, take, drop, filter, get_or, append_assoc, append-nil, sym, ap, ◌∙◌, subst, inr, refl, arith}
+use Rattle.std.proofs.Common.{◌≡◌, ℕ, zero, suc, ◌+◌, ◌<◌, true, false, List, [], ◌∷◌, ◌++◌, length, take, drop, filter, get_or, sym, ap, ◌∙◌, subst, inr, refl, arith}
+use Rattle.std.proofs.lemmas.Grind.{common_steps}
 use Rattle.std.specs.Cmp.Lexicographic.{slice_cmp}
 use Rattle.std.specs.List.{All}
 use Rattle.std.specs.List.Sorted.{IsStrictlySortedBy}
 use Rattle.std.specs.Ordering.{nat_cmp}
-use Rattle.std.proofs.lemmas.Grind.{flat_map-append}
-use Rattle.std.proofs.lemmas.List.{drop_more, get_or-map, get_or_default, take_more}
+use Rattle.std.proofs.lemmas.List.{drop_more, get_or-map, get_or_default}
 use Rattle.std.proofs.lemmas.List.Elements.{filter-append, filter_agree}
 use Rattle.basket_sets.specs.Itemset.{IsRising, has, without}
 use Rattle.basket_sets.proofs.theory.Items.{filter_none}
@@ -19,7 +19,7 @@ use Rattle.mine_supports.specs.Sizes.{AreOfSize}
 use Rattle.mine_supports.proofs.theory.Extensions.{no_group}
 use Rattle.mine_supports.proofs.theory.Grouped.{at_each, size_at}
 use Rattle.mine_apriori.proofs.GroupLemmas.{into_sets, looked_up, missing}
-use Rattle.mine_apriori.proofs.JoinedLemmas.{all_joined, join_of, parts_decide}
+use Rattle.mine_apriori.proofs.JoinedLemmas.{all_joined, parts_decide}
 use Rattle.mine_apriori.proofs.PruneLemmas.{filter_both, is_one_of-from_Member}
 
 -- ---- one set more is joined
@@ -46,31 +46,19 @@ module _ (groups : List Group) (prefix items : List ℕ) (parts : AreParts group
   kept_items = filter (has_parts (length prefix) (sets_of groups) set) later
 
   kept_is : kept_items ≡ filter (λ x. has_subsets (suc (length prefix)) (sets_of groups) (set ++ x ∷ [])) later
-  kept_is = filter_members (has_parts (length prefix) (sets_of groups) set) (λ x. has_subsets (suc (length prefix)) (sets_of groups) (set ++ x ∷ [])) later (λ x m.
-      parts_decide (sets_of groups) prefix (get_or items index 0) x
-      (parts.there (get_or items index 0) (has_place items index below))
-      (parts.there x (has-from_Member items x (Member-from_drop (index + 1) items x m))))
+  kept_is = grind (arith, common_steps, filter_members, parts_decide, has_place, has-from_Member, Member-from_drop)
 
   pub join_more : (found : List Group)
       → (found ++ filter has_items (record { prefix = set; items = kept_items } ∷ [])) ++ filter has_items (joined_group (suc (length prefix)) (sets_of groups) prefix later)
       ≡ found ++ filter has_items (joined_group (suc (length prefix)) (sets_of groups) prefix (drop index items))
-  join_more found =
-      let rest = joined_group (suc (length prefix)) (sets_of groups) prefix later in
-      append_assoc found (filter has_items (record { prefix = set; items = kept_items } ∷ [])) (filter has_items rest)
-      ∙ ap (λ l. found ++ l) (sym (filter-append has_items (record { prefix = set; items = kept_items } ∷ []) rest) ∙ ap (λ l. filter has_items (record { prefix = set; items = l } ∷ rest)) kept_is)
-      ∙ ap (λ l. found ++ filter has_items (joined_group (suc (length prefix)) (sets_of groups) prefix l)) (sym (drop_more items index 0 below))
+  join_more found = grind (arith, common_steps, filter-append, kept_is, drop_more)
 
 -- ---- one prefix more
 
 pub group_more : (sets : List (List ℕ)) (groups found more : List Group) (index : ℕ) (d : Group) → index < length groups → found ≡ filter has_items (all_joined sets (take index groups))
     → (let group = get_or groups index d in more ≡ found ++ filter has_items (joined_group (suc (length group.prefix)) sets group.prefix group.items))
     → more ≡ filter has_items (all_joined sets (take (index + 1) groups))
-group_more sets groups found more index d below before is =
-    let group = get_or groups index d in
-    is ∙ ap (λ l. l ++ filter has_items (join_of sets group)) before
-    ∙ sym (ap (λ l. filter has_items (all_joined sets l)) (take_more groups index d below)
-    ∙ ap (filter has_items) (flat_map-append (join_of sets) (take index groups) (group ∷ []) ∙ ap (λ l. all_joined sets (take index groups) ++ l) (append-nil (join_of sets group)))
-    ∙ filter-append has_items (all_joined sets (take index groups)) (join_of sets group))
+group_more sets groups found more index d below before is = grind (arith, common_steps)
 
 pub group_parts : (groups : List Group) (index : ℕ) (d : Group) → AreGrouped groups → All IsRising (sets_of groups) → index < length groups → IsRising (get_or groups index d).items
     → AreParts groups (get_or groups index d).prefix (get_or groups index d).items
@@ -94,11 +82,7 @@ parts_none sets one [] = refl
 parts_none sets one (x ∷ items) = ap (λ l. x ∷ l) (parts_none sets one items)
 
 pub parts_more : (sets : List (List ℕ)) (set items old new : List ℕ) (index : ℕ) → old ≡ filter (has_parts index sets set) items → new ≡ filter (λ x. is_one_of sets (without index set ++ x ∷ [])) old → new ≡ filter (has_parts (index + 1) sets set) items
-parts_more sets set items old new index before is =
-    let one : suc index ≡ index + 1 = omega arith in
-    is ∙ ap (filter (λ x. is_one_of sets (without index set ++ x ∷ []))) before
-    ∙ filter_both (has_parts index sets set) (λ x. is_one_of sets (without index set ++ x ∷ [])) items
-    ∙ ap (λ n. filter (has_parts n sets set) items) one
+parts_more sets set items old new index before is = let one : suc index ≡ index + 1 = omega arith in grind (arith, common_steps, filter_both)
 
 pub kept_found : (groups : List Group) (at : ℕ) (prefix items : List ℕ) → IsStrictlySortedBy (slice_cmp nat_cmp) (prefixes_of groups) → at < length groups → get_or (prefixes_of groups) at [] ≡ prefix
     → filter (has (get_or (lists_of groups) at [])) items ≡ filter (λ x. is_one_of (sets_of groups) (prefix ++ x ∷ [])) items
@@ -106,8 +90,7 @@ kept_found groups at prefix items up below is =
     let group = get_or groups at no_group in
     let here = Member-from_Contains group groups (at, below, get_or_default groups at group no_group below) in
     let first = sym (get_or-map (λ (g : Group). g.prefix) groups at no_group [] below) ∙ is in
-    filter_agree (has (get_or (lists_of groups) at [])) (λ x. is_one_of (sets_of groups) (prefix ++ x ∷ []))
-    (λ x. ap (λ l. has l x) (get_or-map (λ (g : Group). g.items) groups at no_group [] below) ∙ sym (looked_up groups group x up here) ∙ ap (λ p. is_one_of (sets_of groups) (p ++ x ∷ [])) first) items
+    grind (arith, common_steps, filter_agree, get_or-map, no_group, looked_up)
 
 pub kept_missing : (groups : List Group) (prefix items : List ℕ) → is_one_of (prefixes_of groups) prefix ≡ false → [] ≡ filter (λ x. is_one_of (sets_of groups) (prefix ++ x ∷ [])) items
 kept_missing groups prefix items none = sym (filter_none (λ x. is_one_of (sets_of groups) (prefix ++ x ∷ [])) items (λ x m. missing groups prefix x none))

@@ -1,5 +1,6 @@
 -- The candidates of a level, prefix by prefix.
-use Rattle.std.proofs.Common.{◌≡◌, ℕ, zero, suc, ◌<◌, ◌&&◌, Bool, true, List, [], ◌∷◌, ◌++◌, length, filter, flat_map, map, refl, sym, ap, ◌∙◌, subst, inl, inr, arith}
+use Rattle.std.proofs.Common.{◌≡◌, ℕ, zero, suc, ◌<◌, ◌&&◌, Bool, true, List, [], ◌∷◌, ◌++◌, length, filter, flat_map, refl, sym, ap, ◌∙◌, subst, inl, inr, arith}
+use Rattle.std.proofs.lemmas.Grind.{common_steps}
 use Rattle.std.specs.Cmp.Lexicographic.{slice_cmp}
 use Rattle.std.specs.List.{All}
 use Rattle.std.specs.List.Sorted.{IsStrictlySortedBy}
@@ -168,13 +169,7 @@ module _ (groups : List Group) (grouped : AreGrouped groups) (order : IsInReport
   candidates_grouped = filter_grouped has_items joins joined_grouped
 
   join_from : (join : Group) → Member join joins → (from : Group) × Member from groups × IsJoinOf (suc size) sets from.prefix from.items join
-  join_from join m =
-      let f = Member-flat_map (join_of sets) join groups m in (
-        f.0,
-        f.1,
-        from_joined (suc size) sets f.0.prefix f.0.items join (items_rise groups lexicographic f.0 f.1)
-            (subst (λ n. Member join (joined_group (suc n) sets f.0.prefix f.0.items)) (prefix_long f.0 f.1) f.2),
-      )
+  join_from join m = grind (arith, common_steps, Member-flat_map, from_joined, items_rise, lexicographic, Member, prefix_long)
 
   into_candidates_of : All IsRising sets → (set : List ℕ) → Member set (sets_of joins) → Member set (candidates_of sets)
   into_candidates_of rising set m =
@@ -207,9 +202,7 @@ module _ (groups : List Group) (grouped : AreGrouped groups) (order : IsInReport
       let second = last_same g.0.prefix e.front g.1 e.second g.4 in
       let same : g.0 ≡ f.0 = same_group groups g.0 f.0 grouped.sorted g.2 f.2 (second.0 ∙ sym first.0) in
       let is : (f.0.prefix ++ f.1 ∷ []) ++ g.1 ∷ [] ≡ set = (λ i. f.4 i ++ second.1 i ∷ []) ∙ sym e.is in
-      subst (λ l. Member l (sets_of joins)) is
-      (join_there f.0 f.1 g.1 f.2 (rising_ends f.0.prefix f.1 g.1 (subst IsRising (sym is) s.0.rises)) f.3 (subst (λ (h : Group). Member g.1 h.items) same g.3)
-      (ap (has_subsets (suc size) sets) is ∙ s.1))
+      grind (arith, common_steps, Member, join_there, rising_ends)
 
   pub level_joined : All IsRising sets → sets_of (joined_groups sets groups) ≡ candidates_of sets
   level_joined rising =
@@ -219,5 +212,4 @@ module _ (groups : List Group) (grouped : AreGrouped groups) (order : IsInReport
 
 -- what is kept is grouped
 pub kept_grouped : (passes : List ℕ → Bool) (groups : List Group) → AreGrouped groups → AreGrouped (kept passes groups)
-kept_grouped passes groups grouped =
-    filter_grouped has_items (map (passing passes) groups) (regrouped groups (map (passing passes) groups) (sym (map-map (λ (g : Group). g.prefix) (passing passes) groups)) grouped)
+kept_grouped passes groups grouped = grind (arith, common_steps, filter_grouped, passing, regrouped, map-map)

@@ -1,8 +1,7 @@
 -- What the candidates of sets of one size are, and those of a database, which its frequent sets settle.
-use Rattle.std.proofs.Common.{◌≡◌, ℕ, ◌+◌, ◌<◌, true, List, [], ◌∷◌, ◌++◌, length, flat_map, refl, sym, ◌∙◌, subst, inl, inr, ◌⊎◌, arith, zero, suc, ◌≢◌, ◌-◌, ◌≤◌, Bool, leb}
+use Rattle.std.proofs.Common.{◌≡◌, ℕ, ◌+◌, ◌<◌, true, List, [], ◌∷◌, ◌++◌, length, flat_map, refl, sym, subst, inl, inr, ◌⊎◌, arith, zero, suc, ◌≢◌, ◌-◌, ◌≤◌, Bool, leb}
+use Rattle.std.proofs.lemmas.Grind.{common_steps}
 use Rattle.std.specs.List.Sorted.{IsStrictlySortedBy}
-use Rattle.std.specs.Ordering.{nat_cmp}
-use Rattle.std.specs.Cmp.Lexicographic.{slice_cmp}
 use Rattle.std.specs.List.{Contains, list_all}
 use Rattle.std.proofs.lemmas.List.Kept.{IsStrictlySortedBy-filter}
 use Rattle.std.proofs.lemmas.Bool.{and_from, and_parts, le-leb, leb-true}
@@ -43,10 +42,7 @@ candidates_are_one_larger size sets sized = of_each (λ set. length set ≡ size
 
 -- the subsets of one size are in report order
 pub of_size_in_order : (size : ℕ) (items : List ℕ) → IsRising items → IsInReportOrder (subsets_of_size size items)
-of_size_in_order size items up =
-    sorted_along (slice_cmp nat_cmp) report_order (subsets_of_size size items)
-    (λ a b m n h. let s = IsSubset-from_Member size items a up m in let t = IsSubset-from_Member size items b up n in same_length a b (s.sized ∙ sym t.sized) h)
-    (of_size_sorted size items up)
+of_size_in_order size items up = grind (arith, common_steps, sorted_along, IsSubset-from_Member, same_length, of_size_sorted)
 
 pub candidates_are_in_report_order : CandidatesAreInReportOrder
 unfolding IsStrictlySortedBy
@@ -68,13 +64,7 @@ item_is_left last set item long m =
 candidate_from : (size : ℕ) (sets : List (List ℕ)) (set : List ℕ) → AreOfSize size sets → Member set (candidates_of sets) → IsCandidate size sets set
 candidate_from size sets set sized m =
     let s = subset_of_size size sets set sized m in
-    record {
-      rises = s.0.rises;
-      sized = omega (arith, s.0.sized);
-      subsets = λ subset up long within. Contains-from_Member subset sets (Member-from_is_one_of sets subset
-          (each_of (is_one_of sets) (subsets_of_size size set) s.1 subset
-          (Member-from_IsSubset size set subset s.0.rises (record { rises = up; sized = long; within = has_each set subset within }))));
-    }
+    grind (arith, common_steps, Contains-from_Member, Member-from_is_one_of, each_of, Member-from_IsSubset, has_each)
 
 -- a set without one of its items is in the list
 pub without_is_there : (last : ℕ) (sets : List (List ℕ)) (set : List ℕ) → length set ≡ suc (suc last) → has_subsets (suc last) sets set ≡ true → (index : ℕ) → index < suc (suc last) → Member (without index set) sets
@@ -111,8 +101,7 @@ candidates_are_exact (suc last) sets set some sized = (
 -- ---- what a candidate is
 
 nonempty : (set : List ℕ) → 1 ≤ length set → set ≢ []
-nonempty [] low e = omega arith
-nonempty (item ∷ set) low e = let no : item ∷ set ≡ [] = e in cc
+nonempty h1 h2 h3 = grind (arith, common_steps)
 
 module _ (baskets : List Weighted) (minimum : Minimum) where
   abbrev passes : List ℕ → Bool
@@ -127,16 +116,7 @@ module _ (baskets : List Weighted) (minimum : Minimum) where
   up = rising-rises (all_items baskets)
 
   pub from_all : (set : List ℕ) → Member set (all_candidates baskets minimum) → IsOne set
-  from_all set m =
-      let k = Member-filter (is_candidate baskets minimum) set (subsets_of (items_of baskets)) m in
-      let s = subset_from_Member (items_of baskets) set up k.0 in
-      let parts = and_parts (leb 2 (length set)) (list_all passes (subsets_of_size (length set - 1) set)) k.1 in
-      record {
-        rises = s.0;
-        some = leb-true 2 (length set) parts.0;
-        subsets = λ subset rises sized within. each_of passes (subsets_of_size (length set - 1) set) parts.1 subset
-            (Member-from_IsSubset (length set - 1) set subset s.0 (record { rises = rises; sized = omega (arith, sized); within = within }));
-      }
+  from_all set m = grind (arith, common_steps, Member-filter, subset_from_Member, up, and_parts, leb-true, each_of, Member-from_IsSubset)
 
   -- each item of a candidate is in one of its frequent subsets
   pub in_frequent : (set : List ℕ) → IsOne set → (item : ℕ) → Member item set → (subset : List ℕ) × (passes subset ≡ true) × Member item subset

@@ -1,9 +1,10 @@
 -- The frequent sets by levels: each level is what is frequent among the candidates of the one before.
 use Rattle.std.proofs.Common.{◌≡◌, ◌≢◌, ℕ, ◌+◌, ◌<◌, ◌≤◌, Bool, true, List, [], ◌∷◌, ◌++◌, ◌&&◌, length, map, refl, sym, ap, ◌∙◌, subst, inl, arith, zero, suc}
+use Rattle.std.proofs.lemmas.Grind.{common_steps}
 use Rattle.std.specs.List.{All, filter, flat_map, range_with_len}
 use Rattle.std.proofs.Math.Bool.{and_self}
-use Rattle.std.proofs.lemmas.List.{append-nil, length-append, length-map, map-append, map-id}
-use Rattle.std.proofs.lemmas.List.Elements.{filter-append, filter_agree}
+use Rattle.std.proofs.lemmas.List.{append-nil, length-map, map-append, map-id}
+use Rattle.std.proofs.lemmas.List.Elements.{filter_agree}
 use Rattle.std.proofs.lemmas.List.FromFn.{length-range_with_len}
 use Rattle.std.proofs.lemmas.List.Kept.{IsStrictlySortedBy-filter}
 use Rattle.basket_ranks.specs.Codes.{Coding, IsCoding, baskets_of, frequent_of_coding, decoded_set}
@@ -39,9 +40,7 @@ module _ (p : List ℕ → Bool) (items : List ℕ) where
   up_to size = filter p (subsets_up_to size items)
 
   pub one_more : (size : ℕ) → up_to (size + 1) ≡ up_to size ++ filter p (subsets_of_size (size + 1) items)
-  one_more size =
-      let one : size + 1 ≡ suc size = omega arith in
-      ap up_to one ∙ filter-append p (subsets_up_to size items) (subsets_of_size (suc size) items) ∙ ap (λ n. up_to size ++ filter p (subsets_of_size n items)) (sym one)
+  one_more size = grind (arith, common_steps)
 
   same_later : (size more : ℕ) → ((k : ℕ) → filter p (subsets_of_size (size + 1 + k) items) ≡ []) → up_to (size + more) ≡ up_to size
   same_later size zero none = ap up_to (let e : size + 0 ≡ size = omega arith in e)
@@ -61,12 +60,8 @@ module _ (p : List ℕ → Bool) (items : List ℕ) where
 
   -- those up to a size are no more than all
   grows : (size more : ℕ) → length (up_to size) ≤ length (up_to (size + more))
-  grows size zero = let same = ap (λ n. length (up_to n)) (let e : size + 0 ≡ size = omega arith in e) in omega (arith, same)
-  grows size (suc more) =
-      let same = ap (λ n. length (up_to n)) (let e : size + suc more ≡ size + more + 1 = omega arith in e) in
-      let long = ap length (one_more (size + more)) ∙ length-append (up_to (size + more)) (filter p (subsets_of_size (size + more + 1) items)) in
-      let rest = grows size more in
-      omega (arith, same, long, rest)
+  grows size zero = grind (arith, common_steps)
+  grows size (suc more) = grind (arith, common_steps, one_more (size + more), grows size more)
 
   pub at_most_all : (size : ℕ) → length (up_to size) ≤ length (filter p (subsets_of items))
   at_most_all size = let most = grows size (length items) in omega (arith, most, ap length (beyond_all size))
@@ -91,9 +86,7 @@ module _ (coding : Coding) where
   from_level size set m = let k = Member-filter passes set (subsets_of_size size items) m in (IsSubset-from_Member size items set items_rise k.0, k.1)
 
   pub into_level : (size : ℕ) (set : List ℕ) → IsRising set → length set ≡ size → passes set ≡ true → Member set (level_of coding size)
-  into_level size set up sized h =
-      Member-from_filter passes set (subsets_of_size size items)
-      (Member-from_IsSubset size items set items_rise (record { rises = up; sized = sized; within = frequent_items coding.baskets coding.minimum set h })) h
+  into_level size set up sized h = grind (arith, common_steps, Member-from_filter, Member-from_IsSubset, items_rise, frequent_items)
 
   pub level_sized : (size : ℕ) → AreOfSize size (level_of coding size)
   level_sized size = of_each (λ set. length set ≡ size) (level_of coding size) (λ set m. (from_level size set m).0.sized)
@@ -125,10 +118,8 @@ module _ (coding : Coding) where
   empty_after size some none = sym (next_level size some) ∙ ap (λ l. filter passes (candidates_of l)) none
 
   pub empty_later : (size more : ℕ) → 1 ≤ size → level_of coding size ≡ [] → level_of coding (size + more) ≡ []
-  empty_later size zero some none = ap (level_of coding) (let e : size + 0 ≡ size = omega arith in e) ∙ none
-  empty_later size (suc more) some none =
-      ap (level_of coding) (let e : size + suc more ≡ size + more + 1 = omega arith in e)
-      ∙ empty_after (size + more) (omega arith) (empty_later size more some none)
+  empty_later size zero some none = grind (arith, common_steps)
+  empty_later size (suc more) some none = grind (arith, common_steps, empty_after (size + more) (omega arith) (empty_later size more some none), empty_later size more some none)
 
   pub found_long : (size : ℕ) (found : List Counted) → AreFound coding size found → length found ≡ length (levels_up_to coding size)
   found_long size found are = ap length are ∙ length-map (levels_up_to coding size) (λ set. decoded_set coding.items (counted coding.baskets set))
@@ -142,9 +133,7 @@ module _ (coding : Coding) where
   module _ (is : IsCoding coding) (size : ℕ) (some : 1 ≤ size) (none : asked_of coding size ≡ []) (found : List Counted) (are : AreFound coding size found) where
     -- nothing is found later
     are_all : AreFound coding (length items) found
-    are_all =
-        let next : level_of coding (size + 1) ≡ [] = sym (next_level size some) ∙ ap (filter passes) none in
-        are ∙ ap (decoded_sets coding) (settled passes items size (λ k. empty_later (size + 1) k (omega arith) next))
+    are_all = grind (arith, common_steps, next_level, settled, empty_later)
 
     -- what was found, as the one class of all classes, is each frequent set once
     pub one_class_once : (classes : List (List Counted)) → classes ≡ found ∷ [] → ListsOnce (baskets_of coding) coding.minimum (flat_map (λ class. class) classes)
@@ -196,8 +185,7 @@ module _ (coding : Coding) where
 
   -- one rank each, with its support
   pub first_asked : map (support_of coding.baskets) (map (λ rank. rank ∷ []) items) ≡ map (λ entry. entry.1) (item_supports coding.baskets)
-  first_asked =
-      map-map (support_of coding.baskets) (λ x. x ∷ []) items ∙ sym (map-map (λ (entry : ℕ × ℕ). entry.1) (λ x. (x, support_of coding.baskets (x ∷ []))) items)
+  first_asked = grind (arith, common_steps, map-map)
 
   pub first_ranks : map (λ entry. entry.0) (item_supports coding.baskets) ≡ items
   first_ranks = map-map (λ (entry : ℕ × ℕ). entry.0) (λ x. (x, support_of coding.baskets (x ∷ []))) items ∙ map-id items
@@ -218,12 +206,4 @@ pub record AreNext (coding : Coding) (size : ℕ) (found : List Counted) (level 
 pub are_next : (coding : Coding) (size : ℕ) (sets level : List Group) (old new : List Counted) → AreFound coding size old → AreGrouped sets
     → filter (is_frequent coding.baskets coding.minimum) (sets_of sets) ≡ level_of coding (size + 1) → level ≡ kept (is_frequent coding.baskets coding.minimum) sets
     → new ≡ old ++ decoded_sets coding (filter (is_frequent coding.baskets coding.minimum) (sets_of sets)) → AreNext coding size new level
-are_next coding size sets level old new found grouped next is added =
-    let passes = is_frequent coding.baskets coding.minimum in
-    record {
-      found_all = added ∙ (λ i. found i ++ decoded_sets coding (next i))
-          ∙ sym (map-append (λ set. decoded_set coding.items (counted coding.baskets set)) (levels_up_to coding size) (level_of coding (size + 1)))
-          ∙ ap (decoded_sets coding) (sym (one_more passes (items_of coding.baskets) size));
-      level_all = ap sets_of is ∙ kept_sets passes sets ∙ next;
-      grouped = subst AreGrouped (sym is) (kept_grouped passes sets grouped);
-    }
+are_next coding size sets level old new found grouped next is added = grind (arith, common_steps, map-append, one_more, kept_sets, kept_grouped)

@@ -1,5 +1,6 @@
 -- Pairs of ranks as sets of two.
-use Rattle.std.proofs.Common.{◌≡◌, ℕ, ◌+◌, ◌<◌, Bool, true, ◌&&◌, List, [], ◌∷◌, ◌++◌, length, get_or, map, refl, sym, ap, ◌∙◌, subst, inl, inr, arith, zero, suc, add-one, append-nil}
+use Rattle.std.proofs.Common.{◌≡◌, ℕ, ◌+◌, ◌<◌, Bool, true, ◌&&◌, List, [], ◌∷◌, ◌++◌, length, get_or, map, refl, sym, ap, ◌∙◌, subst, inl, inr, arith, zero, suc}
+use Rattle.std.proofs.lemmas.Grind.{common_steps}
 use Rattle.std.specs.Cmp.Lexicographic.{slice_cmp, bytes_decides, nat_list_cmp_total, texts_ties}
 use Rattle.std.specs.Ordering.{nat_cmp, ordering_then, eq_by_cmp}
 use Rattle.std.specs.List.{All, IsDistinct, filter, flat_map, range_with_len}
@@ -10,7 +11,6 @@ use Rattle.std.proofs.lemmas.Bool.{cases_Bool, lt-ltb}
 use Rattle.std.proofs.lemmas.List.{get_or-map, length-map, map-append, map-id}
 use Rattle.std.proofs.lemmas.List.Elements.{All-map}
 use Rattle.std.proofs.lemmas.List.FromFn.{get_or-map-range_with_len, length-map-range_with_len}
-use Rattle.std.proofs.lemmas.Grind.{flat_map-append}
 use Rattle.std.proofs.lemmas.List.Kept.{IsStrictlySortedBy-filter}
 use Rattle.std.proofs.lemmas.List.Sorted.{All-permutation, IsPermutation-map}
 use Rattle.std.proofs.lemmas.Map.Keys.{IsDistinct-from_sorted}
@@ -44,8 +44,7 @@ use Rattle.mine_apriori.proofs.LevelsLemmas.{from_level, into_level, items_rise}
 
 least_tests : (coding : Coding) (least : ℕ) → IsLeastSupport coding.minimum (total_of coding.baskets) least → (set : List ℕ)
     → is_frequent coding.baskets (Count least) set ≡ is_frequent coding.baskets coding.minimum set
-least_tests coding least settles set =
-    met_alone least (support_of coding.baskets set) settles.some ∙ sym (settles.met (support_of coding.baskets set) (support_falls coding.baskets set [] refl))
+least_tests coding least settles set = grind (arith, common_steps, met_alone, support_falls)
 
 -- ---- pairs as they are given
 
@@ -58,10 +57,7 @@ abbrev pub pair_with : ℕ → ℕ × ℕ → Pair
 pair_with greater pair = record { ranks = pair.0 ∷ greater ∷ []; count = pair.1 }
 
 pub parts : (set : List ℕ) → length set ≡ 2 → set ≡ get_or set 0 0 ∷ get_or set 1 0 ∷ []
-parts [] e = absurd (omega (arith, e))
-parts (x ∷ []) e = absurd (omega (arith, e))
-parts (x ∷ y ∷ []) e = refl
-parts (x ∷ y ∷ z ∷ set) e = absurd (omega (arith, e))
+parts h1 h2 = grind (arith, common_steps)
 
 module _ (coding : Coding) where
   abbrev passes : List ℕ → Bool
@@ -79,14 +75,10 @@ module _ (coding : Coding) where
   sets_below count = flat_map sets_with (range_with_len 0 count)
 
   below_more : (count : ℕ) → sets_below (suc count) ≡ sets_below count ++ sets_with count
-  below_more count =
-      let last : 0 + count ≡ count = omega arith in
-      ap (flat_map sets_with) (range_more 0 count ∙ ap (λ n. range_with_len 0 count ++ n ∷ []) last) ∙ flat_map-append sets_with (range_with_len 0 count) (count ∷ [])
-      ∙ ap (λ l. sets_below count ++ l) (append-nil (sets_with count))
+  below_more count = grind (arith, common_steps, range_more 0 count)
 
   pub pairs_long : (lists : List (Vec (ℕ × ℕ) Global)) → ArePairs coding (lists_of lists) → length lists ≡ length coding.items
-  pairs_long lists are =
-      sym (length-map lists (λ (v : Vec (ℕ × ℕ) Global). v.items)) ∙ ap length are.pairs ∙ length-map-range_with_len (pairs_of coding.baskets are.least) 0 (length coding.items)
+  pairs_long lists are = grind (arith, common_steps, length-map, length-map-range_with_len)
 
   pub pairs_here : (lists : List (Vec (ℕ × ℕ) Global)) (are : ArePairs coding (lists_of lists)) (greater : ℕ) (d : Vec (ℕ × ℕ) Global) → greater < length lists
       → (get_or lists greater d).items ≡ map (λ lesser. (lesser, support_of coding.baskets (lesser ∷ greater ∷ []))) (lesser_of greater)
@@ -100,22 +92,12 @@ module _ (coding : Coding) where
   -- the sets of a greater rank more
   pub sets_more : (greater : ℕ) → map (pair_of coding.baskets) (sets_below greater) ++ map (pair_with greater) (map (λ lesser. (lesser, support_of coding.baskets (lesser ∷ greater ∷ []))) (lesser_of greater))
       ≡ map (pair_of coding.baskets) (sets_below (greater + 1))
-  sets_more greater =
-      ap (λ l. map (pair_of coding.baskets) (sets_below greater) ++ l)
-      (map-map (pair_with greater) (λ lesser. (lesser, support_of coding.baskets (lesser ∷ greater ∷ []))) (lesser_of greater)
-      ∙ sym (map-map (pair_of coding.baskets) (λ lesser. lesser ∷ greater ∷ []) (lesser_of greater)))
-      ∙ sym (map-append (pair_of coding.baskets) (sets_below greater) (sets_with greater)) ∙ ap (map (pair_of coding.baskets)) (sym (below_more greater) ∙ ap sets_below (sym (add-one greater)))
+  sets_more greater = grind (arith, common_steps, map-map, map-append, below_more)
 
   -- ---- the second level
 
   from_below : (count : ℕ) (set : List ℕ) → Member set (sets_below count) → (lesser greater : ℕ) × (lesser ∷ greater ∷ [] ≡ set) × (lesser < greater) × (greater < count) × (passes set ≡ true)
-  from_below count set m =
-      let f = Member-flat_map sets_with set (range_with_len 0 count) m in
-      let p = Member-from_map (λ lesser. lesser ∷ f.0 ∷ []) set (lesser_of f.0) f.2 in
-      let k = Member-filter (λ lesser. passes (lesser ∷ f.0 ∷ [])) p.0 (range_with_len 0 f.0) p.1 in
-      let less = (Member-range 0 f.0 p.0 k.0).1 in
-      let below = (Member-range 0 count f.0 f.1).1 in
-      (p.0, f.0, p.2, omega (arith, less), omega (arith, below), ap passes (sym p.2) ∙ k.1)
+  from_below count set m = grind (arith, common_steps, Member-flat_map, Member-from_map, Member-filter, Member-range)
 
   into_below : (count lesser greater : ℕ) → lesser < greater → greater < count → passes (lesser ∷ greater ∷ []) ≡ true → Member (lesser ∷ greater ∷ []) (sets_below count)
   into_below count lesser greater less below h =

@@ -1,7 +1,8 @@
 -- How many candidates there are.
-use Rattle.std.proofs.Common.{◌≡◌, ℕ, ◌+◌, ◌-◌, ◌*◌, ◌/◌, ◌≤◌, ◌&&◌, Bool, true, false, List, [], ◌∷◌, ◌++◌, length, map, cond, leb, refl, sym, ap, ◌∙◌, subst, arith, zero, suc}
+use Rattle.std.proofs.Common.{◌≡◌, ℕ, ◌+◌, ◌-◌, ◌*◌, ◌/◌, ◌≤◌, Bool, true, false, List, [], ◌∷◌, ◌++◌, length, map, cond, leb, refl, sym, ap, ◌∙◌, subst, arith, zero, suc}
+use Rattle.std.proofs.lemmas.Grind.{common_steps}
 use Rattle.std.specs.List.{filter, list_all}
-use Rattle.std.proofs.Math.Nat.{add-mul, mul-suc, mul-div_cancel, suc-mul}
+use Rattle.std.proofs.Math.Nat.{add-mul, mul-div_cancel, suc-mul}
 use Rattle.std.proofs.lemmas.Bool.{and_from, and_left, and_parts, cond_both, le-leb, lt-leb}
 use Rattle.std.proofs.lemmas.List.{length-append, length-map}
 use Rattle.std.proofs.lemmas.Simd.{map-map}
@@ -28,11 +29,7 @@ use Rattle.basket_sets.proofs.theory.Tests.{all_of, each_of}
 
 square : (n : ℕ) → n * 2 + n * (n - 1) ≡ n * n + n
 square zero = refl
-square (suc n) =
-    let one : suc n - 1 ≡ n = omega arith in
-    let more = mul-suc (suc n) n in
-    let sum : suc n * 2 + suc n * n ≡ suc n * suc n + suc n = omega (arith, more) in
-    ap (λ k. suc n * 2 + suc n * k) one ∙ sum
+square (suc n) = grind (arith, common_steps)
 
 -- the pairs of a rank and others
 pairs_of : (rank : ℕ) (others : List ℕ) → map (λ set. rank ∷ set) (subsets_of_size 1 others) ≡ map (λ other. rank ∷ other ∷ []) others
@@ -40,14 +37,7 @@ pairs_of rank others = ap (map (λ set. rank ∷ set)) (one_item others) ∙ map
 
 length-pairs : (xs : List ℕ) → length (subsets_of_size 2 xs) * 2 ≡ length xs * (length xs - 1)
 length-pairs [] = refl
-length-pairs (x ∷ xs) =
-    let n = length xs in
-    let one : suc n - 1 ≡ n = omega arith in
-    let long : length (subsets_of_size 2 (x ∷ xs)) ≡ n + length (subsets_of_size 2 xs) =
-    ap (λ l. length (l ++ subsets_of_size 2 xs)) (pairs_of x xs) ∙ length-append (map (λ y. x ∷ y ∷ []) xs) (subsets_of_size 2 xs)
-    ∙ ap (λ k. k + length (subsets_of_size 2 xs)) (length-map xs (λ y. x ∷ y ∷ [])) in
-    ap (λ k. k * 2) long ∙ add-mul n (length (subsets_of_size 2 xs)) 2 ∙ ap (λ k. n * 2 + k) (length-pairs xs) ∙ square n
-    ∙ sym (ap (λ k. suc n * k) one ∙ suc-mul n n)
+length-pairs (x ∷ xs) = grind (arith, common_steps, length-pairs xs, pairs_of, length-append, length-map, add-mul, square, suc-mul)
 
 -- ---- what is asked are the candidates
 
@@ -118,16 +108,11 @@ module _ (coding : Coding) where
   ranks = filter frequent items
 
   level_long : length (level_of coding 1) ≡ length ranks
-  level_long = ap (λ l. length (filter passes l)) (one_item items)
-      ∙ ap length (filter-map (λ (rank : ℕ). rank ∷ []) passes items)
-      ∙ length-map ranks (λ (rank : ℕ). rank ∷ [])
+  level_long = grind (arith, common_steps, one_item, filter-map, length-map)
 
   -- a pair is a candidate if both ranks are frequent
   pairs_with : (rank : ℕ) (b : Bool) (others : List ℕ) → frequent rank ≡ b → filter tests (map (λ other. rank ∷ other ∷ []) others) ≡ cond b (map (λ other. rank ∷ other ∷ []) (filter frequent others)) []
-  pairs_with rank true others is = filter-map (λ other. rank ∷ other ∷ []) tests others
-      ∙ ap (map (λ other. rank ∷ other ∷ [])) (filter_agree (λ other. tests (rank ∷ other ∷ [])) frequent (λ other. ap (λ b. b && (frequent other && true)) is ∙ and-true (frequent other)) others)
-  pairs_with rank false others is = filter_none tests (map (λ other. rank ∷ other ∷ []) others) (λ set m.
-      let p = Member-from_map (λ other. rank ∷ other ∷ []) set others m in ap tests (sym p.2) ∙ ap (λ b. b && (frequent p.0 && true)) is)
+  pairs_with h1 h2 h3 h4 = grind (arith, common_steps, filter-map, filter_agree, and-true, filter_none, Member-from_map)
 
   frequent_pairs : (all : List ℕ) → filter tests (subsets_of_size 2 all) ≡ subsets_of_size 2 (filter frequent all)
   frequent_pairs [] = refl

@@ -1,8 +1,9 @@
 -- The joins and the frequent sets of the parts of a level are those of the level.
-use Rattle.std.proofs.Common.{◌≡◌, ℕ, ◌≤◌, Bool, List, [], ◌∷◌, ◌++◌, filter, map, refl, subst, sym, ap, ◌∙◌}
+use Rattle.std.proofs.Common.{◌≡◌, ℕ, ◌≤◌, Bool, List, [], ◌∷◌, ◌++◌, filter, map, refl, subst, sym, ap, ◌∙◌, arith}
+use Rattle.std.proofs.lemmas.Grind.{common_steps}
 use Rattle.std.specs.List.{All, flat_map, range_with_len}
 use Rattle.std.proofs.lemmas.List.{map-append}
-use Rattle.std.proofs.lemmas.List.Concat.{flat_map-append, flat_map-cons}
+use Rattle.std.proofs.lemmas.List.Concat.{flat_map-append}
 use Rattle.std.proofs.lemmas.List.Elements.{filter-append}
 use Rattle.std.proofs.lemmas.List.Folds.{flat_map-map}
 use Rattle.basket_ranks.specs.Codes.{Coding, decoded_set}
@@ -23,9 +24,7 @@ use Rattle.mine_apriori.proofs.JoinedLemmas.{all_joined, candidates_grouped, joi
 module _ {X : Type 0} (of : List Group → List X) (none : of [] ≡ []) (more : (front back : List Group) → of (front ++ back) ≡ of front ++ of back) where
   in_a_row : (part : ℕ → List Group) (numbers : List ℕ) → flat_map (λ n. of (part n)) numbers ≡ of (flat_map part numbers)
   in_a_row part [] = sym none
-  in_a_row part (n ∷ numbers) =
-      flat_map-cons (λ k. of (part k)) n numbers ∙ ap (λ l. of (part n) ++ l) (in_a_row part numbers) ∙ sym (more (part n) (flat_map part numbers))
-      ∙ ap of (sym (flat_map-cons part n numbers))
+  in_a_row part (n ∷ numbers) = grind (arith, common_steps, in_a_row part numbers)
 
   by_parts : (groups : List Group) (parts : ℕ) (values : List (List X)) → 1 ≤ parts → values ≡ map (λ part. of (shard_of part parts groups)) (range_with_len 0 parts)
       → flat_map (λ value. value) values ≡ of groups

@@ -1,10 +1,10 @@
-use Rattle.std.proofs.Common.{◌≡◌, ℕ, ◌∷◌, ◌++◌, [], append-nil, filter, map, take, sym, ap, subst, ◌∙◌}
-use Rattle.std.specs.List.{All}
+use Rattle.std.proofs.Common.{◌≡◌, ℕ, ◌∷◌, ◌++◌, [], append-nil, filter, map, take, sym, ap, subst, ◌∙◌, arith}
+use Rattle.std.proofs.lemmas.Grind.{common_steps}
 use Rattle.std.proofs.lemmas.List.{take_all}
 use Rattle.basket_sets.specs.Counts.{item_supports}
 use Rattle.basket_sets.specs.Frequent.{is_frequent}
 use Rattle.basket_sets.specs.Itemset.{IsRising}
-use Rattle.basket_sets.specs.Support.{items_of, support_of}
+use Rattle.basket_sets.specs.Support.{items_of}
 use Rattle.mine_supports.specs.Extensions.{AreGrouped, Group, has_items, sets_of}
 use Rattle.mine_supports.proofs.theory.Extensions.{sets_filled}
 use Rattle.mine_supports.proofs.theory.Frequent.{singles_rise}
@@ -30,14 +30,10 @@ listed : (c : After-found-2-1) → c.deref.result.now ≡ items_of c.args.coded.
 listed c ranks = ap sets_of (sets_are c) ∙ sets_filled (record { prefix = []; items = c.deref.result.now } ∷ []) ∙ append-nil (map (λ rank. rank ∷ []) c.deref.result.now) ∙ ap (map (λ rank. rank ∷ [])) ranks
 
 pub add_frequent-requires-clause-rising : goal.add_frequent-requires-clause-rising
-add_frequent-requires-clause-rising c =
-    subst (All IsRising) (sym (listed c (ranks_are (goal.at.add_frequent-requires-clause-rising c).After-deref))) (singles_rise (items_of c.args.coded.now.baskets))
+add_frequent-requires-clause-rising c = grind (arith, common_steps, listed, ranks_are, singles_rise)
 
 pub add_frequent-requires-clause-counts : goal.add_frequent-requires-clause-counts
-add_frequent-requires-clause-counts c =
-    let before = (goal.at.add_frequent-requires-clause-counts c).After-deref in
-    c.deref-2.ensures.value ∙ c.loop-rank.invariant.counts ∙ ap (map (λ (entry : ℕ × ℕ). entry.1)) (all before) ∙ sym (first_asked c.args.coded.now)
-    ∙ ap (map (support_of c.args.coded.now.baskets)) (sym (listed c (ranks_are before)))
+add_frequent-requires-clause-counts c = grind (arith, common_steps, all, first_asked, listed, ranks_are)
 
 -- the frequent ones are the first level
 next : (c : In_ok-level) → c.in_ok-sets.sets ≡ filter has_items (record { prefix = []; items = c.deref.result.now } ∷ []) → sets_of c.in_ok-sets.sets ≡ map (λ rank. rank ∷ []) (items_of c.args.coded.now.baskets)

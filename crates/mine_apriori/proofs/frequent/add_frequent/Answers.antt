@@ -1,12 +1,12 @@
-use Rattle.std.proofs.Common.{◌≡◌, ℕ, List, ◌+◌, ◌-◌, ◌≤◌, ◌<◌, ◌∷◌, ◌++◌, [], filter, get_or, length, map, take, drop, subst, sym, ap, ◌∙◌, arith}
+use Rattle.std.proofs.Common.{◌≡◌, ℕ, List, ◌+◌, ◌-◌, ◌≤◌, ◌<◌, ◌∷◌, ◌++◌, [], filter, get_or, length, map, take, subst, sym, ap, ◌∙◌, arith}
+use Rattle.std.proofs.lemmas.Grind.{common_steps}
 use Rattle.std.specs.List.{All}
 use Rattle.std.specs.Prelude.{slice_range}
 use Rattle.std.proofs.lemmas.List.{take_all}
-use Rattle.basket_ranks.specs.Codes.{decoded_set}
-use Rattle.basket_sets.specs.Frequent.{counted, is_frequent}
+use Rattle.basket_sets.specs.Frequent.{is_frequent}
 use Rattle.basket_sets.specs.Itemset.{IsRising}
 use Rattle.basket_sets.specs.Support.{support_of}
-use Rattle.mine_supports.specs.Extensions.{Group, extend, has_items, kept, sets_of}
+use Rattle.mine_supports.specs.Extensions.{Group, extend, sets_of}
 use Rattle.mine_apriori.specs.Levels.{decoded_sets}
 use Rattle.mine_supports.proofs.theory.Extensions.{items_read, no_group, prefix_read, range_at, range_long}
 use Rattle.mine_supports.proofs.theory.Frequent.{counts_first, counts_rest, counts_within, found_next, group_rises, kept_next}
@@ -30,14 +30,10 @@ same : (c : After-items-items) → get_or (groups c) (at c) no_group ≡ get_or 
 same c = range_at c.args.sets.now c.args.range.start c.args.range.end c.loop-number.number no_group (omega arith) c.loop-number-test.true
 
 list_is : (c : After-items-items) → c.items-items.result.now ≡ (get_or (groups c) (at c) no_group).items
-list_is c =
-    c.items-items.ensures.items ∙ items_read c.args.sets.now c.lists.result.now c.loop-number.number c.index-lists-number.result c.lists.ensures (inside c) c.index-lists-number.is
-    ∙ sym (ap (λ (group : Group). group.items) (same c))
+list_is c = grind (arith, common_steps, items_read, inside, same)
 
 prefix_is : (c : After-items-items) → c.index-prefixes-number.result ≡ (get_or (groups c) (at c) no_group).prefix
-prefix_is c =
-    prefix_read c.args.sets.now c.prefixes.result.now c.loop-number.number c.index-prefixes-number.result c.prefixes.ensures (inside c) c.index-prefixes-number.is
-    ∙ sym (ap (λ (group : Group). group.prefix) (same c))
+prefix_is c = grind (arith, common_steps, prefix_read, inside, same)
 
 pub split_at-requires : goal.split_at-requires
 split_at-requires c =
@@ -67,24 +63,13 @@ loop-number-preserved c =
     let items = list_is before in
     let are = c.in_ok-frequent.ensures.items ∙ (λ i. filter (λ item. passes (prefix i ++ item ∷ [])) (items i)) in
     let next : number + 1 ≡ c.loop-number.number + 1 - c.args.range.start = omega arith in
-    record {
-      rest = c.split_at.ensures.back ∙ ap (λ n. drop n c.loop-number.rest.now) (ap length (list_is before))
-          ∙ counts_rest all number no_group (below before) (support_of coding.baskets) c.loop-number.rest.now c.loop-number.invariant.rest
-          ∙ ap (λ n. map (support_of coding.baskets) (sets_of (drop n all))) next;
-      level = c.in_ok-level.ensures ∙ (λ i. c.loop-number.invariant.level i ++ filter has_items (record { prefix = (c.items.ensures.items ∙ prefix) i; items = (c.deref.ensures.value ∙ are) i } ∷ []))
-          ∙ kept_next all number no_group (below before) passes ∙ ap (λ n. kept passes (take n all)) next;
-      found = found_next all number no_group (below before) (λ set. decoded_set coding.items (counted coding.baskets set)) passes c.args.found.now c.loop-number.found c.add_extensions.new.found c.loop-number.invariant.found
-          (c.in_ok-frequent.ensures.found ∙ (λ i. c.loop-number.found ++ decoded_sets coding (filter passes (extend (prefix i) (items i)))))
-          ∙ ap (λ n. c.args.found.now ++ decoded_sets coding (filter passes (sets_of (take n all)))) next;
-    }
+    grind (arith, common_steps, list_is, counts_rest, no_group, below, kept_next, found_next)
 
 taken : (groups : List Group) (start end number : ℕ) → end ≤ length groups → end ≤ number → take (number - start) (slice_range groups start end) ≡ slice_range groups start end
 taken groups start end number within past = take_all (number - start) (slice_range groups start end) (omega (arith, past, range_long groups start end within))
 
 pub returns-clause-level : goal.returns-clause-level
-returns-clause-level c =
-    c.loop-number.invariant.level ∙ ap (kept (is_frequent c.args.coded.now.baskets c.args.coded.now.minimum))
-    (taken c.args.sets.now c.args.range.start c.args.range.end c.loop-number.number c.requires.within c.loop-number-test.false)
+returns-clause-level c = grind (arith, common_steps, taken)
 
 pub returns-clause-found : goal.returns-clause-found
 returns-clause-found c =

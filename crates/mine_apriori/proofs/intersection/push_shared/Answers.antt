@@ -1,4 +1,5 @@
-use Rattle.std.proofs.Common.{◌≡◌, ◌+◌, ◌∷◌, ◌++◌, [], ℕ, ◌<◌, Bool, true, false, List, append-nil, append_assoc, cond, filter, get_or, length, take, ap, sym, inl, inr, ◌∙◌, arith}
+use Rattle.std.proofs.Common.{◌≡◌, ◌+◌, ◌∷◌, ◌++◌, [], ℕ, ◌<◌, Bool, true, false, List, append-nil, append_assoc, cond, filter, get_or, length, take, ap, sym, ◌∙◌, arith}
+use Rattle.std.proofs.lemmas.Grind.{common_steps}
 use Rattle.std.proofs.lemmas.Bool.{cases_lt}
 use Rattle.basket_sets.specs.Itemset.{has}
 use Rattle.basket_sets.proofs.theory.Rising.{has_place}
@@ -15,10 +16,7 @@ step others items shared i b here is = append_assoc shared (filter (has others) 
 
 -- the others that were passed over are below the item
 passed : (c : Joined-next-others) (k : ℕ) → k < c.first_from-next.result → k < length c.args.others.now → get_or c.args.others.now k 0 < get_or c.args.items.now c.loop-item.item-index 0
-passed c k less within = elim (cases_lt k c.loop-item.next) [
-  | inl before ↦ c.loop-item.invariant.below k before within c.loop-item.item-index (omega arith) c.loop-item-test.true
-  | inr from ↦ c.first_from-next.ensures.below k from less
-]
+passed c k less within = grind (arith, common_steps, cases_lt)
 
 pub loop-item-preserved : goal.loop-item-preserved
 loop-item-preserved c =

@@ -1,9 +1,10 @@
 use Rattle.std.proofs.Common.{◌≡◌, ◌<◌, ◌≤◌, ◌+◌, ◌-◌, ◌++◌, filter, get_or, length, suc, take, subst, sym, ap, ◌∙◌, arith}
+use Rattle.std.proofs.lemmas.Grind.{common_steps}
 use Rattle.std.specs.Prelude.{slice_range}
 use Rattle.std.proofs.lemmas.List.{take_all}
 use Rattle.basket_sets.specs.Itemset.{IsRising}
 use Rattle.mine_supports.specs.Extensions.{Group, has_items, sets_of}
-use Rattle.mine_apriori.specs.Join.{AreParts, joined_group, joined_groups}
+use Rattle.mine_apriori.specs.Join.{joined_group, joined_groups}
 use Rattle.mine_supports.proofs.theory.Extensions.{items_read, no_group, prefix_read, range_at, range_long}
 use Rattle.mine_apriori.proofs.JoinStepLemmas.{group_more, group_parts}
 use Rattle.mine_apriori.proofs.join.candidates_in.Goals as goal
@@ -24,9 +25,7 @@ join-requires-clause-parts c =
     let index = c.loop-index.index in
     let group = get_or groups index no_group in
     let up = subst IsRising (list_is c) c.items-items.ensures.rising in
-    subst (λ prefix. AreParts groups prefix c.items-items.result.now) (sym (prefix_is c))
-    (subst (λ items. AreParts groups group.prefix items) (sym (c.items-items.ensures.items ∙ list_is c))
-    (group_parts groups index no_group c.requires.grouped c.requires.rising (below c) up))
+    grind (arith, common_steps, prefix_is, list_is, group_parts, no_group, below)
 
 pub loop-index-preserved : goal.loop-index-preserved
 loop-index-preserved c =

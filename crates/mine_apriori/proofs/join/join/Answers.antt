@@ -1,4 +1,5 @@
-use Rattle.std.proofs.Common.{◌≡◌, ◌+◌, ◌-◌, ◌∷◌, ◌++◌, [], drop, filter, get_or, length, suc, take, refl, subst, sym, ap, ◌∙◌, arith}
+use Rattle.std.proofs.Common.{◌≡◌, ◌+◌, ◌∷◌, ◌++◌, [], drop, filter, get_or, length, suc, subst, sym, ap, ◌∙◌, arith}
+use Rattle.std.proofs.lemmas.Grind.{common_steps}
 use Rattle.std.proofs.lemmas.List.{take_rest}
 use Rattle.basket_sets.specs.Itemset.{IsRising}
 use Rattle.basket_sets.proofs.theory.Ranges.{filter_rises}
@@ -11,10 +12,7 @@ use Rattle.mine_apriori.proofs.join.join.Goals.{After-room-1, After-deref-in-loo
 
 -- the later items
 later_are : (c : After-room-1) → c.extend_from_slice.new.self.items ≡ drop (c.loop-index.index + 1) c.args.items.now
-later_are c =
-    c.in_ok-extend_from_slice.ensures.items
-    ∙ ap (λ l. l ++ take (length c.args.items.now - (c.loop-index.index + 1)) (drop (c.loop-index.index + 1) c.args.items.now)) c.clear.ensures.items
-    ∙ take_rest c.args.items.now (c.loop-index.index + 1)
+later_are c = grind (arith, common_steps, take_rest)
 
 pub keep_extensions-requires-clause-rising : goal.keep_extensions-requires-clause-rising
 keep_extensions-requires-clause-rising c = subst IsRising (sym (later_are c)) (drop_rises (c.loop-index.index + 1) c.args.items.now c.requires.parts.items_rise)
@@ -22,17 +20,10 @@ keep_extensions-requires-clause-rising c = subst IsRising (sym (later_are c)) (d
 -- and those of them with which the set has its subsets
 kept_are : (c : After-deref-in-loop-index) → c.extend_from_slice.new.self.items ≡ drop (c.loop-index.index + 1) c.args.items.now → c.keep_extensions.new.items.items
     ≡ filter (has_parts (length c.args.prefix.now) (sets_of c.args.level.now) (c.args.prefix.now ++ get_or c.args.items.now c.loop-index.index 0 ∷ [])) (drop (c.loop-index.index + 1) c.args.items.now)
-kept_are c later =
-    let set = c.deref.ensures.value ∙ c.in_ok-put_extended.ensures in
-    let long : length c.deref.result.now - 1 ≡ length c.args.prefix.now = omega (arith, ap length set, length_after c.args.prefix.now (get_or c.args.items.now c.loop-index.index 0) (length c.args.prefix.now) refl) in
-    c.in_ok-keep_extensions.ensures ∙ (λ i. filter (has_parts (long i) (sets_of c.args.level.now) (set i)) (later i))
+kept_are c later = grind (arith, common_steps, length_after)
 
 pub with_items-requires-clause-items : goal.with_items-requires-clause-items
-with_items-requires-clause-items c =
-    let kept = kept_are (goal.at.with_items-requires-clause-items c).After-deref-in-loop-index (later_are (goal.at.with_items-requires-clause-items c).After-room-1) in
-    subst IsRising (sym (c.deref-in-loop-index-2.ensures.value ∙ kept))
-    (filter_rises (has_parts (length c.args.prefix.now) (sets_of c.args.level.now) (c.args.prefix.now ++ get_or c.args.items.now c.loop-index.index 0 ∷ [])) (drop (c.loop-index.index + 1) c.args.items.now)
-    (drop_rises (c.loop-index.index + 1) c.args.items.now c.requires.parts.items_rise))
+with_items-requires-clause-items c = grind (arith, common_steps, kept_are, later_are, filter_rises, drop_rises)
 
 pub loop-index-preserved : goal.loop-index-preserved
 loop-index-preserved c =

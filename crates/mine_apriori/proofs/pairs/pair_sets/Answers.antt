@@ -1,8 +1,9 @@
-use Rattle.std.proofs.Common.{◌≡◌, ◌<◌, ◌+◌, ◌++◌, ◌∷◌, [], ℕ, List, filter, length, get_or, map, take, refl, subst, sym, ap, ◌∙◌, arith}
+use Rattle.std.proofs.Common.{◌≡◌, ◌<◌, ◌+◌, ◌++◌, ◌∷◌, [], ℕ, List, filter, length, get_or, map, take, subst, sym, ap, ◌∙◌, arith}
+use Rattle.std.proofs.lemmas.Grind.{common_steps}
 use Rattle.std.proofs.lemmas.List.{get_or-map, length-map, map-append, take_all, take_more}
 use Rattle.basket_sets.specs.Itemset.{IsRising}
 use Rattle.basket_sets.proofs.theory.Rising.{nil_rises}
-use Rattle.mine_supports.specs.Extensions.{AreGrouped, extend, has_items, sets_of}
+use Rattle.mine_supports.specs.Extensions.{extend, has_items, sets_of}
 use Rattle.mine_apriori.specs.declared.pairs.Pair.{Pair}
 use Rattle.mine_supports.proofs.theory.Extensions.{item_more, sets_with}
 use Rattle.mine_supports.proofs.theory.Grouped.{AreBefore, all_grouped, are_before, begun_as, item_begun, item_rises, next_begun, none_begun, one_rises}
@@ -11,31 +12,17 @@ use Rattle.mine_apriori.proofs.pairs.pair_sets.Goals as goal
 use Rattle.mine_apriori.proofs.pairs.pair_sets.Goals.{then-first-lesser+in_ok-found, else-first-lesser}
 
 pub loop-pair-init : goal.loop-pair-init
-loop-pair-init c = record {
-  sets = (λ i. sets_of (c.new-found.ensures i) ++ extend (0 ∷ []) (c.new-greater.ensures.items i));
-  begun = begun_as [] _ (0 ∷ []) _ [] _ c.new-found.ensures refl c.new-greater.ensures.items (none_begun (0 ∷ []));
-  rises = subst IsRising (sym c.new-greater.ensures.items) nil_rises;
-  counts = c.in_ok-counts.ensures.items;
-}
+loop-pair-init c = grind (arith, common_steps, begun_as, none_begun, nil_rises)
 
 -- the sets so far and one more
 more_sets : (sets : List (List ℕ)) (i : ℕ) (before ends : List (List ℕ)) (set : List ℕ) → i < length sets → set ≡ get_or sets i set → before ++ ends ≡ take i sets → (before ++ ends) ++ set ∷ [] ≡ take (i + 1) sets
 more_sets sets i before ends set here is are = (λ k. are k ++ is k ∷ []) ∙ sym (take_more sets i set here)
 
 pub returns-clause-sets : goal.returns-clause-sets
-returns-clause-sets c =
-    let pairs = c.args.pairs.now in
-    let found = c.loop-pair.found in
-    let lesser = c.loop-pair.lesser in
-    ap sets_of c.in_ok-with_items.ensures ∙ sets_with found (lesser ∷ []) c.deref-2.result.now ∙ ap (λ l. sets_of found ++ extend (lesser ∷ []) l) c.deref-2.ensures.value
-    ∙ c.loop-pair.invariant.sets ∙ take_all c.loop-pair.pair-index (map (λ (pair : Pair). pair.ranks) pairs) (omega (arith, c.loop-pair-test.false, length-map pairs (λ (pair : Pair). pair.ranks)))
+returns-clause-sets c = grind (arith, common_steps, sets_with, take_all, length-map)
 
 pub returns-clause-grouped : goal.returns-clause-grouped
-returns-clause-grouped c =
-    let found = c.loop-pair.found in
-    let lesser = c.loop-pair.lesser in
-    subst AreGrouped (sym (c.in_ok-with_items.ensures ∙ ap (λ l. found ++ filter has_items (record { prefix = lesser ∷ []; items = l } ∷ [])) c.deref-2.ensures.value))
-    (all_grouped found (lesser ∷ []) c.loop-pair.greater.items c.loop-pair.invariant.begun)
+returns-clause-grouped c = grind (arith, common_steps, all_grouped)
 
 pub loop-pair-preserved : goal.loop-pair-preserved
 loop-pair-preserved c =

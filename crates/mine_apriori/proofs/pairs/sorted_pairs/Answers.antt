@@ -1,4 +1,5 @@
 use Rattle.std.proofs.Common.{◌≡◌, ◌++◌, ℕ, Bool, length, map, refl, rules, ap, ◌∙◌, arith}
+use Rattle.std.proofs.lemmas.Grind.{common_steps}
 use Rattle.std.specs.Cmp.Lexicographic.{nat_list_cmp_total, slice_cmp}
 use Rattle.std.specs.Ordering.{is_lt, nat_cmp}
 use Rattle.std.proofs.lemmas.List.{take_all}
@@ -23,9 +24,7 @@ loop-rank-preserved c =
 
 -- the pairs of all ranks
 all_pairs : (c : After-sort_unstable_by) → c.loop-rank.pairs.items ≡ map (pair_of c.args.coded.now.baskets) (sets_below c.args.coded.now (length c.args.coded.now.items))
-all_pairs c =
-    let all : c.loop-rank.rank ≡ length c.args.coded.now.items = omega (arith, c.loop-rank-test.false, c.loop-rank.auto.rank-end, pairs_long c.args.coded.now c.args.lists.now c.requires.pairs) in
-    c.loop-rank.invariant ∙ ap (λ n. map (pair_of c.args.coded.now.baskets) (sets_below c.args.coded.now n)) all
+all_pairs c = grind (arith, common_steps, pairs_long, pair_of, sets_below)
 
 abbrev before : Pair → Pair → Bool
 before a b = is_lt (slice_cmp nat_cmp a.ranks b.ranks)

@@ -1,4 +1,5 @@
-use Rattle.std.proofs.Common.{◌≡◌, ◌<◌, ◌++◌, [], get_or, length, sym, ap, ◌∙◌, arith}
+use Rattle.std.proofs.Common.{◌≡◌, ◌<◌, ◌++◌, [], get_or, length, ◌∙◌, arith}
+use Rattle.std.proofs.lemmas.Grind.{common_steps}
 use Rattle.std.specs.Cmp.Lexicographic.{slice_cmp}
 use Rattle.std.specs.Ordering.{nat_cmp}
 use Rattle.mine_apriori.proofs.SearchLemmas.{compared, found_at, greater_from, is_missing, is_there, smaller_to}
@@ -10,10 +11,7 @@ below : (c : After-compare_parts) → c.in-Some.at < length c.args.sets.now
 below c = omega (arith, c.loop-at.invariant.within, c.in-Some.ensures.before)
 
 answered : (c : After-compare_parts) → slice_cmp nat_cmp (get_or c.args.sets.now c.in-Some.at []) (c.args.front.now ++ c.args.rest.now) ≡ c.compare_parts.result
-answered c =
-    let key = c.args.front.now ++ c.args.rest.now in
-    compared c.args.sets.now key c.in-Some.at c.index-sets-at.result _ (below c) c.index-sets-at.is
-    (sym (c.compare_parts.ensures ∙ ap (λ set. slice_cmp nat_cmp set key) c.items.ensures.items))
+answered c = grind (arith, common_steps, compared, below)
 
 pub loop-at-preserved-in-Less : goal.loop-at-preserved-in-Less
 loop-at-preserved-in-Less c =
@@ -45,8 +43,7 @@ returns-in-Equal-clause-found c =
     is_there c.args.sets.now key c.in-Some.at (below here) (found_at c.args.sets.now key c.in-Some.at (answered here ∙ c.in-Equal.is))
 
 pub returns-in-Equal-clause-index : goal.returns-in-Equal-clause-index
-returns-in-Equal-clause-index c =
-    found_at c.args.sets.now (c.args.front.now ++ c.args.rest.now) c.in-Some.at (answered (goal.at.returns-in-Equal-clause-index c).After-compare_parts ∙ c.in-Equal.is)
+returns-in-Equal-clause-index c = grind (arith, common_steps, found_at, answered)
 
 pub returns-clause-found : goal.returns-clause-found
 returns-clause-found c =

@@ -1,4 +1,5 @@
-use Rattle.std.proofs.Common.{◌≡◌, ◌-◌, ◌*◌, ◌/◌, filter, length, map, sym, ap, subst, ◌∙◌, arith}
+use Rattle.std.proofs.Common.{◌≡◌, filter, map, sym, ap, subst, ◌∙◌, arith}
+use Rattle.std.proofs.lemmas.Grind.{common_steps}
 use Rattle.std.specs.List.{All}
 use Rattle.basket_sets.specs.Frequent.{is_frequent}
 use Rattle.basket_sets.specs.Itemset.{IsRising}
@@ -45,7 +46,4 @@ pub ask-requires-clause-grouped : goal.ask-requires-clause-grouped
 ask-requires-clause-grouped g c = let here = goal.at.ask-requires-clause-grouped g c in (next g here.In_ok-level (level_is g here.In_ok-sets)).grouped
 
 pub ask-requires-clause-counted : goal.ask-requires-clause-counted
-ask-requires-clause-counted g c =
-    let coding = c.self.inside.coded.now in
-    let last : c.len.result ≡ length (level_of coding 1) = omega (arith, c.len.ensures, found_long coding 1 c.self.inside.found c.self.invariant.1) in
-    c.pair_count-counted.ensures.number ∙ ap (λ n. n * (n - 1) / 2) last ∙ sym (pair_count coding)
+ask-requires-clause-counted g c = grind (arith, common_steps, found_long, pair_count)
