@@ -1,7 +1,8 @@
 -- The code finds the ranks of each basket, and what it makes is a coding.
-use Rattle.std.proofs.Common.{◌≡◌, ℕ, zero, suc, ◌+◌, ◌<◌, ◌≤◌, List, [], ◌∷◌, ◌++◌, length, take, drop, get_or, set, arith, map, Option, Some, None, refl, sym, ap, ◌∙◌, subst, inl, inr}
+use Rattle.std.proofs.Common.{◌≡◌, ℕ, zero, suc, ◌+◌, ◌<◌, ◌≤◌, List, [], ◌∷◌, ◌++◌, length, take, drop, get_or, set, arith, map, Option, Some, refl, sym, ap, ◌∙◌, subst, inl, inr}
+use Rattle.std.proofs.lemmas.Grind.{common_steps}
 use Rattle.std.specs.Prelude.{nat_eq}
-use Rattle.std.specs.List.{All, cons_option, IsDistinct, filter_map}
+use Rattle.std.specs.List.{All, IsDistinct, filter_map}
 use Rattle.std.proofs.lemmas.List.Elements.{All-map, All-from_recursion, recursion_from_All}
 use Rattle.basket_sets.specs.declared.weighted.Weighted.{Weighted}
 use Rattle.basket_sets.specs.declared.minimum.Minimum.{Minimum}
@@ -19,25 +20,12 @@ use Rattle.basket_sets.proofs.theory.Merging.{merged_places, merging_keeps_suppo
 
 Member-filter_map : (h : ℕ → Option ℕ) (xs : List ℕ) (y : ℕ) → Member y (filter_map h xs) → (x : ℕ) × Member x xs × (h x ≡ Some y)
 Member-filter_map h [] y m = absurd m
-Member-filter_map h (x ∷ xs) y m = at (h x) refl (Member-filter_map h xs y) m
-  where
-    later : (z : ℕ) × Member z xs × (h z ≡ Some y) → (z : ℕ) × Member z (x ∷ xs) × (h z ≡ Some y)
-    later r = (r.0, inr r.1, r.2)
-
-    at : (o : Option ℕ) → h x ≡ o → (Member y (filter_map h xs) → (z : ℕ) × Member z xs × (h z ≡ Some y)) → Member y (cons_option o (filter_map h xs))
-        → (z : ℕ) × Member z (x ∷ xs) × (h z ≡ Some y)
-    at None e rest n = later (rest n)
-    at (Some r) e rest (inl s) = (x, inl refl, e ∙ ap Some s)
-    at (Some r) e rest (inr n) = later (rest n)
+Member-filter_map h (x ∷ xs) y m = grind (arith, common_steps, Member-filter_map h xs y)
 
 Member-into_filter_map : (h : ℕ → Option ℕ) (xs : List ℕ) (x y : ℕ) → Member x xs → h x ≡ Some y → Member y (filter_map h xs)
 Member-into_filter_map h [] x y m e = absurd m
-Member-into_filter_map h (x' ∷ xs) x y (inl s) e = subst (λ o. Member y (cons_option o (filter_map h xs))) (sym (ap h s ∙ e)) (inl refl)
-Member-into_filter_map h (x' ∷ xs) x y (inr m) e = at (h x') (Member-into_filter_map h xs x y m e)
-  where
-    at : (o : Option ℕ) → Member y (filter_map h xs) → Member y (cons_option o (filter_map h xs))
-    at None n = n
-    at (Some r) n = inr n
+Member-into_filter_map h (x' ∷ xs) x y (inl s) e = grind (arith, common_steps)
+Member-into_filter_map h (x' ∷ xs) x y (inr m) e = grind (arith, common_steps, Member-into_filter_map h xs x y m e)
 
 -- the ranks that are looked up, in rising order, are those of the basket
 pub coded_is : (ranked basket : List ℕ) → IsDistinct nat_eq ranked → rising (filter_map (rank_of ranked) basket) ≡ coded ranked basket

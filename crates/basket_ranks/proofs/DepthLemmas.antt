@@ -1,12 +1,11 @@
 -- A frequent set of many items, found rank by rank.
 use Rattle.std.proofs.Common.{◌≡◌, ◌≢◌, ℕ, ◌+◌, ◌-◌, ◌<◌, ◌≤◌, Bool, true, not, ◌&&◌, List, [], ◌∷◌, ◌++◌, Ok, Err, length, take, drop, get_or, cond, filter, leb, ltb, refl, sym, ap, ◌∙◌, subst, inl, inr, arith, zero, suc, add-zero}
+use Rattle.std.proofs.lemmas.Grind.{common_steps}
 use Rattle.std.specs.Ordering.{nat_cmp}
 use Rattle.std.specs.List.Sorted.{IsBinarySearchResult}
 use Rattle.std.specs.List.{Contains}
 use Rattle.std.proofs.lemmas.Bool.{cases_Bool, le-ltb, cond-false, cond_both, cond-true, le-leb, lt-leb, lt-ltb, ltb-true}
-use Rattle.std.proofs.lemmas.List.{append-nil, append_assoc, take_rest, take_more, get_or_default, length-append}
-use Rattle.std.proofs.lemmas.List.Concat.{flat_map-append}
-use Rattle.std.proofs.lemmas.List.Elements.{filter-append}
+use Rattle.std.proofs.lemmas.List.{append_assoc, take_rest, get_or_default, length-append}
 use Rattle.std.proofs.lemmas.List.Filters.{length-filter_both, sum_by-filter_both}
 use Rattle.std.proofs.lemmas.List.Kept.{IsStrictlySortedBy-filter}
 use Rattle.basket_sets.specs.declared.weighted.Weighted.{Weighted}
@@ -29,9 +28,7 @@ use Rattle.basket_sets.proofs.theory.Support.{support_falls, support-append, sup
 
 narrowed_more : (rank : ℕ) (baskets : List Weighted) (i : ℕ) (place : Weighted) → i < length baskets → place ≡ get_or baskets i place
     → narrowed rank (take (i + 1) baskets) ≡ narrowed rank (take i baskets) ++ narrowed_place rank place
-narrowed_more rank baskets i place below is =
-    ap (narrowed rank) (take_more baskets i place below) ∙ flat_map-append (narrowed_place rank) (take i baskets) (get_or baskets i place ∷ [])
-    ∙ ap (λ l. narrowed rank (take i baskets) ++ l) (append-nil (narrowed_place rank (get_or baskets i place))) ∙ ap (λ p. narrowed rank (take i baskets) ++ narrowed_place rank p) (sym is)
+narrowed_more rank baskets i place below is = grind (arith, common_steps)
 
 all_above : (rank : ℕ) (ranks : List ℕ) → ((y : ℕ) → Member y ranks → rank < y) → above rank ranks ≡ ranks
 all_above rank [] h = refl
@@ -65,18 +62,14 @@ one_short : (least : ℕ) (kept : List ℕ) (weight : ℕ) → length kept < lea
 one_short least kept weight few = cond-false (leb least (length kept)) (weighted kept weight ∷ []) [] (lt-leb least (length kept) few)
 
 pub too_short : (least rank : ℕ) (ranks : List ℕ) (weight : ℕ) → length ranks ≤ least → filter (is_long least) (narrowed_place rank (weighted ranks weight)) ≡ []
-too_short least rank ranks weight few = cond_both (has ranks rank) (weighted (above rank ranks) weight ∷ []) [] (λ l. filter (is_long least) l ≡ [])
-    (λ e. one_short least (above rank ranks) weight (let fewer = fewer_above rank ranks (Member-from_has ranks rank e) in omega arith)) (λ e. refl)
+too_short least rank ranks weight few = grind (arith, common_steps, cond_both, one_short, fewer_above, Member-from_has)
 
 module _ (rank at : ℕ) (ranks kept : List ℕ) (up : IsRising ranks) (found : IsBinarySearchResult (λ y. nat_cmp y rank) ranks (Ok at)) (made : kept ≡ take (length ranks - (at + 1)) (drop (at + 1) ranks)) where
   kept_above : kept ≡ above rank ranks
   kept_above = let here = found_at ranks rank at up found in made ∙ take_rest ranks (at + 1) ∙ sym (above_is ranks at rank up here.0 here.1)
 
   found_place : (weight : ℕ) → narrowed_place rank (weighted ranks weight) ≡ weighted kept weight ∷ []
-  found_place weight =
-      let here = found_at ranks rank at up found in
-      cond-true (has ranks rank) (weighted (above rank ranks) weight ∷ []) [] (has-from_Member ranks rank (subst (λ r. Member r ranks) here.1 (Member-at ranks at here.0)))
-      ∙ ap (λ l. weighted l weight ∷ []) (sym kept_above)
+  found_place weight = let here = found_at ranks rank at up found in grind (arith, common_steps, cond-true, has-from_Member, Member, Member-at, kept_above)
 
   pub kept_rises : IsRising kept
   kept_rises = subst IsRising (sym kept_above) (IsStrictlySortedBy-filter nat_cmp (λ other. ltb rank other) ranks up)
@@ -106,9 +99,7 @@ narrowed_items rank baskets x m =
     (λ lacks n. absurd n) from.2
 
 above_contains : (rank : ℕ) (basket more : List ℕ) → ((x : ℕ) → Member x more → rank < x) → contains (above rank basket) more ≡ contains basket more
-above_contains rank basket more beyond = same_test _ _
-    (λ h. contains_each basket more (λ x m. (Member-filter (λ other. ltb rank other) x basket (has_each (above rank basket) more h x m)).0))
-    (λ h. contains_each (above rank basket) more (λ x m. Member-from_filter (λ other. ltb rank other) x basket (has_each basket more h x m) (lt-ltb rank x (beyond x m))))
+above_contains rank basket more beyond = grind (arith, common_steps, same_test, contains_each, Member-filter, has_each, Member-from_filter, lt-ltb)
 
 narrowed_supports : (rank : ℕ) (baskets : List Weighted) (more : List ℕ) → ((x : ℕ) → Member x more → rank < x) → support_of (narrowed rank baskets) more ≡ support_of baskets (rank ∷ more)
 narrowed_supports rank [] more beyond = refl
@@ -135,8 +126,7 @@ missed_place least rank place ranks weight up search = ap (filter (is_long least
 
 pub left_more : (least rank : ℕ) (baskets : List Weighted) (i : ℕ) (place : Weighted) → i < length baskets → place ≡ get_or baskets i place
     → filter (is_long least) (narrowed rank (take (i + 1) baskets)) ≡ filter (is_long least) (narrowed rank (take i baskets)) ++ filter (is_long least) (narrowed_place rank place)
-left_more least rank baskets i place below is =
-    ap (filter (is_long least)) (narrowed_more rank baskets i place below is) ∙ filter-append (is_long least) (narrowed rank (take i baskets)) (narrowed_place rank place)
+left_more least rank baskets i place below is = grind (arith, common_steps)
 
 -- ---- some of the baskets
 
@@ -160,21 +150,11 @@ pub record Reaches (coding : Coding) (size : ℕ) (rest : List Weighted) : Type 
   pub supports : (more : List ℕ) → ((x y : ℕ) → Member x more → Member y set → y < x) → support_of rest more ≤ support_of coding.baskets (set ++ more)
 
 pub reaches_none : (coding : Coding) → Reaches coding 0 coding.baskets
-reaches_none coding = record {
-  set = [];
-  rises = nil_rises;
-  sized = refl;
-  frequent = λ some. absurd (some refl);
-  beyond = λ x y m n. absurd n;
-  supports = λ more h. omega arith;
-}
+reaches_none coding = grind (arith, common_steps, nil_rises)
 
 -- the narrowed baskets weigh no more than all
 pub reached_light : (coding : Coding) (size : ℕ) (rest : List Weighted) → IsCoding coding → Reaches coding size rest → total_of rest ≤ MOST_WEIGHT
-reached_light coding size rest is r =
-    let same = r.supports [] (λ x y m n. absurd m) in
-    let falls = support_falls coding.baskets (r.set ++ []) [] refl in
-    omega (arith, same, falls, is.light)
+reached_light coding size rest is r = grind (arith, common_steps, support_falls)
 
 -- one rank more
 pub reaches_more : (coding : Coding) (size rank : ℕ) (rest narrower : List Weighted) → Reaches coding size rest → narrower ≡ narrowed rank rest
@@ -222,10 +202,7 @@ reaches_long coding size rank least rest narrower r made met =
 
 -- what is left of the baskets weighs no more than those that have the rank
 pub left_light : (rank least : ℕ) (baskets left : List Weighted) → left ≡ filter (is_long least) (narrowed rank baskets) → total_of left ≤ support_of baskets (rank ∷ [])
-left_light rank least baskets left made =
-    let same = narrowed_supports rank baskets [] (λ x m. absurd m) in
-    let fewer = fewer_supports (is_long least) (narrowed rank baskets) [] in
-    omega (arith, ap total_of made, same, fewer)
+left_light rank least baskets left made = grind (arith, common_steps, narrowed_supports, fewer_supports)
 
 -- ---- as a set of items
 

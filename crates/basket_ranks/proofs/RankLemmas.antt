@@ -1,8 +1,9 @@
 -- The frequent items in the order of their ranks, and the ranks of items.
 use Rattle.std.proofs.Common.{◌≡◌, ◌≢◌, ℕ, ◌+◌, ◌<◌, Bool, true, false, List, [], ◌∷◌, ◌++◌, length, take, get_or, map, cond, eqb, Option, Some, None, refl, sym, ap, ◌∙◌, subst, inl, inr, ◌⊎◌, arith, zero, suc}
+use Rattle.std.proofs.lemmas.Grind.{common_steps}
 use Rattle.std.specs.declared.cmp.Ordering.{Ordering}
-use Rattle.std.specs.declared.cmp.Ordering.TheVariants.{Less, Equal, Greater}
-use Rattle.std.specs.Ordering.{nat_cmp, ordering_then, ordering_reverse, is_lt, is_eq, eq_by_cmp}
+use Rattle.std.specs.declared.cmp.Ordering.TheVariants.{Less}
+use Rattle.std.specs.Ordering.{ordering_reverse, is_lt, is_eq, eq_by_cmp}
 use Rattle.std.specs.Cmp.{IsTotalOrder, nat_cmp_total}
 use Rattle.std.specs.Prelude.{nat_eq}
 use Rattle.std.specs.List.{IsDistinct, filter}
@@ -18,7 +19,6 @@ use Rattle.basket_ranks.specs.Codes.{rank_order, with_entry, ranked, rank_from, 
 use Rattle.basket_sets.specs.Itemset.{IsRising}
 use Rattle.basket_ranks.specs.declared.ranks.RankedItem.{RankedItem}
 use Rattle.basket_ranks.specs.Ranks.{entries_of, entry_of}
-use Rattle.basket_sets.proofs.theory.Counts.{is_at_eqb}
 use Rattle.basket_sets.proofs.theory.Members.{Member, All-from_Member, at_Member, Member-map, Member-from_map, Member-filter, Contains-from_Member}
 use Rattle.basket_sets.proofs.theory.Rising.{cons_rises, first_below, nil_rises, rest_rises, rising_distinct}
 use Rattle.basket_sets.proofs.theory.Sorting.{less_from_test, sorted_is}
@@ -30,12 +30,7 @@ rank_order_total = then_total (back_total (on_total (λ (e : ℕ × ℕ). e.1) n
 
 -- entries of two items are told apart
 apart_entries : (a b : ℕ × ℕ) → a.0 ≢ b.0 → eq_by_cmp rank_order a b ≡ false
-apart_entries a b ne = at (nat_cmp b.1 a.1)
-  where
-    at : (r : Ordering) → is_eq (ordering_then r (nat_cmp a.0 b.0)) ≡ false
-    at Less = refl
-    at Equal = is_at_eqb a.0 b.0 ∙ ne_eqb b.0 a.0 (λ e. ne (sym e))
-    at Greater = refl
+apart_entries a b ne = grind (arith, common_steps)
 
 -- entries whose items rise are distinct
 pub distinct_entries : (entries : List (ℕ × ℕ)) → IsRising (map (λ e. e.0) entries) → IsDistinct (eq_by_cmp rank_order) entries
@@ -85,9 +80,7 @@ Member-into_ranked (e ∷ entries) x (inl s) = Member-into_with_entry e (ranked 
 Member-into_ranked (e ∷ entries) x (inr m) = Member-into_with_entry e (ranked entries) x (inr (Member-into_ranked entries x m))
 
 not_less : (r s : Ordering) → s ≡ ordering_reverse r → is_lt r ≡ false → is_eq r ≡ false → s ≡ Less
-not_less Less s e up apart = absurd (true≢false up)
-not_less Equal s e up apart = absurd (true≢false apart)
-not_less Greater s e up apart = e
+not_less h1 h2 h3 h4 h5 = grind (arith, common_steps)
 
 with_entry_sorted : (e : ℕ × ℕ) (xs : List (ℕ × ℕ)) → IsStrictlySortedBy rank_order xs → ((x : ℕ × ℕ) → Member x xs → eq_by_cmp rank_order e x ≡ false)
     → IsStrictlySortedBy rank_order (with_entry e xs)
@@ -139,14 +132,7 @@ after number last item None = cond (eqb last item) (Some number) None
 
 rank_from-push : (number : ℕ) (items : List ℕ) (last item : ℕ) → rank_from number (items ++ last ∷ []) item ≡ after (number + length items) last item (rank_from number items item)
 rank_from-push number [] last item = ap (λ n. cond (eqb last item) (Some n) None) (omega arith)
-rank_from-push number (x ∷ items) last item = at (eqb x item) (rank_from-push (number + 1) items last item)
-  where
-    long : number + 1 + length items ≡ number + suc (length items)
-    long = omega arith
-
-    at : (b : Bool) → rank_from (number + 1) (items ++ last ∷ []) item ≡ after (number + 1 + length items) last item (rank_from (number + 1) items item)
-        → cond b (Some number) (rank_from (number + 1) (items ++ last ∷ []) item) ≡ after (number + suc (length items)) last item (cond b (Some number) (rank_from (number + 1) items item))
-    at b e = grind (arith, long)
+rank_from-push number (x ∷ items) last item = grind (arith, common_steps, rank_from-push (number + 1) items last item)
 
 -- an item that is not there has no rank
 pub no_rank : (number : ℕ) (items : List ℕ) (item : ℕ) → (Member item items → ⊥) → rank_from number items item ≡ None
@@ -158,10 +144,8 @@ no_rank number (x ∷ items) item none =
 pub rank_at : (number : ℕ) (items : List ℕ) (i d : ℕ) → IsDistinct nat_eq items → i < length items → rank_from number items (get_or items i d) ≡ Some (number + i)
 unfolding IsDistinct
 rank_at number [] i d apart below = absurd (omega arith)
-rank_at number (x ∷ items) zero d apart below = ap (λ b. cond b (Some number) (rank_from (number + 1) items x)) (eq-eqb x x refl) ∙ ap Some (omega arith)
-rank_at number (x ∷ items) (suc i) d apart below =
-    ap (λ b. cond b (Some number) (rank_from (number + 1) items (get_or items i d))) (apart_from_distinct nat_eq (x ∷ items) 0 (suc i) d (apart.0, apart.1) (omega arith) below)
-    ∙ rank_at (number + 1) items i d apart.1 (omega arith) ∙ ap Some (omega arith)
+rank_at number (x ∷ items) zero d apart below = grind (arith, common_steps)
+rank_at number (x ∷ items) (suc i) d apart below = grind (arith, common_steps, rank_at (number + 1) items i d apart.1 (omega arith))
 
 -- an item that has a rank stands at that index
 pub rank_from_is : (number : ℕ) (items : List ℕ) (item rank : ℕ) → rank_from number items item ≡ Some rank → (k : ℕ) × (k < length items) × (rank ≡ number + k) × (get_or items k 0 ≡ item)
@@ -175,13 +159,10 @@ rank_from_is number (x ∷ items) item rank e = cond_both (eqb x item) (Some num
 
 -- one item more
 rank_more : (ranked : List ℕ) (i item : ℕ) → i < length ranked → rank_of (take (i + 1) ranked) item ≡ after i (get_or ranked i 0) item (rank_of (take i ranked) item)
-rank_more ranked i item below =
-    ap (λ l. rank_of l item) (take_more ranked i 0 below) ∙ rank_from-push 0 (take i ranked) (get_or ranked i 0) item
-    ∙ ap (λ n. after n (get_or ranked i 0) item (rank_of (take i ranked) item)) (omega (arith, length-take i ranked))
+rank_more ranked i item below = grind (arith, common_steps, take_more ranked i 0 below, rank_from-push 0 (take i ranked) (get_or ranked i 0) item, length-take i ranked)
 
 after_other : (number last item : ℕ) (o : Option ℕ) → last ≢ item → after number last item o ≡ o
-after_other number last item (Some rank) ne = refl
-after_other number last item None ne = ap (λ b. cond b (Some number) None) (ne_eqb last item ne)
+after_other h1 h2 h3 h4 h5 = grind (arith, common_steps)
 
 -- a later item has no rank among those before it
 not_yet : (ranked : List ℕ) (i : ℕ) → IsDistinct nat_eq ranked → i < length ranked → rank_of (take i ranked) (get_or ranked i 0) ≡ None
@@ -193,12 +174,7 @@ not_yet ranked i apart below = no_rank 0 (take i ranked) (get_or ranked i 0) (λ
 
 pub rank_next : (ranked : List ℕ) (i item : ℕ) → IsDistinct nat_eq ranked → i < length ranked
     → rank_of (take (i + 1) ranked) item ≡ cond (eqb (get_or ranked i 0) item) (Some i) (rank_of (take i ranked) item)
-rank_next ranked i item apart below = rank_more ranked i item below ∙ elim (cases_eq (get_or ranked i 0) item) [
-  | inl same ↦
-      ap (after i (get_or ranked i 0) item) (ap (rank_of (take i ranked)) (sym same) ∙ not_yet ranked i apart below)
-      ∙ cond-true _ (Some i) None (eq-eqb _ _ same) ∙ sym (cond-true _ (Some i) (rank_of (take i ranked) item) (eq-eqb _ _ same))
-  | inr other ↦ after_other i (get_or ranked i 0) item (rank_of (take i ranked) item) other ∙ sym (cond-false _ (Some i) (rank_of (take i ranked) item) (ne_eqb _ _ other))
-]
+rank_next ranked i item apart below = grind (arith, common_steps, rank_more, cases_eq, not_yet, cond-true, eq-eqb, after_other, cond-false)
 
 pub items_of_entries : (entries : List RankedItem) → map (λ e. e.item) entries ≡ map (λ e. e.0) (entries_of entries)
 items_of_entries entries = sym (map-map (λ (e : ℕ × ℕ). e.0) entry_of entries)

@@ -1,12 +1,13 @@
 -- Counts are added, and the supports of items over parts add up.
-use Rattle.std.proofs.Common.{◌≡◌, ℕ, ◌+◌, ◌<◌, ◌≤◌, ◌^◌, Bool, true, false, ◌||◌, List, [], ◌∷◌, ◌++◌, Some, None, cond, eqb, unwrap_or, refl, sym, ap, ◌∙◌, subst, inl, inr, ◌⊎◌, arith, append_assoc, zero-add}
+use Rattle.std.proofs.Common.{◌≡◌, ℕ, ◌+◌, ◌<◌, ◌≤◌, ◌^◌, Bool, true, false, ◌||◌, List, [], ◌∷◌, ◌++◌, Some, None, cond, eqb, unwrap_or, refl, sym, ap, ◌∙◌, subst, inl, inr, ◌⊎◌, arith, zero-add}
+use Rattle.std.proofs.lemmas.Grind.{common_steps}
 use Rattle.std.specs.declared.cmp.Ordering.TheVariants.{Less, Equal, Greater}
 use Rattle.std.specs.Ordering.{nat_cmp}
-use Rattle.std.proofs.Math.Bool.{or_assoc, or-false}
+use Rattle.std.proofs.Math.Bool.{or_assoc}
 use Rattle.std.proofs.lemmas.Bool.{cond-true, cond_both, eq-eqb, eqb-true, false_from_ne_true}
 use Rattle.std.proofs.lemmas.Bool.Decides.{nat_tests}
-use Rattle.std.proofs.lemmas.List.{append-nil, map-append, map_push}
-use Rattle.std.proofs.lemmas.List.Sums.{sum_by-append, sum_by-cons, sum_by_push}
+use Rattle.std.proofs.lemmas.List.{append-nil, map-append}
+use Rattle.std.proofs.lemmas.List.Sums.{sum_by-append, sum_by-cons}
 use Rattle.basket_sets.specs.declared.weighted.Weighted.{Weighted}
 use Rattle.basket_sets.specs.Counts.{item_supports}
 use Rattle.basket_sets.specs.Database.{MOST_WEIGHT}
@@ -16,7 +17,6 @@ use Rattle.basket_sets.proofs.theory.Counts.{found, found_mapped, found_supports
 use Rattle.basket_sets.proofs.theory.Members.{Member, Member-append, Member-append_left, Member-append_right}
 use Rattle.basket_sets.proofs.theory.Rising.{cons_rises, first_below, has-append, has-rising, Member-from_has, rest_rises, rising-rises}
 use Rattle.basket_sets.proofs.theory.Support.{support-append, support_falls}
-use Rattle.basket_sets.proofs.theory.Tests.{cond_sum}
 use Rattle.basket_ranks.specs.Added.{items_of_counts, number_of, added_counts, ItemSupportsAddUp}
 pub use Rattle.basket_sets.proofs.theory.Counts.{items_of_map, supports_rise}
 
@@ -27,11 +27,7 @@ number-cons entry counts item = sum_by-cons (λ (e : ℕ × ℕ). cond (eqb e.0 
 
 number_absent : (counts : List (ℕ × ℕ)) (item : ℕ) → has (items_of_counts counts) item ≡ false → number_of counts item ≡ 0
 number_absent [] item none = refl
-number_absent (entry ∷ counts) item none = number-cons entry counts item ∙ at (number_absent counts item) (eqb entry.0 item) none
-  where
-    at : (has (items_of_counts counts) item ≡ false → number_of counts item ≡ 0) → (b : Bool) → (b || has (items_of_counts counts) item) ≡ false
-        → cond b entry.1 0 + number_of counts item ≡ 0
-    at later b h = grind arith
+number_absent (entry ∷ counts) item none = grind (arith, common_steps, number_absent counts item)
 
 found_is : (counts : List (ℕ × ℕ)) (item : ℕ) → IsRising (items_of_counts counts) → found counts item ≡ cond (has (items_of_counts counts) item) (Some (number_of counts item)) None
 found_is [] item up = refl
@@ -98,40 +94,19 @@ module _ (counts ours theirs a b rest others : List (ℕ × ℕ)) (first other :
       → ((item : ℕ) → (eqb entry.0 item || (has (items_of_counts left) item || has (items_of_counts right) item)) ≡ (has (items_of_counts (first ∷ rest)) item || has (items_of_counts (other ∷ others)) item))
       → ((item : ℕ) → cond (eqb entry.0 item) entry.1 0 + (number_of left item + number_of right item) ≡ number_of (first ∷ rest) item + number_of (other ∷ others) item)
       → Leaves (counts ++ entry ∷ []) left right a b
-  put entry left right up over items numbers = record {
-    ours_rise = subst IsRising (sym (pushed (items_of_counts left))) up;
-    theirs_rise = subst IsRising (sym (pushed (items_of_counts right))) over;
-    items = λ item.
-        let old = has (items_of_counts counts) item in
-        ap (λ t. t || (has (items_of_counts left) item || has (items_of_counts right) item)) (ap (λ l. has l item) (map_push (λ (e : ℕ × ℕ). e.0) counts entry) ∙ has-append (items_of_counts counts) (entry.0 ∷ []) item ∙ ap (λ t. old || t) (or-false (eqb entry.0 item)))
-        ∙ or_assoc old (eqb entry.0 item) _ ∙ ap (λ t. old || t) (items item) ∙ before.items item;
-    numbers = λ item. let e = sum_by_push (λ (e : ℕ × ℕ). cond (eqb e.0 item) e.1 0) counts entry in let f = numbers item in let g = before.numbers item in omega arith;
-  }
-    where
-      pushed : (items : List ℕ) → items_of_counts (counts ++ entry ∷ []) ++ items ≡ items_of_counts counts ++ entry.0 ∷ items
-      pushed items = ap (λ l. l ++ items) (map_push (λ (e : ℕ × ℕ). e.0) counts entry) ∙ append_assoc (items_of_counts counts) (entry.0 ∷ []) items
+  put entry left right up over items numbers = grind (arith, common_steps)
 
   pub put_less : Less ≡ nat_cmp first.0 other.0 → Leaves (counts ++ first ∷ []) rest theirs a b
-  put_less less = subst (λ l. Leaves (counts ++ first ∷ []) rest l a b) (sym their) (put first rest (other ∷ others) before.ours_rise
-      (rises_between (items_of_counts counts) first.0 other.0 (items_of_counts rest) (items_of_counts others) (grind (arith, nat_tests, less)) before.ours_rise before.theirs_rise)
-      (λ item. sym (or_assoc (eqb first.0 item) (has (items_of_counts rest) item) _))
-      (λ item. let e = number-cons first rest item in omega arith))
+  put_less less = grind (arith, common_steps, put, rises_between, nat_tests, or_assoc, number-cons)
 
   pub put_greater : Greater ≡ nat_cmp first.0 other.0 → Leaves (counts ++ other ∷ []) ours others a b
-  put_greater greater = subst (λ l. Leaves (counts ++ other ∷ []) l others a b) (sym our) (put other (first ∷ rest) others
-      (rises_between (items_of_counts counts) other.0 first.0 (items_of_counts others) (items_of_counts rest) (grind (arith, nat_tests, greater)) before.theirs_rise before.ours_rise) before.theirs_rise
-      (λ item. swapped (has (items_of_counts (first ∷ rest)) item) (eqb other.0 item) _)
-      (λ item. let e = number-cons other others item in omega arith))
+  put_greater greater = grind (arith, common_steps, put, rises_between, nat_tests, swapped, number-cons)
 
   same_item : Equal ≡ nat_cmp first.0 other.0 → first.0 ≡ other.0
   same_item equal = grind (arith, nat_tests, equal)
 
   pub put_equal : Equal ≡ nat_cmp first.0 other.0 → Leaves (counts ++ (first.0, first.1 + other.1) ∷ []) rest others a b
-  put_equal equal = let same = same_item equal in put (first.0, first.1 + other.1) rest others before.ours_rise
-      (subst (λ x. IsRising (items_of_counts counts ++ x ∷ items_of_counts others)) (sym same) before.theirs_rise)
-      (λ item. shared (eqb first.0 item) (has (items_of_counts rest) item) _ ∙ ap (λ x. has (items_of_counts (first ∷ rest)) item || (eqb x item || has (items_of_counts others) item)) same)
-      (λ item. let e = number-cons first rest item in let f = number-cons other others item in let g = ap (λ x. cond (eqb x item) other.1 0) same in
-      let h = cond_sum (eqb first.0 item) first.1 other.1 in omega arith)
+  put_equal equal = grind (arith, common_steps)
 
   -- the numbers of one item fit together
   pub numbers_fit : ((item : ℕ) → number_of a item + number_of b item < 2 ^ 64) → Equal ≡ nat_cmp first.0 other.0 → first.1 + other.1 < 2 ^ 64
@@ -178,12 +153,7 @@ item_supports_add_up a b = sym (added_are (item_supports (a ++ b)) (item_support
 
 module _ (a b : List (ℕ × ℕ)) (front back baskets : List Weighted) (a_is : a ≡ item_supports front) (b_is : b ≡ item_supports back) (whole : front ++ back ≡ baskets) where
   pub sums_fit : total_of baskets ≤ MOST_WEIGHT → (item : ℕ) → number_of a item + number_of b item < 2 ^ 64
-  sums_fit light item =
-      let p = ap (λ l. number_of l item) a_is ∙ number_is_support front item in
-      let q = ap (λ l. number_of l item) b_is ∙ number_is_support back item in
-      let s = support-append front back (item ∷ []) in
-      let e = ap (λ l. support_of l (item ∷ [])) whole in
-      let f = support_falls baskets (item ∷ []) [] refl in omega arith
+  sums_fit light item = grind (arith, common_steps, number_is_support, support-append, support_falls)
 
   pub added_is : added_counts a b ≡ item_supports baskets
   added_is = ap (λ l. added_counts l b) a_is ∙ ap (added_counts (item_supports front)) b_is ∙ item_supports_add_up front back ∙ ap item_supports whole

@@ -1,5 +1,6 @@
 -- Coding is a renaming: the supports of ranks are those of their items.
 use Rattle.std.proofs.Common.{◌≡◌, ℕ, ◌+◌, ◌<◌, true, List, [], ◌∷◌, length, get_or, map, cond, refl, sym, ap, ◌∙◌, subst, inl, inr, arith, zero, suc, zero-add}
+use Rattle.std.proofs.lemmas.Grind.{common_steps}
 use Rattle.std.specs.List.{Contains, filter, sum_by}
 use Rattle.std.proofs.lemmas.Bool.{cond_both}
 use Rattle.std.proofs.lemmas.List.Elements.{All-weaker}
@@ -39,11 +40,8 @@ from_ranks number (x ∷ items) basket rank m = cond_both (has basket x) (number
 -- and each item that it has gives its rank
 pub into_ranks : (number : ℕ) (items basket : List ℕ) (k : ℕ) → k < length items → has basket (get_or items k 0) ≡ true → Member (number + k) (ranks_from number items basket)
 into_ranks number [] basket k below h = absurd (omega arith)
-into_ranks number (x ∷ items) basket zero below h =
-    subst (λ b. Member (number + 0) (cond b (number ∷ ranks_from (number + 1) items basket) (ranks_from (number + 1) items basket))) (sym h) (inl (omega arith))
-into_ranks number (x ∷ items) basket (suc k) below h =
-    let rest : Member (number + suc k) (ranks_from (number + 1) items basket) = subst (λ n. Member n (ranks_from (number + 1) items basket)) (omega arith) (into_ranks (number + 1) items basket k (omega arith) h) in
-    cond_both (has basket x) (number ∷ ranks_from (number + 1) items basket) (ranks_from (number + 1) items basket) (Member (number + suc k)) (λ e. inr rest) (λ e. rest)
+into_ranks number (x ∷ items) basket zero below h = grind (arith, common_steps)
+into_ranks number (x ∷ items) basket (suc k) below h = grind (arith, common_steps, into_ranks (number + 1) items basket k (omega arith) h)
 
 -- the ranks of a basket rise
 pub ranks_rise : (number : ℕ) (items basket : List ℕ) → IsRising (ranks_from number items basket)
@@ -138,9 +136,7 @@ pub item_ranked : (baskets : List Weighted) (minimum : Minimum) (item : ℕ) →
 item_ranked baskets minimum item h =
     let entry : ℕ × ℕ = (item, support_of baskets (item ∷ [])) in
     let m = frequent_items baskets minimum (item ∷ []) h item (inl refl) in
-    Member-map (λ (e : ℕ × ℕ). e.0) entry (ranked (filter (λ e. meets minimum e.1 (total_of baskets)) (item_supports baskets)))
-    (Member-into_ranked _ entry (Member-from_filter (λ (e : ℕ × ℕ). meets minimum e.1 (total_of baskets)) entry (item_supports baskets)
-    (Member-map (λ x. (x, support_of baskets (x ∷ []))) item (items_of baskets) m) h))
+    grind (arith, common_steps, Member-map, Member-into_ranked, Member-from_filter)
 
 -- an item that has a rank is frequent
 pub ranked_is_frequent : (baskets : List Weighted) (minimum : Minimum) (item : ℕ) → Member item (ranks_of baskets minimum) → is_frequent baskets minimum (item ∷ []) ≡ true
@@ -148,8 +144,7 @@ ranked_is_frequent baskets minimum item m =
     let e = Member-from_map (λ (e : ℕ × ℕ). e.0) item (ranked (filter (λ e. meets minimum e.1 (total_of baskets)) (item_supports baskets))) m in
     let f = Member-filter (λ (e : ℕ × ℕ). meets minimum e.1 (total_of baskets)) e.0 (item_supports baskets) (Member-ranked _ e.0 e.1) in
     let s = Member-from_map (λ x. (x, support_of baskets (x ∷ []))) e.0 (items_of baskets) f.0 in
-    subst (λ x. is_frequent baskets minimum (x ∷ []) ≡ true) (ap (λ (e : ℕ × ℕ). e.0) s.2 ∙ e.2)
-    (subst (λ n. meets minimum n (total_of baskets) ≡ true) (sym (ap (λ (e : ℕ × ℕ). e.1) s.2)) f.1)
+    grind (arith, common_steps)
 
 -- coding changes no support of a frequent set, and makes no set frequent
 module _ (baskets : List Weighted) (minimum : Minimum) where
@@ -177,14 +172,10 @@ module _ (baskets : List Weighted) (minimum : Minimum) where
       (kept_from ranked place.0.basket item (subst (λ (w : Weighted). Member item w.basket) (sym (ap (decoded_place ranked) place.2 ∙ coded.2)) from.2)).1
 
   frequent_kept : (set : List ℕ) → is_frequent baskets minimum set ≡ true → is_frequent kept minimum set ≡ true
-  frequent_kept set h =
-      ap (λ s. meets minimum s (total_of kept)) (kept_support (ranks_of baskets minimum) baskets set (has_ranks set h))
-      ∙ ap (meets minimum (support_of baskets set)) kept_total ∙ h
+  frequent_kept set h = grind (arith, common_steps, kept_support, has_ranks, kept_total)
 
   frequent_from_kept : (set : List ℕ) → is_frequent kept minimum set ≡ true → (is_frequent baskets minimum set ≡ true) × (support_of kept set ≡ support_of baskets set)
-  frequent_from_kept set h =
-      let same = kept_support (ranks_of baskets minimum) baskets set (kept_items set h) in
-      (ap (λ s. meets minimum s (total_of baskets)) (sym same) ∙ ap (meets minimum (support_of kept set)) (sym kept_total) ∙ h, same)
+  frequent_from_kept set h = let same = kept_support (ranks_of baskets minimum) baskets set (kept_items set h) in grind (arith, common_steps)
 
 -- coding keeps the frequent sets
 pub coding_keeps_frequent : CodingKeepsFrequent

@@ -1,5 +1,6 @@
 -- A list that has each frequent set of ranks once has, as items, each frequent set once.
 use Rattle.std.proofs.Common.{◌≡◌, ◌≢◌, ℕ, ◌+◌, ◌<◌, true, false, List, [], ◌∷◌, length, get_or, map, cond, refl, sym, ap, ◌∙◌, subst, inl, inr, arith, suc, zero-add}
+use Rattle.std.proofs.lemmas.Grind.{common_steps}
 use Rattle.std.specs.Prelude.{nat_eq}
 use Rattle.std.specs.Cmp.Lexicographic.{pointwise, bytes_decides}
 use Rattle.std.specs.List.{AllByRecursion, IsDistinct, Contains}
@@ -14,7 +15,6 @@ use Rattle.basket_ranks.specs.Codes.{frequent_of_coding, coded, decoded, decoded
 use Rattle.basket_sets.specs.Counts.{AllBelow}
 use Rattle.basket_sets.specs.Frequent.{frequent_of, is_frequent, counted}
 use Rattle.basket_sets.specs.Itemset.{IsRising, contains}
-use Rattle.basket_sets.specs.Minimum.{meets}
 use Rattle.basket_sets.specs.Support.{weight_at, support_of, total_of}
 use Rattle.basket_ranks.proofs.theory.Coding.{from_ranks, into_ranks, ranks_rise, from_decoded, into_decoded}
 use Rattle.basket_sets.proofs.theory.Frequent.{IsSound, frequent_once, once_is_as_long}
@@ -98,8 +98,7 @@ module _ (coding : Coding) (is : IsCoding coding) where
   total_is = support_is [] (λ item h. absurd (true≢false (sym h)))
 
   pub test_is : (set : List ℕ) → IsRankSet set → is_frequent (baskets_of coding) coding.minimum (decoded coding.items set) ≡ is_frequent coding.baskets coding.minimum set
-  test_is set within =
-      ap (λ s. meets coding.minimum s (total_of (baskets_of coding))) (support_is set within) ∙ ap (meets coding.minimum (support_of coding.baskets set)) total_is
+  test_is set within = grind (arith, common_steps, support_is, total_is)
 
   coded_at : (place : Weighted) → Member place coding.baskets → IsCodedPlace coding.items place
   coded_at place = at_Member (IsCodedPlace coding.items) place coding.baskets (recursion_from_All (IsCodedPlace coding.items) coding.baskets is.places)

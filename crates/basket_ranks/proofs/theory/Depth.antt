@@ -1,5 +1,6 @@
 -- A frequent set of many items has many subsets, which are all frequent.
 use Rattle.std.proofs.Common.{◌≡◌, ℕ, ◌+◌, ◌*◌, ◌^◌, ◌<◌, List, [], ◌∷◌, length, map, refl, ap, ◌∙◌, arith, zero, suc}
+use Rattle.std.proofs.lemmas.Grind.{common_steps}
 use Rattle.std.specs.Cmp.Lexicographic.{bytes_decides}
 use Rattle.std.proofs.lemmas.Cmp.{eq_by_cmp_equiv}
 use Rattle.std.proofs.Math.Nat.{pow-succ'}
@@ -29,9 +30,7 @@ up_to most items = length (subsets_up_to most items)
 
 of_size-cons : (size x : ℕ) (items : List ℕ) → of_size (suc size) (x ∷ items) ≡ of_size size items + of_size (suc size) items
 unfolding of_size
-of_size-cons size x items =
-    length-append (map (λ s. x ∷ s) (subsets_of_size size items)) (subsets_of_size (suc size) items)
-    ∙ ap (λ n. n + length (subsets_of_size (suc size) items)) (length-map (subsets_of_size size items) (λ s. x ∷ s))
+of_size-cons size x items = grind (arith, common_steps)
 
 up_to-suc : (most : ℕ) (items : List ℕ) → up_to (suc most) items ≡ up_to most items + of_size (suc most) items
 unfolding of_size up_to
@@ -41,19 +40,12 @@ none_larger : (size : ℕ) (items : List ℕ) → length items < size → of_siz
 unfolding of_size
 none_larger zero items h = absurd (omega arith)
 none_larger (suc size) [] h = refl
-none_larger (suc size) (x ∷ items) h =
-    let a = none_larger size items (omega arith) in let b = none_larger (suc size) items (omega arith) in
-    of_size-cons size x items ∙ omega (arith, a, b)
+none_larger (suc size) (x ∷ items) h = grind (arith, common_steps, none_larger size items (omega arith), none_larger (suc size) items (omega arith))
 
 up_to-cons : (most x : ℕ) (items : List ℕ) → up_to (suc most) (x ∷ items) ≡ up_to (suc most) items + up_to most items + 1
 unfolding of_size up_to
-up_to-cons zero x items =
-    let a = up_to-suc zero (x ∷ items) in let b = of_size-cons zero x items in let c = up_to-suc zero items in
-    omega (arith, a, b, c)
-up_to-cons (suc most) x items =
-    let a = up_to-suc (suc most) (x ∷ items) in let b = of_size-cons (suc most) x items in let c = up_to-suc (suc most) items in
-    let d = up_to-suc most items in let e = up_to-cons most x items in
-    omega (arith, a, b, c, d, e)
+up_to-cons zero x items = grind (arith, common_steps)
+up_to-cons (suc most) x items = grind (arith, common_steps, up_to-cons most x items)
 
 all_subsets : (items : List ℕ) → up_to (length items) items + 1 ≡ 2 ^ length items
 unfolding of_size up_to

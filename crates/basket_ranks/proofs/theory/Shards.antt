@@ -1,5 +1,6 @@
 -- The parts of a cut list lie side by side, and are together the list.
 use Rattle.std.proofs.Common.{◌≡◌, ℕ, ◌+◌, ◌-◌, ◌*◌, ◌/◌, ◌≤◌, zero, suc, List, [], ◌∷◌, ◌++◌, length, take, sym, ap, ◌∙◌, arith, add-one, zero-add}
+use Rattle.std.proofs.lemmas.Grind.{common_steps}
 use Rattle.std.specs.List.{flat_map, range_with_len}
 use Rattle.std.proofs.lemmas.List.{append-nil, take_all}
 use Rattle.std.proofs.lemmas.List.Concat.{flat_map-append}
@@ -44,5 +45,4 @@ module _ {X : Type 0} where
       ∙ ap (λ n. take (shard_start n pieces (length xs)) xs) (add-one k)
 
   pub shards_are_all : (pieces : ℕ) (xs : List X) → 1 ≤ pieces → flat_map (λ i. shard_of i pieces xs) (range_with_len 0 pieces) ≡ xs
-  shards_are_all pieces xs some =
-      shards_front pieces pieces xs some ∙ ap (λ n. take n xs) (shard_start-all pieces (length xs) some) ∙ take_all (length xs) xs (omega arith)
+  shards_are_all pieces xs some = grind (arith, common_steps, shards_front, shard_start-all, take_all)

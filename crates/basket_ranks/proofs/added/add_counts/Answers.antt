@@ -1,4 +1,5 @@
-use Rattle.std.proofs.Common.{◌≡◌, ℕ, List, ◌++◌, [], ◌∷◌, Bor, inl, inr, ◌⊎◌, ap, ◌∙◌, sym, subst, arith}
+use Rattle.std.proofs.Common.{◌≡◌, ℕ, List, ◌++◌, [], ◌∷◌, Bor, ap, ◌∙◌, sym, subst, arith}
+use Rattle.std.proofs.lemmas.Grind.{common_steps}
 use Rattle.std.proofs.lemmas.List.{nil_from_length}
 use Rattle.basket_ranks.specs.Added.{items_of_counts}
 use Rattle.basket_ranks.proofs.theory.Added.{Leaves, put_less, put_greater, put_equal, numbers_fit, none_yet, none_left, added_rise}
@@ -7,9 +8,7 @@ use Rattle.basket_ranks.proofs.added.add_counts.Goals.{in-Less, in-Equal, in-Gre
 use Rattle.basket_ranks.proofs.added.add_counts.Goals as goal
 
 pub loop-first-init : goal.loop-first-init
-loop-first-init c =
-    let a = c.args.a.now in let b = c.args.b.now in
-    subst (λ l. Leaves l a b a b) (sym c.in_ok-counts.ensures.items) (none_yet a b c.requires.rising.0 c.requires.rising.1)
+loop-first-init c = grind (arith, common_steps, Leaves, none_yet)
 
 pub overflow_add-entry : goal.overflow_add-entry
 overflow_add-entry c =
@@ -33,15 +32,7 @@ loop-first-preserved c =
     ]
 
 pub returns-clause-counts : goal.returns-clause-counts
-returns-clause-counts c =
-    let ours = c.loop-first.ours.now in
-    let theirs = c.loop-first.theirs.now in
-    let ended : (ours ≡ []) ⊎ (theirs ≡ []) = elim c.match-split_first.branch [
-      | in_default w ↦ inr (nil_from_length theirs w.in_default.ensures'.cases)
-      | in_default-2 w ↦ inl (nil_from_length ours w.in_default.ensures.cases)
-    ] in
-    c.in_ok-extend_from_slice-2.ensures.items ∙ ap (λ l. l ++ theirs) c.in_ok-extend_from_slice.ensures.items
-    ∙ none_left c.loop-first.counts.items ours theirs _ _ c.loop-first.invariant ended
+returns-clause-counts c = grind (arith, common_steps, nil_from_length, none_left)
 
 pub returns-clause-rising : goal.returns-clause-rising
 returns-clause-rising c = subst (λ l. IsRising (items_of_counts l)) (sym (returns-clause-counts c)) (added_rise c.args.a.now c.args.b.now)

@@ -1,5 +1,5 @@
-use Rattle.std.proofs.Common.{◌≡◌, ◌≤◌, ◌-◌, ◌∷◌, [], ℕ, filter, refl, true, sym, ap, subst, ◌∙◌, arith}
-use Rattle.std.specs.Prelude.{IfSome, IsTrue}
+use Rattle.std.proofs.Common.{◌≡◌, ◌≤◌, ◌-◌, ◌∷◌, [], filter, refl, true, sym, ap, subst, ◌∙◌, arith}
+use Rattle.std.proofs.lemmas.Grind.{common_steps}
 use Rattle.basket_ranks.specs.Codes.{frequent_of_coding}
 use Rattle.basket_sets.specs.Database.{MOST_WEIGHT}
 use Rattle.basket_ranks.specs.Depth.{HasSetOfSize, is_long, narrowed}
@@ -34,14 +34,7 @@ narrower-requires c =
     subst (λ l. total_of l ≤ MOST_WEIGHT) (sym c.deref-in-loop-size.ensures.value) (reached_light c.args.coded.now c.loop-size.size c.loop-size.rest.items c.baskets.ensures.coding c.loop-size.invariant)
 
 pub loop-size-preserved : goal.loop-size-preserved
-loop-size-preserved c =
-    let coding = c.args.coded.now in
-    let least = c.args.depth - 1 - c.loop-size.size in
-    let found = subst (λ o. IfSome o (λ rest. (rank : ℕ) × (rest.items ≡ filter (is_long least) (narrowed rank c.deref-in-loop-size.result.now))
-    × IsTrue (meets coding.minimum (support_of c.deref-in-loop-size.result.now (rank ∷ [])) (total_of coding.baskets)))) c.in-Some.is c.in_ok-narrower.ensures in
-    let same = c.deref-in-loop-size.ensures.value in
-    reaches_long coding c.loop-size.size found.0 least c.loop-size.rest.items c.in-Some.narrower.items c.loop-size.invariant (found.1 ∙ ap (λ l. filter (is_long least) (narrowed found.0 l)) same)
-    (ap (λ l. meets coding.minimum (support_of l (found.0 ∷ [])) (total_of coding.baskets)) (sym same) ∙ found.2)
+loop-size-preserved c = grind (arith, common_steps, reaches_long)
 
 pub returns : goal.returns
 returns c = λ yes.

@@ -1,6 +1,5 @@
-use Rattle.std.proofs.Common.{ℕ, Bool, map, filter, sym, ap, refl, subst, ◌∙◌}
-use Rattle.std.specs.List.{IsDistinct}
-use Rattle.std.specs.Prelude.{nat_eq}
+use Rattle.std.proofs.Common.{ℕ, Bool, map, filter, sym, ap, refl, subst, ◌∙◌, arith}
+use Rattle.std.proofs.lemmas.Grind.{common_steps}
 use Rattle.std.proofs.lemmas.Result.{IfOk-weaker}
 use Rattle.std.proofs.lemmas.List.Sorted.{IsPermutation-map}
 use Rattle.basket_sets.specs.Itemset.{IsRising}
@@ -30,5 +29,4 @@ returns-clause-distinct c =
     let moved = IsPermutation-map entry_of _ _ c.sort_unstable.ensures.permutation in
     let up = subst (λ l. IsRising (map (λ e. e.0) l)) (sym c.in_ok-entries.ensures) (filter_rises passes c.args.counts.now c.requires) in
     let apart = ranks_distinct (entries_of c.in_ok-entries.entries.items) (entries_of sorted) up moved in
-    IfOk-weaker c.items_in_order.result _ _
-    (λ items is. subst (IsDistinct nat_eq) (sym (is ∙ ap (map (λ e. e.item)) c.deref.ensures.value ∙ items_of_entries sorted)) apart) c.items_in_order.ensures
+    grind (arith, common_steps, IfOk-weaker, items_of_entries)
