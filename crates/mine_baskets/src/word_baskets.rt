@@ -34,6 +34,7 @@ impl Model for WordBaskets {
 
 impl WordBaskets {
     /// The baskets of the words, of this many ranks.
+    #[tactic(auto, using(std::proofs::lemmas::Grind::common_steps, crate::proofs::WordLemmas::moved_words))]
     pub fn of(alloc: Global, count: u32, mut words: Vec<Word>) -> Result<Self, AllocError>
         requires few { count ≤ WORD_RANKS }
         requires some { All (λ (word : Bits). 1 ≤ word.weight) words.items }
@@ -63,6 +64,7 @@ impl WordBaskets {
     }
 
     /// The coded baskets, which have no more ranks than a word has bits for.
+    #[tactic(auto, using(std::proofs::lemmas::Grind::common_steps, crate::proofs::MergedLemmas::coded_rank_baskets, crate::proofs::WordLemmas::some_words, crate::proofs::WordLemmas::light_words))]
     pub fn of_coded(alloc: Global, coded: &Coded) -> Result<Self, AllocError>
         requires few { length coded.now.items ≤ WORD_RANKS }
         ensures ranks { IfOk result (λ baskets. baskets.ranks ≡ length coded.now.items) }

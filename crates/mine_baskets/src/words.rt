@@ -37,6 +37,7 @@ impl Word {
     }
 
     /// Adds its ranks, all below a number, to a list.
+    #[tactic(auto, using(std::proofs::lemmas::Grind::common_steps, crate::proofs::BitRankLemmas::no_first_rank))]
     pub fn add_ranks(&self, ranks: &mut Vec<u32>, count: u32) -> Result<(), AllocError>
         requires { count ≤ WORD_RANKS }
         ensures { OnOk result (ranks.new.items ≡ ranks.old.items ++ ranks_in count self.now.bits) }
@@ -84,6 +85,7 @@ fn repeats(words: &[Word], bits: u64) -> bool
 }
 
 /// Adds a word at the end, or its weight to the last one if that is equal.
+#[tactic(auto, using(std::proofs::lemmas::Grind::common_steps, std::proofs::lemmas::List::get_or_default, crate::proofs::WordLemmas::heavier_word, crate::proofs::WordLemmas::heavier_order, crate::proofs::WordLemmas::pushed_end))]
 pub fn add(words: &mut Vec<Word>, word: Word) -> Result<(), AllocError>
     requires some { All (λ (other : Bits). 1 ≤ other.weight) words.old.items × (1 ≤ word.weight) }
     requires light { sum_by (λ (other : Bits). other.weight) words.old.items + word.weight ≤ MOST_WEIGHT }

@@ -13,6 +13,7 @@ use crate::span::{Span, as_index};
 use std::alloc::{AllocError, Global};
 
 /// The baskets of entries, equal neighbours as one.
+#[tactic(auto, using(std::proofs::lemmas::Grind::common_steps, crate::proofs::MergedLemmas::light_so_far, crate::proofs::MergedLemmas::entry_more))]
 pub fn merged(
     alloc: Global,
     count: u32,
@@ -40,6 +41,7 @@ pub fn merged(
 }
 
 /// Whether the last basket is this one.
+#[tactic(auto, using(std::proofs::lemmas::Grind::common_steps, crate::proofs::MergedLemmas::repeats_is))]
 fn repeats(ranks: &[u32], baskets: &[Span], basket: &[u32]) -> bool
     requires { All (IsWithin (length ranks.now)) baskets.now }
     ensures { result ≡ repeats_last (baskets_at ranks.now baskets.now) basket.now }
@@ -51,6 +53,7 @@ fn repeats(ranks: &[u32], baskets: &[Span], basket: &[u32]) -> bool
 }
 
 /// Adds a basket at the end, or its weight to the last one if that is equal.
+#[tactic(auto, using(std::proofs::lemmas::Grind::common_steps, crate::proofs::theory::Neighbours::some_repeats, crate::proofs::MergedLemmas::raised_is, crate::proofs::MergedLemmas::raised_last))]
 fn add(
     ranks: &mut Vec<u32>,
     baskets: &mut Vec<Span>,

@@ -1,19 +1,8 @@
 use Rattle.std.proofs.Common.{◌≢◌, ◌-◌, length, get_or, subst, sym, ap, inl, inr, arith}
-use Rattle.std.proofs.lemmas.Grind.{common_steps}
 use Rattle.std.proofs.lemmas.Bool.{cases_lt}
-use Rattle.std.proofs.lemmas.List.{get_or_default}
-use Rattle.mine_baskets.specs.Words.{AreInOrder, EndsBy}
-use Rattle.mine_baskets.proofs.WordLemmas.{heavier_order, heavier_word, pushed_end, pushed_order}
+use Rattle.mine_baskets.specs.Words.{AreInOrder}
+use Rattle.mine_baskets.proofs.WordLemmas.{pushed_order}
 use Rattle.mine_baskets.proofs.words.add.Goals as goal
-
-pub returns-then-repeats-clause-weights : goal.returns-then-repeats-clause-weights
-returns-then-repeats-clause-weights c = λ count test. grind (arith, common_steps, get_or_default, heavier_word)
-
-pub returns-then-repeats-clause-order : goal.returns-then-repeats-clause-order
-returns-then-repeats-clause-order c = λ order end. grind (arith, common_steps, get_or_default, heavier_order)
-
-pub returns-then-repeats-clause-end : goal.returns-then-repeats-clause-end
-returns-then-repeats-clause-end c = grind (arith, common_steps)
 
 pub returns-clause-order : goal.returns-clause-order
 returns-clause-order c = λ order end.
@@ -24,6 +13,3 @@ returns-clause-order c = λ order end.
       | inl less ↦ less
       | inr more ↦ absurd (let most = end last some in differ (omega (arith, most, more)))
     ]))
-
-pub returns-clause-end : goal.returns-clause-end
-returns-clause-end c = subst (EndsBy c.args.word.bits) (sym c.in_ok-push.ensures.items) (pushed_end c.args.words.now.items c.args.word)

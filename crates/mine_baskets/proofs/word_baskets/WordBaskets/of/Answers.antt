@@ -5,7 +5,7 @@ use Rattle.std.specs.List.{sum_by}
 use Rattle.std.proofs.lemmas.List.Sorted.{All-permutation, IsNonDecreasingBy-from_sort_by_key, sum_by-IsPermutation}
 use Rattle.std.specs.List.Sorted.{IsNonDecreasingBy}
 use Rattle.mine_baskets.specs.declared.words.Word.{Word}
-use Rattle.mine_baskets.proofs.WordLemmas.{moved_words, words_ranked}
+use Rattle.mine_baskets.proofs.WordLemmas.{words_ranked}
 use Rattle.mine_baskets.proofs.word_baskets.WordBaskets.of.Goals as goal
 
 abbrev weight : Word → ℕ
@@ -23,9 +23,6 @@ pub merged-requires-clause-sorted : goal.merged-requires-clause-sorted
 merged-requires-clause-sorted c =
     subst (IsNonDecreasingBy (λ (word : Word). word.bits)) (sym c.deref.ensures.value)
     (IsNonDecreasingBy-from_sort_by_key (λ (word : Word). word.bits) c.sort_unstable_by_key.new.self.items c.sort_unstable_by_key.ensures.sorted (λ a r q k. search rules))
-
-pub returns-clause-weights : goal.returns-clause-weights
-returns-clause-weights c = λ test. grind (arith, common_steps, moved_words)
 
 pub returns-clause-ranked : goal.returns-clause-ranked
 returns-clause-ranked c =

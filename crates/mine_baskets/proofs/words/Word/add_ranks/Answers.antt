@@ -2,7 +2,7 @@ use Rattle.std.proofs.Common.{◌≡◌, ◌*◌, ◌%◌, ◌^◌, ◌++◌, sy
 use Rattle.std.proofs.lemmas.Grind.{common_steps}
 use Rattle.std.proofs.lemmas.Nat.{one_shl}
 use Rattle.mine_baskets.specs.Words.{ranks_in}
-use Rattle.mine_baskets.proofs.BitRankLemmas.{first_rank, no_first_rank, no_ranks}
+use Rattle.mine_baskets.proofs.BitRankLemmas.{first_rank, no_ranks}
 use Rattle.mine_baskets.proofs.words.Word.add_ranks.Goals as goal
 
 pub loop-rest-preserved : goal.loop-rest-preserved
@@ -19,6 +19,3 @@ pub returns : goal.returns
 returns c =
     let ranks = c.loop-rest.ranks.items in
     sym (append-nil ranks) ∙ ap (λ l. ranks ++ l) (sym (ap (ranks_in c.args.count) c.loop-rest-test.false ∙ no_ranks c.args.count)) ∙ c.loop-rest.invariant
-
-pub returns-then-rank-count : goal.returns-then-rank-count
-returns-then-rank-count c = grind (arith, common_steps, no_first_rank)
