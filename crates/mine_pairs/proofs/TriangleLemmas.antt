@@ -89,11 +89,7 @@ both h1 h2 h3 h4 h5 = grind (arith, common_steps)
 
 module _ (baskets : List Weighted) (i : ℕ) (d : Weighted) (first : ℕ) (now : List (List ℕ)) (here : i < length baskets) (have : HaveCounts (take i baskets) first now) where
   pub counts_light : total_of baskets ≤ MOST_WEIGHT → (k lesser : ℕ) → k < length now → lesser < first + k → get_or (row_at now k) lesser 0 + (get_or baskets i d).weight ≤ MOST_WEIGHT
-  counts_light light k lesser within less =
-      let before = have.counts k lesser within less in
-      let fall = support_falls (take i baskets) (lesser ∷ (first + k) ∷ []) [] refl in
-      let all = sum_by_more_le (weight_at []) baskets i d here in
-      omega (arith, before, fall, all)
+  counts_light light k lesser within less = grind (arith, common_steps, support_falls (take i baskets) (lesser ∷ (first + k) ∷ []) [] refl, sum_by_more_le (weight_at []) baskets i d here)
 
   pub counts_more : (new : List (List ℕ)) → length new ≡ length now → WithPairs first (get_or baskets i d).basket (get_or baskets i d).basket (get_or baskets i d).weight now new
       → HaveCounts (take (i + 1) baskets) first new

@@ -89,11 +89,7 @@ module _ (baskets : List Weighted) (least rank : ℕ) where
   -- what weighs as the conditional database: the baskets with the one rank and those without it
   weighs_so : AllByRecursion (λ (index : Weighted). IsRising index.basket) baskets → (x with without : ℕ) → ((y : ℕ) → is_kept baskets least rank y ≡ true → y ≡ x) → support_of (conditional least baskets rank) (x ∷ []) ≡ with
       → with + without ≡ support_of baskets (rank ∷ []) → (test : List ℕ → Bool) → weight_where test (conditional least baskets rank) ≡ cond (test (x ∷ [])) with 0 + cond (test []) without 0
-  weighs_so up x with without only paired all test =
-      let few = weighs_few (is_kept baskets least rank) x rank only test baskets up in
-      let total : support_of (conditional least baskets rank) [] ≡ support_of baskets (rank ∷ []) = conditional_supports baskets least rank [] in
-      let rest : few.rest ≡ without = omega (arith, few.all, total, paired, all) in
-      few.weight ∙ ap (λ n. cond (test (x ∷ [])) n 0 + cond (test []) few.rest 0) paired ∙ ap (λ n. cond (test (x ∷ [])) with 0 + cond (test []) n 0) rest
+  weighs_so up x with without only paired all test = grind (arith, common_steps, weighs_few (is_kept baskets least rank) x rank only test baskets up, conditional_supports baskets least rank [])
 
   -- the supports of pairs
   abbrev supports : List ℕ → List (ℕ × ℕ)

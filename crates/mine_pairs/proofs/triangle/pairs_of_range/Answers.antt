@@ -1,4 +1,4 @@
-use Rattle.std.proofs.Common.{◌≡◌, ◌+◌, ◌<◌, [], ℕ, length, map, subst, refl, sym, ap, ◌∙◌, arith}
+use Rattle.std.proofs.Common.{◌≡◌, ◌+◌, ◌<◌, ℕ, length, map, subst, refl, sym, ap, ◌∙◌, arith}
 use Rattle.std.proofs.lemmas.Grind.{common_steps}
 use Rattle.std.specs.declared.alloc.Global.{Global}
 use Rattle.std.specs.declared.vec.Vec.{Vec}
@@ -14,9 +14,7 @@ use Rattle.mine_pairs.proofs.triangle.pairs_of_range.Goals as goal
 use Rattle.mine_pairs.proofs.triangle.pairs_of_range.Goals.{After-deref, After-deref-row-items}
 
 pub count_pairs-requires : goal.count_pairs-requires
-count_pairs-requires g c =
-    let first = c.args.range.first in
-    subst (HaveCounts [] first) (sym (ap lists_of c.deref_mut.ensures.value ∙ c.in_ok-rows.ensures)) (zeros_count first c.args.range.count)
+count_pairs-requires g c = grind (arith, common_steps, zeros_count c.args.range.first c.args.range.count)
 
 module _ (g : Over) (c : After-deref-row-items g) where
   rows_are : c.deref-row-items.result.now ≡ c.count_pairs.new.rows
