@@ -84,6 +84,7 @@ pub struct RankTable {
 
 impl RankTable {
     /// The table of distinct items, each of which has its index as its rank.
+    #[tactic(auto, using(std::proofs::lemmas::Grind::common_steps, crate::proofs::RankLemmas::rank_next))]
     pub fn of(alloc: Global, ranked: &[u32]) -> Result<Self, AllocError>
         requires distinct { IsDistinct nat_eq ranked.now }
         requires few { length ranked.now < MOST_RANKS }
