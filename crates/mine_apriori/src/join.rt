@@ -54,6 +54,7 @@ pub fn candidates_in(
 }
 
 /// Adds the candidates whose first two subsets are sets of a prefix: each of them is joined to the later ones.
+#[tactic(auto, using(std::proofs::lemmas::Grind::common_steps, crate::proofs::JoinStepLemmas::drop_rises))]
 fn join(
     alloc: Global,
     level: &Extensions,

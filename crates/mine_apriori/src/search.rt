@@ -14,6 +14,7 @@ use std::cmp::Ordering;
 
 /// The index of the set, or else an index to begin the search for a greater one. The search begins
 /// at the index `near`; whatever that is, the set is found.
+#[tactic(auto, using(std::proofs::lemmas::Grind::common_steps, crate::proofs::SearchLemmas::found_at))]
 pub fn find_near(sets: &[Itemset], front: &[u32], rest: &[u32], near: usize) -> Result<usize, usize>
     requires sorted { IsStrictlySortedBy (slice_cmp nat_cmp) sets.now }
     ensures bound { IsSearchInRange result (length sets.now) }

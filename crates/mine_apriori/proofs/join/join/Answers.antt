@@ -1,7 +1,6 @@
-use Rattle.std.proofs.Common.{◌≡◌, ◌+◌, ◌∷◌, ◌++◌, [], drop, filter, get_or, length, suc, subst, sym, ap, ◌∙◌, arith}
+use Rattle.std.proofs.Common.{◌≡◌, ◌+◌, ◌∷◌, ◌++◌, [], drop, filter, get_or, length, suc, ap, ◌∙◌, arith}
 use Rattle.std.proofs.lemmas.Grind.{common_steps}
 use Rattle.std.proofs.lemmas.List.{take_rest}
-use Rattle.basket_sets.specs.Itemset.{IsRising}
 use Rattle.basket_sets.proofs.theory.Ranges.{filter_rises}
 use Rattle.mine_supports.specs.Extensions.{has_items, sets_of}
 use Rattle.mine_apriori.specs.Join.{has_parts, joined_group}
@@ -13,9 +12,6 @@ use Rattle.mine_apriori.proofs.join.join.Goals.{After-room-1, After-deref-in-loo
 -- the later items
 later_are : (c : After-room-1) → c.extend_from_slice.new.self.items ≡ drop (c.loop-index.index + 1) c.args.items.now
 later_are c = grind (arith, common_steps, take_rest)
-
-pub keep_extensions-requires-clause-rising : goal.keep_extensions-requires-clause-rising
-keep_extensions-requires-clause-rising c = subst IsRising (sym (later_are c)) (drop_rises (c.loop-index.index + 1) c.args.items.now c.requires.parts.items_rise)
 
 -- and those of them with which the set has its subsets
 kept_are : (c : After-deref-in-loop-index) → c.extend_from_slice.new.self.items ≡ drop (c.loop-index.index + 1) c.args.items.now → c.keep_extensions.new.items.items

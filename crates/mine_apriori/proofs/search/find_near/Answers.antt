@@ -42,9 +42,6 @@ returns-in-Equal-clause-found c =
     let key = c.args.front.now ++ c.args.rest.now in
     is_there c.args.sets.now key c.in-Some.at (below here) (found_at c.args.sets.now key c.in-Some.at (answered here ∙ c.in-Equal.is))
 
-pub returns-in-Equal-clause-index : goal.returns-in-Equal-clause-index
-returns-in-Equal-clause-index c = grind (arith, common_steps, found_at, answered)
-
 pub returns-clause-found : goal.returns-clause-found
 returns-clause-found c =
     let i = c.loop-at.invariant in
