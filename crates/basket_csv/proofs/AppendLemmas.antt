@@ -1,13 +1,14 @@
 -- What was read of pairs and of those that come after them.
 use Rattle.std.proofs.Common.{◌≡◌, ℕ, zero, suc, ◌+◌, ◌≤◌, ◌<◌, true, List, [], ◌∷◌, ◌++◌, map, length, fold, get_or, ltb, take, refl, sym, ap, ◌∙◌, subst, append_assoc, arith}
+use Rattle.std.proofs.lemmas.Grind.{common_steps}
 use Rattle.std.specs.List.{list_all}
-use Rattle.std.proofs.lemmas.Bool.{and_parts, true≢false}
-use Rattle.std.proofs.lemmas.List.{get_or-map, length-map, map-append, take_all, take_more}
+use Rattle.std.proofs.lemmas.Bool.{and_parts}
+use Rattle.std.proofs.lemmas.List.{get_or-map, length-map, take_all, take_more}
 use Rattle.std.proofs.lemmas.List.Sums.{fold-append}
 use Rattle.basket_csv.specs.declared.pairs.Pairs.{Pairs}
 use Rattle.basket_csv.specs.Csv.{gather, names_of_pairs, pairs_of}
 use Rattle.basket_csv.specs.Named.{are_named}
-use Rattle.basket_names.specs.Names.{are_among, in_order, is_among, number_in, with_name}
+use Rattle.basket_names.specs.Names.{are_among, in_order, number_in, with_name}
 use Rattle.basket_csv.specs.Pairs.{HasPairs, HasPartPairs, added_at, numbers_of}
 use Rattle.basket_csv.specs.Part.{InParts, Rows}
 use Rattle.basket_csv.proofs.GroupLemmas.{gathered_apart, groups_more, id_stays, ids_of, ids_with, with_group}
@@ -34,9 +35,7 @@ module _ (known : List (List ℕ)) (pairs more : List Pair) where
     pub groups : map (λ group. group.items) now.groups.items ≡ numbers_of all (fold with_group (gather pairs) (take at (gather more)))
 
   names_with : fold with_name (names_of_pairs known pairs) (map (λ pair. pair.1) more) ≡ all
-  names_with =
-      sym (fold-append with_name [] (known ++ map (λ pair. pair.1) pairs) (map (λ pair. pair.1) more))
-      ∙ ap in_order (append_assoc known (map (λ pair. pair.1) pairs) (map (λ pair. pair.1) more)) ∙ ap (λ names. in_order (known ++ names)) (sym (map-append (λ pair. pair.1) pairs more))
+  names_with = grind (arith, common_steps)
 
   pub joins_first : (old new later : Pairs) → HasPairs old known pairs → HasPairs later [] more → new.names ≡ fold with_name old.names later.names → new.ids ≡ fold with_name old.ids later.ids
       → new.groups ≡ old.groups → Joins new 0
@@ -53,13 +52,7 @@ module _ (known : List (List ℕ)) (pairs more : List Pair) where
 
   -- as many groups as ids
   pub as_many : (later : Pairs) → HasPairs later [] more → length (gather more) ≡ length later.groups.items
-  as_many later own =
-      omega (
-        arith,
-        ap length own.groups,
-        length-map later.groups.items (λ group. group.items),
-        length-map (gather more) (λ (group : Group). map (number_in (names_of_pairs [] more)) group.1),
-      )
+  as_many later own = grind (arith, common_steps)
 
   module _ (later : Pairs) (own : HasPairs later [] more) (at : ℕ) (within : at < length later.groups.items) where
     abbrev group : Group
@@ -76,9 +69,7 @@ module _ (known : List (List ℕ)) (pairs more : List Pair) where
 
     module _ (items : List ℕ) (is : items ≡ get_or (map (λ group. group.items) later.groups.items) at []) where
       numbers : items ≡ map (number_in later.names) group.1
-      numbers =
-          is ∙ ap (λ gs. get_or gs at []) own.groups ∙ get_or-map (λ (group : Group). map (number_in (names_of_pairs [] more)) group.1) (gather more) at ([], []) [] inside
-          ∙ ap (λ names. map (number_in names) group.1) (sym own.names)
+      numbers = grind (arith, common_steps)
 
       pub items_below : (names : List ℕ) → length names ≡ length later.names → list_all (λ number. ltb number (length names)) items ≡ true
       items_below names long =
@@ -101,27 +92,15 @@ module _ (known : List (List ℕ)) (pairs more : List Pair) where
           ∙ id_stays (ids_of (gather pairs)) (gather more) at inside ∙ ap (λ ids. number_in ids group.0) (sym (ids_with (gather pairs) (take at (gather more)))) in
           let next : with_group so_far group ≡ fold with_group (gather pairs) (take (at + 1) (gather more)) =
           sym (ap (fold with_group (gather pairs)) (take_more (gather more) at ([], []) inside) ∙ fold-append with_group (gather pairs) (take at (gather more)) (group ∷ [])) in
-          record {
-            names = same_names ∙ joins.names;
-            ids = same_ids ∙ joins.ids;
-            groups = added ∙ ap (λ gs. added_at gs index renamed) joins.groups ∙ ap (λ p. added_at (numbers_of all so_far) p renamed) at_id
-                ∙ ap (added_at (numbers_of all so_far) (number_in (ids_of so_far) group.0)) of_all ∙ groups_more all so_far group ∙ ap (numbers_of all) next;
-          }
+          grind (arith, common_steps, ids_of, groups_more)
 
   pub joins_all : (now : Pairs) (at : ℕ) → length (gather more) ≤ at → Joins now at → HasPairs now known (pairs ++ more)
-  joins_all now at past joins =
-      record {
-        names = joins.names;
-        ids = joins.ids;
-        groups = joins.groups ∙ ap (λ gs. numbers_of all (fold with_group (gather pairs) gs)) (take_all at (gather more) past) ∙ ap (numbers_of all) (gathered_apart pairs more);
-      }
+  joins_all now at past joins = grind (arith, common_steps, with_group, take_all, gathered_apart)
 
 -- if there are no names, no names are known and there are no pairs
 none_in_order : (names : List (List ℕ)) → in_order names ≡ [] → names ≡ []
 none_in_order [] e = refl
-none_in_order (name ∷ names) e =
-    let is : is_among (in_order (name ∷ names)) name ≡ true = among_all (with_name [] name) names name (among_with [] name) in
-    absurd (true≢false (sym is ∙ ap (λ ns. is_among ns name) e))
+none_in_order (name ∷ names) e = grind (arith, common_steps, among_all (with_name [] name) names name (among_with [] name), among_with [] name)
 
 pub joins_none : (old later : Pairs) (known : List (List ℕ)) (pairs more : List Pair) → old.names ≡ [] → HasPairs old known pairs → HasPairs later [] more → HasPairs later known (pairs ++ more)
 joins_none old later known pairs more none has own = at known pairs (none_in_order (known ++ map (λ pair. pair.1) pairs) (sym has.names ∙ none))

@@ -1,20 +1,19 @@
 -- The baskets of records, one after another.
-use Rattle.std.proofs.Common.{◌≡◌, ℕ, Bool, true, false, cond, List, [], ◌∷◌, ◌++◌, map, drop, fold, Option, Some, None, Result, Ok, Err, unwrap_or, refl, sym, ap, ◌∙◌, subst, append-nil, append_assoc}
+use Rattle.std.proofs.Common.{◌≡◌, ℕ, Bool, true, List, [], ◌∷◌, ◌++◌, map, drop, fold, Some, None, Result, Ok, Err, unwrap_or, refl, sym, ap, ◌∙◌, subst, append-nil, arith}
+use Rattle.std.proofs.lemmas.Grind.{common_steps}
 use Rattle.std.specs.List.{flat_map, list_all}
 use Rattle.std.specs.Result.{OnOk}
 use Rattle.std.proofs.lemmas.Bool.{and_parts}
 use Rattle.std.proofs.lemmas.List.Concat.{flat_map-append}
 use Rattle.std.proofs.lemmas.List.Folds.{list_all-append}
-use Rattle.std.proofs.lemmas.List.Sums.{fold-append}
 use Rattle.basket_sets.specs.declared.weighted.Weighted.{Weighted}
 use Rattle.basket_read.specs.declared.fault.ReadFault.{ReadFault}
-use Rattle.basket_read.specs.declared.fault.ReadFault.TheVariants.{NotText}
 use mir.Val.{bool_byte}
 use Rattle.basket_read.specs.Fimi.{basket_of_numbers}
 use Rattle.basket_csv.specs.declared.baskets.Baskets.{Baskets}
 use Rattle.basket_csv.specs.Baskets.{HasRead}
 use Rattle.basket_csv.specs.RecordCollector.{Start}
-use Rattle.basket_csv.specs.Csv.{is_text, fields_before, names_in, weight_of, weight_fault, basket_fault, all_names, basket_of, baskets_in}
+use Rattle.basket_csv.specs.Csv.{is_text, fields_before, names_in, weight_of, basket_fault, all_names, basket_of, baskets_in}
 use Rattle.basket_read.specs.GatheredBaskets.{HasGathered}
 use Rattle.basket_names.specs.Names.{with_name, in_order, number_in, is_among, are_among}
 use Rattle.basket_names.proofs.theory.Names.{numbers_stay, all_among}
@@ -26,9 +25,7 @@ all_names_more weighted rows row = flat_map-append (names_in weighted) rows (row
 
 pub names_more : (weighted : Bool) (known : List (List ℕ)) (rows : List (List (List ℕ))) (row : List (List ℕ))
     → in_order (known ++ all_names weighted (rows ++ row ∷ [])) ≡ fold with_name (in_order (known ++ all_names weighted rows)) (names_in weighted row)
-names_more weighted known rows row =
-    ap (λ ns. in_order (known ++ ns)) (all_names_more weighted rows row) ∙ ap in_order (sym (append_assoc known (all_names weighted rows) (names_in weighted row)))
-    ∙ fold-append with_name [] (known ++ all_names weighted rows) (names_in weighted row)
+names_more weighted known rows row = grind (arith, common_steps)
 
 baskets_stay : (weighted : Bool) (names others : List (List ℕ)) (rows : List (List (List ℕ))) → are_among names (all_names weighted rows) ≡ true
     → flat_map (basket_of weighted (fold with_name names others)) rows ≡ flat_map (basket_of weighted names) rows
@@ -40,41 +37,25 @@ baskets_stay weighted names others (row ∷ rows) e =
 
 -- each of the names is among those in order with the known ones
 pub read_among : (known names : List (List ℕ)) → list_all (is_among (in_order (known ++ names))) names ≡ true
-read_among known names =
-    let all = list_all (is_among (in_order (known ++ names))) in
-    (and_parts (all known) (all names) (sym (list_all-append (is_among (in_order (known ++ names))) known names) ∙ all_among [] (known ++ names))).1
+read_among known names = grind (arith, common_steps, and_parts, list_all-append, all_among)
 
 baskets_more : (weighted : Bool) (known : List (List ℕ)) (rows : List (List (List ℕ))) (row : List (List ℕ))
     → baskets_in weighted known (rows ++ row ∷ []) ≡ baskets_in weighted known rows ++ basket_of weighted (in_order (known ++ all_names weighted (rows ++ row ∷ []))) row
-baskets_more weighted known rows row =
-    let new = in_order (known ++ all_names weighted (rows ++ row ∷ [])) in
-    let old = in_order (known ++ all_names weighted rows) in
-    let stay : flat_map (basket_of weighted new) rows ≡ baskets_in weighted known rows =
-    ap (λ ns. flat_map (basket_of weighted ns) rows) (names_more weighted known rows row) ∙ baskets_stay weighted old (names_in weighted row) rows (read_among known (all_names weighted rows)) in
-    flat_map-append (basket_of weighted new) rows (row ∷ []) ∙ ap (λ bs. flat_map (basket_of weighted new) rows ++ bs) (append-nil (basket_of weighted new row))
-    ∙ ap (λ bs. bs ++ basket_of weighted new row) stay
+baskets_more weighted known rows row = grind (arith, common_steps, names_more, baskets_stay, read_among, flat_map-append)
 
 -- how many fields come before the names, as a number in the code
 pub before_names : (weighted : Bool) (first : ℕ) → first ≡ bool_byte weighted → first ≡ fields_before weighted
-before_names true first e = e
-before_names false first e = e
+before_names h1 h2 h3 = grind (arith, common_steps)
 
 -- a record of texts with a weight has no fault
 pub no_fault : (weighted : Bool) (nth : ℕ) (row : List (List ℕ)) (first weight : ℕ)
     → first ≡ fields_before weighted → true ≡ is_text (drop first row) → is_text row ≡ is_text (drop (fields_before weighted) row) → Some weight ≡ weight_of weighted row
     → basket_fault weighted nth row ≡ None
-no_fault weighted nth row first weight f text whole w =
-    let is : is_text row ≡ true = whole ∙ ap (λ n. is_text (drop n row)) (sym f) ∙ sym text in
-    ap (λ b. cond b (weight_fault nth (weight_of weighted row)) (Some (NotText nth))) is ∙ ap (weight_fault nth) (sym w)
+no_fault weighted nth row first weight f text whole w = grind (arith, common_steps)
 
 -- whether a record has a fault does not depend on its number
 pub any_number : (weighted : Bool) (n m : ℕ) (row : List (List ℕ)) → basket_fault weighted n row ≡ None → basket_fault weighted m row ≡ None
-any_number weighted n m row e = at (is_text row) (weight_of weighted row) e
-  where
-    at : (text : Bool) (weight : Option ℕ) → cond text (weight_fault n weight) (Some (NotText n)) ≡ None → cond text (weight_fault m weight) (Some (NotText m)) ≡ None
-    at true (Some weight) e = refl
-    at true None e = absurd cc
-    at false weight e = absurd cc
+any_number weighted n m row e = grind (arith, common_steps)
 
 -- a record was added: its basket comes after those before
 pub added : {X : Type 0} (old new : Baskets) (start : Start) (rows : List (List (List ℕ))) (row : List (List ℕ)) (weight : ℕ) (numbers : List ℕ) (r : Result X ReadFault)

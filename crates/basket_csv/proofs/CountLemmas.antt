@@ -1,5 +1,6 @@
 -- The counted sets of records, one after another.
 use Rattle.std.proofs.Common.{◌≡◌, ℕ, ◌+◌, true, List, [], ◌∷◌, ◌++◌, length, map, drop, fold, Some, unwrap_or, refl, sym, ap, ◌∙◌, arith}
+use Rattle.std.proofs.lemmas.Grind.{common_steps}
 use Rattle.std.proofs.lemmas.Bool.{and_parts}
 use Rattle.std.proofs.lemmas.List.Folds.{list_all-append}
 use Rattle.basket_sets.specs.Itemset.{rising}
@@ -26,33 +27,17 @@ lines_stay names others nth (row ∷ rows) e =
     numbered set count nth = record { set = set; count = count; line = nth }
 
 lines_append : (names : List (List ℕ)) (nth : ℕ) (rows : List (List (List ℕ))) (row : List (List ℕ)) → lines_from names nth (rows ++ row ∷ []) ≡ lines_from names nth rows ++ line_of names (nth + length rows) row ∷ []
-lines_append names nth [] row = let same : nth ≡ nth + 0 = omega arith in ap (λ n. line_of names n row ∷ []) same
-lines_append names nth (first ∷ rows) row =
-    let same : nth + 1 + length rows ≡ nth + length (first ∷ rows) = omega arith in
-    ap (λ ls. line_of names nth first ∷ ls) (lines_append names (nth + 1) rows row ∙ ap (λ n. lines_from names (nth + 1) rows ++ line_of names n row ∷ []) same)
+lines_append names nth [] row = grind (arith, common_steps)
+lines_append names nth (first ∷ rows) row = grind (arith, common_steps, lines_append names (nth + 1) rows row)
 
 lines_more : (known : List (List ℕ)) (nth : ℕ) (rows : List (List (List ℕ))) (row : List (List ℕ))
     → lines_from (in_order (known ++ all_names true (rows ++ row ∷ []))) nth (rows ++ row ∷ [])
     ≡ lines_from (in_order (known ++ all_names true rows)) nth rows ++ line_of (in_order (known ++ all_names true (rows ++ row ∷ []))) (nth + length rows) row ∷ []
-lines_more known nth rows row =
-    let new = in_order (known ++ all_names true (rows ++ row ∷ [])) in
-    lines_append new nth rows row
-    ∙ ap (λ ls. ls ++ line_of new (nth + length rows) row ∷ [])
-    (ap (λ ns. lines_from ns nth rows) (names_more true known rows row) ∙ lines_stay (in_order (known ++ all_names true rows)) (names_in true row) nth rows (read_among known (all_names true rows)))
+lines_more known nth rows row = grind (arith, common_steps, lines_append, names_more, lines_stay, read_among)
 
 -- a record was added: its set comes after those before
 pub counted : (old new : Counts) (start : Start) (rows : List (List (List ℕ))) (row : List (List ℕ)) (line : CountedLine)
     → start.first + length rows ≡ line.line → Some line.count ≡ count_of row
     → new.names ≡ fold with_name old.names (names_of (drop 1 row)) → line.set ≡ rising (map (number_in new.names) (names_of (drop 1 row)))
     → new.lines.items ≡ old.lines.items ++ line ∷ [] → HasCounts old start rows → HasCounts new start (rows ++ row ∷ [])
-counted old new start rows row line at count names set lines h =
-    let known = start.known in
-    let order = in_order (known ++ all_names true (rows ++ row ∷ [])) in
-    let all : new.names ≡ order = names ∙ ap (λ o. fold with_name o (names_in true row)) h.names ∙ sym (names_more true known rows row) in
-    let same : line ≡ line_of order (start.first + length rows) row =
-    ap (λ s. record line { set = s }) (set ∙ ap (λ ns. rising (map (number_in ns) (names_of (drop 1 row)))) all)
-    ∙ ap (λ o. record (line_of order line.line row) { count = unwrap_or o 0 }) count ∙ ap (λ n. line_of order n row) (sym at) in
-    record {
-      names = all;
-      lines = lines ∙ ap (λ ls. ls ++ line ∷ []) h.lines ∙ ap (λ l. lines_from (in_order (known ++ all_names true rows)) start.first rows ++ l ∷ []) same ∙ sym (lines_more known start.first rows row);
-    }
+counted old new start rows row line at count names set lines h = grind (arith, common_steps, names_more, lines_more)

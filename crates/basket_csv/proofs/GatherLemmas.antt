@@ -1,25 +1,23 @@
 -- The baskets of parts, one after another.
-use Rattle.std.proofs.Common.{◌≡◌, ℕ, ◌+◌, ◌≤◌, ◌<◌, Bool, true, false, cond, List, [], ◌∷◌, ◌++◌, Option, Some, None, Ok, Err, ◌⊎◌, drop, get_or, length, ltb, map, take, unwrap_or, refl, sym, ap, ◌∙◌, subst, append_assoc, append-nil, inl, inr, arith}
+use Rattle.std.proofs.Common.{◌≡◌, ℕ, ◌+◌, ◌≤◌, ◌<◌, Bool, true, List, [], ◌∷◌, ◌++◌, Option, ◌⊎◌, drop, get_or, length, ltb, map, take, unwrap_or, refl, sym, ap, ◌∙◌, subst, append_assoc, append-nil, inl, inr, arith}
+use Rattle.std.proofs.lemmas.Grind.{common_steps}
 use Rattle.std.specs.List.{flat_map, list_all}
-use Rattle.std.proofs.lemmas.Bool.{and_parts, cases_Bool, le-leb, ltb-true}
+use Rattle.std.proofs.lemmas.Bool.{and_parts, cases_Bool, le-leb}
 use Rattle.std.proofs.lemmas.List.{at_drop_more, get_or-map, length-append, length-map, take-append-drop, take_more}
 use Rattle.std.proofs.lemmas.List.Concat.{flat_map-append}
 use Rattle.std.proofs.lemmas.List.Folds.{list_all-append}
 use Rattle.basket_sets.specs.declared.weighted.Weighted.{Weighted}
 use Rattle.basket_sets.specs.Database.{MOST_WEIGHT}
 use Rattle.basket_sets.specs.ItemTable.{HasCounted}
-use Rattle.basket_sets.specs.Number.{number_of}
 use Rattle.basket_sets.specs.Support.{total_of}
 use Rattle.basket_sets.proofs.theory.Support.{support-append}
-use Rattle.basket_read.specs.Fimi.{basket_of_numbers, if_light, MOST_NUMBER}
-use Rattle.basket_read.specs.declared.fault.ReadFault.TheVariants.{Heavy}
+use Rattle.basket_read.specs.Fimi.{basket_of_numbers, if_light}
 use Rattle.basket_read.specs.declared.item_counts.ItemCounts.{ItemCounts}
 use Rattle.basket_read.specs.GatheredBaskets.{AreGathered, Gathers, HasGathered}
 use Rattle.basket_read.specs.declared.gathered.GatheredBaskets.{GatheredBaskets}
 use Rattle.basket_csv.specs.declared.part.RecordSize.{RecordSize}
 use Rattle.basket_csv.specs.declared.renumbered.RenumberedRecords.{RenumberedRecords}
-use Rattle.basket_csv.specs.Csv.{all_names, basket_of, field_in, names_in, positive, weight_of}
-use Rattle.basket_csv.specs.Field.{trimmed}
+use Rattle.basket_csv.specs.Csv.{all_names, basket_of, names_in, positive, weight_of}
 use Rattle.basket_names.specs.Names.{number_in}
 use Rattle.basket_csv.specs.Part.{InParts, Rows, size_of}
 use Rattle.basket_csv.specs.Renumbered.{AreRenumbered}
@@ -37,15 +35,10 @@ cut_images f g (x ∷ left) (y ∷ own) rest e =
 
 -- a record's weight is at least 1
 some_weight : (number : Option ℕ) → 1 ≤ unwrap_or (positive number) 1
-some_weight None = omega arith
-some_weight (Some number) = elim (cases_Bool (ltb 0 number)) [
-  | inl e ↦ let some = ltb-true 0 number e in subst (λ b. 1 ≤ unwrap_or (cond b (Some number) None) 1) (sym e) some
-  | inr e ↦ subst (λ b. 1 ≤ unwrap_or (cond b (Some number) None) 1) (sym e) (omega arith)
-]
+some_weight h1 = grind (arith, common_steps)
 
 weighs : (weighted : Bool) (row : List (List ℕ)) → 1 ≤ unwrap_or (weight_of weighted row) 1
-weighs true row = some_weight (number_of MOST_NUMBER (trimmed (field_in row 0)))
-weighs false row = omega arith
+weighs h1 h2 = grind (arith, common_steps)
 
 module _ (weighted : Bool) (names : List (List ℕ)) (renumbering : List ℕ) (rows : Rows) where
   -- these are the numbers of the records from an index on
@@ -83,9 +76,7 @@ module _ (weighted : Bool) (names : List (List ℕ)) (renumbering : List ℕ) (r
         (sym (list_all-append (λ number. ltb number (length renumbering)) (take size.names left) (drop size.names left)) ∙ ap test (take-append-drop size.names left) ∙ h.below)
 
     pub enough : size.names ≤ length left
-    enough =
-        let long = ap length here ∙ length-map (names_in weighted row ++ all_names weighted (drop (at + 1) rows)) (number_in names) in
-        omega (arith, long, length-map left (λ number. get_or renumbering number 0), length-append (names_in weighted row) (all_names weighted (drop (at + 1) rows)), ap (λ s. s.names) own_size)
+    enough = let long = ap length here ∙ length-map (names_in weighted row ++ all_names weighted (drop (at + 1) rows)) (number_in names) in grind (arith, common_steps)
 
     pub own_below : (own : List ℕ) → own ≡ take size.names left → list_all (λ number. ltb number (length renumbering)) own ≡ true
     own_below own e = ap (list_all (λ number. ltb number (length renumbering))) e ∙ both_below.0
@@ -113,8 +104,7 @@ module _ (weighted : Bool) (names : List (List ℕ)) (renumbering : List ℕ) (r
 -- ---- baskets after others
 
 regrouped : (a b c d : List Weighted) → (b ≡ []) ⊎ (c ≡ []) → (a ++ b) ++ (c ++ d) ≡ (a ++ c) ++ (b ++ d)
-regrouped a b c d (inl e) = ap (λ l. (a ++ l) ++ (c ++ d)) e ∙ ap (λ l. l ++ (c ++ d)) (append-nil a) ∙ sym (append_assoc a c d) ∙ ap (λ l. (a ++ c) ++ (l ++ d)) (sym e)
-regrouped a b c d (inr e) = ap (λ l. (a ++ b) ++ (l ++ d)) e ∙ append_assoc a b d ∙ ap (λ l. l ++ (b ++ d)) (sym (append-nil a)) ∙ ap (λ l. (a ++ l) ++ (b ++ d)) (sym e)
+regrouped h1 h2 h3 h4 h5 = grind (arith, common_steps)
 
 no_more : (a b : List Weighted) → b ≡ a ++ b → a ≡ []
 no_more [] b e = refl
@@ -132,15 +122,8 @@ counts_joined counting first later all baskets more ((a, has_a, is_a), light_a, 
     let one : (first.rest ≡ []) ⊎ (b ≡ []) = elim (cases_Bool counting) [
       | inl counts ↦ inl (none counts)
       | inr keeps ↦ inr (no_more b later.rest (kept_b keeps ∙ is_b))
-    ] in (
-      baskets ++ more,
-      ap (λ fits. cond fits (Ok (baskets ++ more)) (Err Heavy)) (le-leb (total_of (baskets ++ more)) MOST_WEIGHT light),
-      (
-        (a ++ b, counted a b has_a has_b, ap (λ l. l ++ more) is_a ∙ ap (λ l. (a ++ first.rest) ++ l) is_b ∙ regrouped a first.rest b later.rest one ∙ ap (λ l. (a ++ b) ++ l) (sym rest)),
-        light,
-        λ keeps. rest ∙ ap (λ l. l ++ later.rest) (kept_a keeps) ∙ ap (λ l. baskets ++ l) (kept_b keeps),
-      ),
-    )
+    ] in
+    grind (arith, common_steps, le-leb, regrouped)
 
 -- ---- the baskets of parts
 
@@ -151,9 +134,7 @@ GathersTo weighted names rows counting gathered left =
 
 pub part_numbered : (weighted : Bool) (names : List (List ℕ)) (rows : Rows) (counting : Bool) (gathered : GatheredBaskets) (left others : List RenumberedRecords) (part : RenumberedRecords)
     → left ≡ part ∷ others → GathersTo weighted names rows counting gathered left → (w : Bool) × (ns : List (List ℕ)) × (own : Rows) × AreRenumbered w ns part own
-part_numbered weighted names rows counting gathered left others part is (done, rest, same, has, parts) =
-    let (own, later, first, mine, in_rest) = subst (λ l. InParts (AreRenumbered weighted names) l rest) is parts in
-    (weighted, names, own, mine)
+part_numbered weighted names rows counting gathered left others part is (done, rest, same, has, parts) = grind (arith, common_steps)
 
 pub part_more : (weighted : Bool) (names : List (List ℕ)) (rows : Rows) (counting : Bool) (gathered new : GatheredBaskets) (left others : List RenumberedRecords) (part : RenumberedRecords)
     → left ≡ part ∷ others

@@ -1,15 +1,14 @@
 -- Groups of names by ids, one after another.
-use Rattle.std.proofs.Common.{◌≡◌, ℕ, zero, suc, ◌+◌, ◌<◌, Bool, true, false, cond, not, ◌||◌, List, [], ◌∷◌, ◌++◌, map, length, fold, get_or, take, refl, sym, ap, ◌∙◌, subst, append_assoc, arith}
-use Rattle.std.specs.List.{list_any}
+use Rattle.std.proofs.Common.{◌≡◌, ℕ, zero, suc, ◌<◌, Bool, true, false, cond, ◌||◌, List, [], ◌∷◌, ◌++◌, map, length, fold, get_or, take, refl, sym, ap, ◌∙◌, subst, arith}
+use Rattle.std.proofs.lemmas.Grind.{common_steps}
 use Rattle.std.specs.Str.{bytes_eq}
 use Rattle.std.proofs.lemmas.Bool.{both_ways, or_parts}
-use Rattle.std.proofs.lemmas.List.{map-append}
 use Rattle.std.proofs.lemmas.List.Sums.{fold-append}
 use Rattle.basket_csv.specs.Csv.{gather, with_pair}
 use Rattle.basket_names.specs.Names.{is_among, number_in, with_name}
 use Rattle.basket_csv.specs.Pairs.{added_at, numbers_of}
 use Rattle.basket_csv.proofs.LawLemmas.{Distinct, Group, Pair, distinct_with, equal, other_way}
-use Rattle.basket_names.proofs.theory.Names.{among_more, among_with, consed, equal_bytes, number_in_all, number_stays}
+use Rattle.basket_names.proofs.theory.Names.{among_more, among_with, equal_bytes, number_in_all, number_stays}
 
 abbrev pub ids_of : List Group → List (List ℕ)
 ids_of groups = map (λ group. group.0) groups
@@ -27,26 +26,12 @@ one_pair (group ∷ groups) id name = ap (λ gs. cond (bytes_eq id group.0) ((gr
 
 pub ids_more : (groups : List Group) (more : Group) → with_name (ids_of groups) more.0 ≡ ids_of (with_group groups more)
 ids_more [] more = refl
-ids_more (group ∷ groups) more = at (bytes_eq more.0 group.0) (ids_more groups more)
-  where
-    at : (b : Bool) → with_name (ids_of groups) more.0 ≡ ids_of (with_group groups more)
-        → cond (b || list_any (bytes_eq more.0) (ids_of groups)) (group.0 ∷ ids_of groups) (group.0 ∷ ids_of groups ++ more.0 ∷ [])
-        ≡ ids_of (cond b ((group.0, group.1 ++ more.1) ∷ groups) (group ∷ with_group groups more))
-    at true later = refl
-    at false later = consed (list_any (bytes_eq more.0) (ids_of groups)) group.0 more.0 (ids_of groups) ∙ ap (λ ids. group.0 ∷ ids) later
+ids_more (group ∷ groups) more = grind (arith, common_steps, ids_more groups more)
 
 pub groups_more : (names : List (List ℕ)) (groups : List Group) (more : Group)
     → added_at (numbers_of names groups) (number_in (ids_of groups) more.0) (map (number_in names) more.1) ≡ numbers_of names (with_group groups more)
 groups_more names [] more = refl
-groups_more names (group ∷ groups) more = at (bytes_eq more.0 group.0) (groups_more names groups more)
-  where
-    at : (b : Bool) → added_at (numbers_of names groups) (number_in (ids_of groups) more.0) (map (number_in names) more.1) ≡ numbers_of names (with_group groups more)
-        → added_at (map (number_in names) group.1 ∷ numbers_of names groups) (cond (not b) (1 + number_in (ids_of groups) more.0) 0) (map (number_in names) more.1)
-        ≡ numbers_of names (cond b ((group.0, group.1 ++ more.1) ∷ groups) (group ∷ with_group groups more))
-    at true later = ap (λ g. g ∷ numbers_of names groups) (sym (map-append (number_in names) group.1 more.1))
-    at false later =
-        let next : 1 + number_in (ids_of groups) more.0 ≡ suc (number_in (ids_of groups) more.0) = omega arith in
-        ap (λ index. added_at (map (number_in names) group.1 ∷ numbers_of names groups) index (map (number_in names) more.1)) next ∙ ap (λ gs. map (number_in names) group.1 ∷ gs) later
+groups_more names (group ∷ groups) more = grind (arith, common_steps, groups_more names groups more)
 
 -- the ids with those of more groups
 pub ids_with : (groups more : List Group) → ids_of (fold with_group groups more) ≡ fold with_name (ids_of groups) (ids_of more)
@@ -88,13 +73,7 @@ swapped_all (group ∷ more) groups id name none known =
 -- a group with one name more
 then_pair : (groups : List Group) (more : Group) (name : List ℕ) → with_group groups (more.0, more.1 ++ name ∷ []) ≡ with_pair (with_group groups more) (more.0, name)
 then_pair [] more name = rw (equal_bytes more.0) refl
-then_pair (group ∷ groups) more name = at (bytes_eq more.0 group.0) refl (then_pair groups more name)
-  where
-    at : (b : Bool) → bytes_eq more.0 group.0 ≡ b → with_group groups (more.0, more.1 ++ name ∷ []) ≡ with_pair (with_group groups more) (more.0, name)
-        → cond b ((group.0, group.1 ++ (more.1 ++ name ∷ [])) ∷ groups) (group ∷ with_group groups (more.0, more.1 ++ name ∷ []))
-        ≡ with_pair (cond b ((group.0, group.1 ++ more.1) ∷ groups) (group ∷ with_group groups more)) (more.0, name)
-    at true e later = rw e (ap (λ names. (group.0, names) ∷ groups) (sym (append_assoc group.1 more.1 (name ∷ []))))
-    at false e later = rw e (ap (λ gs. group ∷ gs) later)
+then_pair (group ∷ groups) more name = grind (arith, common_steps, then_pair groups more name)
 
 -- ---- groups of pairs and of more pairs
 

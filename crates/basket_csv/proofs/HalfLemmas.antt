@@ -1,15 +1,15 @@
 -- The baskets of two halves of parts.
-use Rattle.std.proofs.Common.{◌≡◌, ◌≢◌, ℕ, ◌≤◌, ◌<◌, Bool, true, false, cond, List, [], ◌++◌, Result, Ok, Err, leb, refl, ap, ◌∙◌, subst, inl, inr, arith}
+use Rattle.std.proofs.Common.{◌≡◌, ◌≢◌, ℕ, ◌≤◌, ◌<◌, Bool, false, List, ◌++◌, Result, Ok, Err, leb, ap, ◌∙◌, subst, inl, inr, arith}
+use Rattle.std.proofs.lemmas.Grind.{common_steps}
 use Rattle.std.specs.List.{flat_map}
-use Rattle.std.proofs.lemmas.Bool.{cases_Bool, leb-false, leb-true}
+use Rattle.std.proofs.lemmas.Bool.{cases_Bool, leb-true}
 use Rattle.std.proofs.lemmas.List.Concat.{flat_map-append}
 use Rattle.basket_sets.specs.declared.weighted.Weighted.{Weighted}
-use Rattle.basket_sets.specs.Database.{MOST_WEIGHT}
 use Rattle.basket_sets.specs.Support.{total_of}
 use Rattle.basket_sets.proofs.theory.Support.{support-append}
 use Rattle.basket_read.specs.Fimi.{if_light}
 use Rattle.basket_read.specs.declared.fault.ReadFault.{ReadFault}
-use Rattle.basket_read.specs.declared.fault.ReadFault.TheVariants.{Heavy, Memory}
+use Rattle.basket_read.specs.declared.fault.ReadFault.TheVariants.{Memory}
 use Rattle.basket_read.specs.Fault.{ReturnsBy}
 use Rattle.basket_read.specs.declared.item_counts.ItemCounts.{ItemCounts}
 use Rattle.basket_read.specs.GatheredBaskets.{AreGathered, Gathers}
@@ -21,24 +21,14 @@ use Rattle.basket_csv.proofs.InPartsLemmas.{in_halves}
 
 -- baskets that may be had are light
 light_is : (baskets found : List Weighted) → if_light baskets ≡ Ok found → baskets ≡ found
-light_is baskets found e = at (leb (total_of baskets) MOST_WEIGHT) e
-  where
-    at : (light : Bool) → cond light (Ok baskets) (Err Heavy) ≡ Ok found → baskets ≡ found
-    at true same = cc
-    at false same = absurd cc
+light_is baskets found e = grind (arith, common_steps)
 
 not_leb : (a b : ℕ) → b < a → leb a b ≡ false
 not_leb a b above = elim (cases_Bool (leb a b)) [ inl e ↦ absurd (let below = leb-true a b e in omega arith) | inr e ↦ e ]
 
 -- what weighs too much does so with more
 heavy_more : (baskets all : List Weighted) (fault : ReadFault) → total_of baskets ≤ total_of all → if_light baskets ≡ Err fault → if_light all ≡ Err fault
-heavy_more baskets all fault more e = at (leb (total_of baskets) MOST_WEIGHT) refl e
-  where
-    at : (light : Bool) → leb (total_of baskets) MOST_WEIGHT ≡ light → cond light (Ok baskets) (Err Heavy) ≡ Err fault → if_light all ≡ Err fault
-    at true is same = absurd cc
-    at false is same =
-        let above = leb-false (total_of baskets) MOST_WEIGHT is in
-        ap (λ light. cond light (Ok all) (Err Heavy)) (not_leb (total_of all) MOST_WEIGHT (omega arith)) ∙ same
+heavy_more baskets all fault more e = grind (arith, common_steps)
 
 module _ (counting weighted : Bool) (names : List (List ℕ)) (parts front back : List RenumberedRecords) (rows : Rows) (halves : parts ≡ front ++ back) (all : InParts (AreRenumbered weighted names) parts rows) where
   abbrev of : List (List (List ℕ)) → List Weighted
@@ -48,16 +38,10 @@ module _ (counting weighted : Bool) (names : List (List ℕ)) (parts front back 
   both = in_halves (AreRenumbered weighted names) front back rows (subst (λ l. InParts (AreRenumbered weighted names) l rows) halves all)
 
   pub front_heavy : (result : Result ItemCounts ReadFault) (fault : ReadFault) → result ≡ Err fault → GathersParts counting front result → fault ≢ Memory → if_light (of rows) ≡ Err fault
-  front_heavy result fault is has other =
-      let (first, others, same, in_front, in_back) = both in
-      let sum = ap total_of (ap of same ∙ flat_map-append (basket_of weighted names) first others) ∙ support-append (of first) (of others) [] in
-      heavy_more (of first) (of rows) fault (omega (arith, sum)) (subst (λ r. ReturnsBy (Gathers counting) r (if_light (of first))) is (has weighted names first in_front) other)
+  front_heavy result fault is has other = grind (arith, common_steps, both, flat_map-append, support-append, heavy_more)
 
   pub back_heavy : (result : Result ItemCounts ReadFault) (fault : ReadFault) → result ≡ Err fault → GathersParts counting back result → fault ≢ Memory → if_light (of rows) ≡ Err fault
-  back_heavy result fault is has other =
-      let (first, others, same, in_front, in_back) = both in
-      let sum = ap total_of (ap of same ∙ flat_map-append (basket_of weighted names) first others) ∙ support-append (of first) (of others) [] in
-      heavy_more (of others) (of rows) fault (omega (arith, sum)) (subst (λ r. ReturnsBy (Gathers counting) r (if_light (of others))) is (has weighted names others in_back) other)
+  back_heavy result fault is has other = grind (arith, common_steps, both, flat_map-append, support-append, heavy_more)
 
   -- the counts of the halves are those of their baskets, which are those of all
   pub halves_found : (a b : Result ItemCounts ReadFault) (counts later : ItemCounts) → a ≡ Ok counts → b ≡ Ok later → GathersParts counting front a → GathersParts counting back b

@@ -1,5 +1,6 @@
 -- Records of parts in a row.
-use Rattle.std.proofs.Common.{◌≡◌, ℕ, Bool, List, [], ◌∷◌, ◌++◌, Some, fold, get_or, length, ltb, map, unwrap_or, refl, sym, ap, ◌∙◌, subst, append_assoc, append-nil}
+use Rattle.std.proofs.Common.{◌≡◌, ℕ, Bool, List, [], ◌∷◌, ◌++◌, Some, fold, get_or, length, ltb, map, unwrap_or, refl, sym, ap, ◌∙◌, subst, append_assoc, arith}
+use Rattle.std.proofs.lemmas.Grind.{common_steps}
 use Rattle.std.specs.List.{list_all}
 use Rattle.std.proofs.lemmas.List.{length-map, map-append}
 use Rattle.std.proofs.lemmas.List.Concat.{flat_map-append}
@@ -17,9 +18,8 @@ use Rattle.basket_names.proofs.theory.Together.{add_in_order, among_more_names, 
 module _ {A : Type 0} (has : A → Rows → Type 0) where
   -- one part more
   pub in_last : (parts : List A) (part : A) (rows own : Rows) → InParts has parts rows → has part own → InParts has (parts ++ part ∷ []) (rows ++ own)
-  in_last [] part rows own none h = (own, [], ap (λ r. r ++ own) none ∙ sym (append-nil own), h, refl)
-  in_last (first ∷ parts) part rows own (mine, later, is, has_mine, rest) h =
-      (mine, later ++ own, ap (λ r. r ++ own) is ∙ append_assoc mine later own, has_mine, in_last parts part later own rest h)
+  in_last [] part rows own none h = grind (arith, common_steps)
+  in_last (first ∷ parts) part rows own (mine, later, is, has_mine, rest) h = grind (arith, common_steps, in_last parts part later own rest h)
 
   -- the parts that come before an index and those after it
   pub in_halves : (front back : List A) (rows : Rows) → InParts has (front ++ back) rows → (first : Rows) × (others : Rows) × (rows ≡ first ++ others) × InParts has front first × InParts has back others
@@ -69,14 +69,7 @@ Renumbers weighted before known left all rows =
     × (known ≡ fold with_name before (all_names weighted done)) × InParts (AreRenumbered weighted known) all done
 
 renumbered_still : (weighted : Bool) (known others new : List (List ℕ)) → new ≡ fold with_name known others → (part : RenumberedRecords) (rows : Rows) → AreRenumbered weighted known part rows → AreRenumbered weighted new part rows
-renumbered_still weighted known others new is part rows h =
-    let some = all_names weighted rows in
-    record {
-      below = h.below;
-      among = ap (λ n. are_among n some) is ∙ among_more_names known others some h.among;
-      numbers = h.numbers ∙ sym (numbers_stay known others some h.among) ∙ ap (λ n. map (number_in n) some) (sym is);
-      sizes = h.sizes;
-    }
+renumbered_still weighted known others new is part rows h = grind (arith, common_steps, among_more_names, numbers_stay)
 
 renumbered_now : (weighted : Bool) (known new : List (List ℕ)) (part : Part) (one : RenumberedRecords) (rows : Rows)
     → new ≡ fold with_name known (all_names weighted rows) → one.records ≡ part.records → one.names.items ≡ map (number_in new) part.names → HasPart weighted part rows → AreRenumbered weighted new one rows

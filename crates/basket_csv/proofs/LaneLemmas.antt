@@ -1,13 +1,13 @@
 -- Bytes of a text that are looked at together.
-use Rattle.std.proofs.Common.{◌≡◌, ◌≢◌, ℕ, zero, suc, ◌+◌, ◌≤◌, ◌<◌, not, eqb, List, length, map, refl, ap, ◌∙◌, arith}
+use Rattle.std.proofs.Common.{◌≡◌, ◌≢◌, ℕ, ◌+◌, ◌≤◌, ◌<◌, not, eqb, List, length, map, ap, ◌∙◌, arith}
+use Rattle.std.proofs.lemmas.Grind.{common_steps}
 use Rattle.std.specs.List.{prefix_len}
 use Rattle.std.proofs.lemmas.Simd.{length-chunk, trailing_mask_l}
 use lib.Count.{count_trailing_zeros}
 use lib.Lanes.{chunk, mask_l}
 
 positive : (n : ℕ) → n ≢ 0 → 0 < n
-positive zero some = absurd (some refl)
-positive (suc n) some = omega arith
+positive h1 h2 = grind (arith, common_steps)
 
 -- the lowest bit that is set stands for the first of sixteen bytes that is equal to one
 pub first_equal : (text : List ℕ) (from byte mask : ℕ) → from + 16 ≤ length text → mask ≡ mask_l (map (λ x. eqb x byte) (chunk from 16 text)) → mask ≢ 0

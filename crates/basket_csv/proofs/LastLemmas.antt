@@ -1,5 +1,6 @@
 -- The fields of a record, the last of them, and its last byte.
-use Rattle.std.proofs.Common.{◌≡◌, Bor, ℕ, zero, suc, ◌-◌, ◌<◌, ◌≤◌, false, eqb, List, [], ◌∷◌, ◌++◌, length, map, get_or, Option, Some, None, unwrap_or, refl, sym, ap, ◌∙◌, arith}
+use Rattle.std.proofs.Common.{◌≡◌, Bor, ℕ, zero, suc, ◌-◌, ◌<◌, ◌≤◌, false, eqb, List, [], ◌∷◌, ◌++◌, length, map, get_or, Option, Some, None, unwrap_or, refl, arith}
+use Rattle.std.proofs.lemmas.Grind.{common_steps}
 use Rattle.std.specs.Prelude.{option_copied, option_map, slice_get}
 use Rattle.std.specs.Slice.{IsItemAt}
 use Rattle.csv.specs.Records.{field_at}
@@ -24,25 +25,18 @@ last_byte byte (next ∷ bytes) = last_byte next bytes
 
 last_in : (field : List ℕ) → unwrap_or (slice_get field (length field - 1)) 0 ≡ last_after 0 field
 last_in [] = refl
-last_in (byte ∷ bytes) =
-    let index : length (byte ∷ bytes) - 1 ≡ length bytes = omega arith in
-    ap (λ n. unwrap_or (slice_get (byte ∷ bytes) n) 0) index ∙ ap (λ o. unwrap_or o 0) (last_byte byte bytes)
+last_in (byte ∷ bytes) = grind (arith, common_steps, last_byte byte bytes)
 
 -- a record may go on if its last field has a last byte, which is a line feed
 pub some_field : (fields : List (List ℕ)) (index : ℕ) (field : List ℕ) (byte : Option ℕ) → index ≡ length fields - 1 → Some field ≡ field_at fields index
     → byte ≡ slice_get field (length field - 1) → may_go_on fields ≡ eqb (unwrap_or byte 0) 10
 unfolding field_at
 some_field [] index field byte at_index is ends = absurd cc
-some_field (first ∷ fields) index field byte at_index is ends =
-    let last : index ≡ length fields = omega (arith, at_index) in
-    let same : last_after first fields ≡ field = ap (λ o. unwrap_or o []) (sym (is ∙ ap (field_at (first ∷ fields)) last ∙ last_field first fields)) in
-    ap (λ f. eqb (last_after 0 f) 10) same ∙ ap (λ c. eqb c 10) (sym (last_in field)) ∙ ap (λ o. eqb (unwrap_or o 0) 10) (sym ends)
+some_field (first ∷ fields) index field byte at_index is ends = grind (arith, common_steps, last_field first fields, last_in field)
 
 pub no_field : (fields : List (List ℕ)) (index : ℕ) → index ≡ length fields - 1 → None ≡ field_at fields index → may_go_on fields ≡ false
 no_field [] index at_index is = refl
-no_field (first ∷ fields) index at_index is =
-    let last : index ≡ length fields = omega (arith, at_index) in
-    absurd (let none : ◌≡◌ {A = Option (List ℕ)} None (Some (last_after first fields)) = is ∙ ap (field_at (first ∷ fields)) last ∙ last_field first fields in cc)
+no_field (first ∷ fields) index at_index is = grind (arith, common_steps, last_field first fields)
 
 -- ---- the field at an index
 
@@ -63,5 +57,4 @@ field_beyond (field ∷ fields) (suc index) all = field_beyond fields index (ome
 
 pub field_got : (fields : List (Bor (List ℕ))) (index : ℕ) (got : Option (Bor (Bor (List ℕ)))) → IsItemAt fields index got
     → option_map (λ (field : Bor (List ℕ)). field.now) (option_copied got) ≡ field_at (texts fields) index
-field_got fields index None is = field_beyond fields index is.3
-field_got fields index (Some field) is = ap (λ (f : Bor (List ℕ)). Some f.now) is.1 ∙ field_there fields index field.now is.3.0
+field_got h1 h2 h3 h4 = grind (arith, common_steps, field_beyond, field_there)

@@ -1,9 +1,9 @@
 -- Pairs are gathered by their ids.
-use Rattle.std.proofs.Common.{◌≡◌, ℕ, Bool, true, false, cond, ◌||◌, List, [], ◌∷◌, ◌++◌, map, filter, fold, refl, sym, ap, ◌∙◌, subst, append-nil, append_assoc}
+use Rattle.std.proofs.Common.{◌≡◌, ℕ, Bool, true, false, cond, ◌||◌, List, [], ◌∷◌, ◌++◌, map, filter, fold, refl, sym, ap, ◌∙◌, subst, append-nil, append_assoc, arith}
+use Rattle.std.proofs.lemmas.Grind.{common_steps}
 use Rattle.std.specs.Str.{bytes_eq}
 use Rattle.std.proofs.lemmas.Bool.{or_parts, or_from, false_from_ne_true, both_ways}
 use Rattle.std.proofs.lemmas.List.{map-append}
-use Rattle.std.proofs.lemmas.List.Elements.{filter-append}
 use Rattle.std.proofs.lemmas.List.Folds.{list_any-append}
 use Rattle.std.proofs.lemmas.List.Sums.{fold-append}
 use Rattle.std.proofs.lemmas.Slice.Eq.{bytes_eq-Decides}
@@ -46,11 +46,7 @@ distinct_last (first ∷ ids) id e d =
     (list_any-append (bytes_eq first) ids (id ∷ []) ∙ or_from (is_among ids first) (bytes_eq first id || false) d.0 (or_from (bytes_eq first id) false (other_way id first h.0) refl), distinct_last ids id h.1 d.1)
 
 pub distinct_with : (ids : List (List ℕ)) (id : List ℕ) → Distinct ids → Distinct (with_name ids id)
-distinct_with ids id d = at (is_among ids id) refl
-  where
-    at : (b : Bool) → is_among ids id ≡ b → Distinct (cond b ids (ids ++ id ∷ []))
-    at true e = d
-    at false e = distinct_last ids id e d
+distinct_with ids id d = grind (arith, common_steps, distinct_last)
 
 distinct_all : (ids more : List (List ℕ)) → Distinct ids → Distinct (fold with_name ids more)
 distinct_all ids [] d = d
@@ -59,13 +55,7 @@ distinct_all ids (id ∷ more) d = distinct_all (with_name ids id) more (distinc
 -- ---- the names of an id
 
 names_with_more : (done : List Pair) (pair : Pair) (id : List ℕ) → names_with (done ++ pair ∷ []) id ≡ names_with done id ++ cond (bytes_eq id pair.0) (pair.1 ∷ []) []
-names_with_more done pair id =
-    ap (map (λ p. p.1)) (filter-append (λ p. bytes_eq id p.0) done (pair ∷ [])) ∙ map-append (λ p. p.1) (filter (λ p. bytes_eq id p.0) done) (filter (λ p. bytes_eq id p.0) (pair ∷ []))
-    ∙ ap (λ l. names_with done id ++ l) (at (bytes_eq id pair.0))
-  where
-    at : (b : Bool) → map (λ (p : Pair). p.1) (cond b (pair ∷ []) []) ≡ cond b (pair.1 ∷ []) []
-    at true = refl
-    at false = refl
+names_with_more done pair id = grind (arith, common_steps)
 
 with_same : (done : List Pair) (pair : Pair) (id : List ℕ) → bytes_eq id pair.0 ≡ true → names_with (done ++ pair ∷ []) id ≡ names_with done id ++ pair.1 ∷ []
 with_same done pair id e = names_with_more done pair id ∙ ap (λ b. names_with done id ++ cond b (pair.1 ∷ []) []) e

@@ -1,5 +1,6 @@
 -- Supports of names and of their numbers.
-use Rattle.std.proofs.Common.{◌≡◌, ℕ, ◌+◌, Bool, true, false, cond, eqb, ◌&&◌, ◌||◌, List, [], ◌∷◌, ◌++◌, map, filter, get_or, unwrap_or, refl, sym, ap, ◌∙◌, arith}
+use Rattle.std.proofs.Common.{◌≡◌, ℕ, ◌+◌, Bool, true, false, cond, eqb, ◌&&◌, ◌||◌, List, [], ◌∷◌, ◌++◌, map, filter, get_or, refl, sym, ap, ◌∙◌, arith}
+use Rattle.std.proofs.lemmas.Grind.{common_steps}
 use Rattle.std.specs.List.{flat_map, list_all}
 use Rattle.std.specs.Str.{bytes_eq}
 use Rattle.std.proofs.lemmas.Bool.{and_parts, and_from, both_ways, eq-eqb, ne_eqb}
@@ -11,9 +12,9 @@ use Rattle.basket_sets.specs.Support.{support_of}
 use Rattle.basket_sets.proofs.theory.Rising.{same_test, has_each, contains_each, Member-rising, Member-into_rising}
 use Rattle.basket_sets.proofs.theory.Support.{support-append}
 use Rattle.basket_read.specs.Fimi.{basket_of_numbers}
-use Rattle.basket_csv.specs.Csv.{names_in, weight_of, all_names, gather, names_of_pairs}
+use Rattle.basket_csv.specs.Csv.{all_names, names_of_pairs}
 use Rattle.basket_csv.specs.Laws.{names_with}
-use Rattle.basket_csv.specs.Named.{NamedBasket, are_named, has_all, named_weight_at, named_baskets, named_pairs, numbered, numbered_set, SupportIsByNames, NamedSupportsAddUp, BasketsAreNumbered, PairsAreNumbered, BasketSupportIsByNames, PairSupportIsByNames}
+use Rattle.basket_csv.specs.Named.{NamedBasket, are_named, named_weight_at, named_baskets, named_pairs, numbered, numbered_set, SupportIsByNames, NamedSupportsAddUp, BasketsAreNumbered, PairsAreNumbered, BasketSupportIsByNames, PairSupportIsByNames}
 use Rattle.basket_names.specs.Names.{in_order, number_in, is_among, are_among}
 use Rattle.basket_csv.proofs.BasketLemmas.{read_among}
 use Rattle.basket_csv.proofs.LawLemmas.{by_id}
@@ -49,22 +50,14 @@ contains_numbers names basket (name ∷ set) all some =
     ∙ ap (λ b. is_among basket name && b) (contains_numbers names basket set all h.1)
 
 contains_rising : (basket set : List ℕ) → contains (rising basket) (rising set) ≡ contains basket set
-contains_rising basket set =
-    same_test (contains (rising basket) (rising set)) (contains basket set)
-    (λ h. contains_each basket set (λ item m. Member-rising basket item (has_each (rising basket) (rising set) h item (Member-into_rising set item m))))
-    (λ h. contains_each (rising basket) (rising set) (λ item m. Member-into_rising basket item (has_each basket set h item (Member-rising set item m))))
+contains_rising basket set = grind (arith, common_steps, same_test, contains_each, Member-rising, has_each, Member-into_rising)
 
 -- ---- supports
 
 weight_is_by_names : (names set own : List (List ℕ)) (weight : ℕ) → are_among names own ≡ true → are_among names set ≡ true
     → support_of (basket_of_numbers (map (number_in names) own) weight) (numbered_set names set) ≡ named_weight_at set (own, weight)
 weight_is_by_names names set [] weight all some = refl
-weight_is_by_names names set (name ∷ own) weight all some =
-    let numbers = map (number_in names) (name ∷ own) in
-    let same : contains (rising numbers) (numbered_set names set) ≡ has_all (name ∷ own) set =
-    contains_rising numbers (map (number_in names) set) ∙ contains_numbers names (name ∷ own) set all some in
-    let alone : 0 + cond (contains (rising numbers) (numbered_set names set)) weight 0 ≡ cond (contains (rising numbers) (numbered_set names set)) weight 0 = omega arith in
-    alone ∙ ap (λ b. cond b weight 0) same
+weight_is_by_names names set (name ∷ own) weight all some = grind (arith, common_steps, contains_rising, contains_numbers)
 
 pub support_is_by_names : SupportIsByNames
 support_is_by_names names [] set all some = refl
@@ -82,11 +75,7 @@ named_supports_add_up a b set = sum_by-append (named_weight_at set) a b
 
 equal_passes : (p : List ℕ → Bool) (names : List (List ℕ)) (name : List ℕ) → list_all p names ≡ true → is_among names name ≡ true → p name ≡ true
 equal_passes p [] name all e = absurd cc
-equal_passes p (other ∷ names) name all e = at (bytes_eq name other) refl (equal_passes p names name (and_parts (p other) (list_all p names) all).1) e
-  where
-    at : (b : Bool) → bytes_eq name other ≡ b → (is_among names name ≡ true → p name ≡ true) → (b || is_among names name) ≡ true → p name ≡ true
-    at true f later e = ap p ((bytes_eq-Decides name other).0 f) ∙ (and_parts (p other) (list_all p names) all).0
-    at false f later e = later e
+equal_passes p (other ∷ names) name all e = grind (arith, common_steps, equal_passes p names name (and_parts (p other) (list_all p names) all).1, and_parts, bytes_eq-Decides)
 
 all_in_order : (names set : List (List ℕ)) → are_among names set ≡ true → are_among (in_order names) set ≡ true
 all_in_order names [] e = refl
@@ -105,10 +94,7 @@ baskets_named names basket (row ∷ rows) e =
     and_from (are_among names own) (are_named names (map basket rows)) h.0 (baskets_named names basket rows h.1)
 
 pub baskets_are_numbered : BasketsAreNumbered
-baskets_are_numbered weighted known rows =
-    let names = in_order (known ++ all_names weighted rows) in
-    let basket : List (List ℕ) → NamedBasket = λ row. (names_in weighted row, unwrap_or (weight_of weighted row) 1) in
-    (sym (flat_map-map (λ (b : NamedBasket). basket_of_numbers (map (number_in names) b.0) b.1) basket rows), baskets_named names basket rows (read_among known (all_names weighted rows)))
+baskets_are_numbered weighted known rows = grind (arith, common_steps, flat_map-map, baskets_named, read_among)
 
 pub basket_support_is_by_names : BasketSupportIsByNames
 basket_support_is_by_names weighted known rows set e =
@@ -135,13 +121,7 @@ groups_named names pairs [] e = refl
 groups_named names pairs (id ∷ ids) e = and_from (are_among names (names_with pairs id)) _ (some_named names (λ pair. bytes_eq id pair.0) pairs e) (groups_named names pairs ids e)
 
 pub pairs_are_numbered : PairsAreNumbered
-pairs_are_numbered known pairs =
-    let names = names_of_pairs known pairs in
-    let of_pairs = map (λ (pair : List ℕ × List ℕ). pair.1) pairs in (
-      sym (flat_map-map (λ (b : NamedBasket). basket_of_numbers (map (number_in names) b.0) b.1) (λ (group : List ℕ × List (List ℕ)). (group.1, 1)) (gather pairs)),
-      ap (λ groups. are_named names (map (λ (group : List ℕ × List (List ℕ)). (group.1, 1)) groups)) (by_id pairs)
-          ∙ groups_named names pairs (in_order (map (λ pair. pair.0) pairs)) (read_among known of_pairs),
-    )
+pairs_are_numbered known pairs = grind (arith, common_steps, flat_map-map, by_id, groups_named, read_among)
 
 pub pair_support_is_by_names : PairSupportIsByNames
 pair_support_is_by_names known pairs set e =

@@ -1,20 +1,18 @@
 -- Pairs of an id and a name, one after another.
-use Rattle.std.proofs.Common.{◌≡◌, ℕ, zero, suc, ◌+◌, ◌≤◌, ◌<◌, Bool, true, false, cond, not, ltb, List, [], ◌∷◌, ◌++◌, length, map, filter, fold, set, get_or, Some, None, Result, refl, sym, ap, ◌∙◌, subst, append_assoc, arith}
+use Rattle.std.proofs.Common.{◌≡◌, ℕ, zero, suc, ◌≤◌, ◌<◌, true, false, cond, not, List, [], ◌∷◌, ◌++◌, length, map, fold, set, get_or, None, Result, refl, sym, ap, ◌∙◌, subst, arith}
+use Rattle.std.proofs.lemmas.Grind.{common_steps}
 use Rattle.std.specs.List.{flat_map}
 use Rattle.std.specs.Result.{OnOk}
 use Rattle.std.specs.Str.{is_utf8}
 use Rattle.std.proofs.lemmas.Bool.{and_parts}
-use Rattle.std.proofs.lemmas.List.{map-append}
-use Rattle.std.proofs.lemmas.List.Elements.{filter-append}
 use Rattle.std.proofs.lemmas.List.Folds.{flat_map-map}
 use Rattle.std.proofs.lemmas.List.Sums.{fold-append}
 use Rattle.basket_read.specs.declared.fault.ReadFault.{ReadFault}
-use Rattle.basket_read.specs.declared.fault.ReadFault.TheVariants.{NotText, ShortRecord}
 use Rattle.basket_read.specs.Fimi.{basket_of_numbers, is_nil}
 use Rattle.basket_csv.specs.declared.pairs.Pairs.{Pairs}
-use Rattle.basket_csv.specs.Csv.{field_in, is_text, pair_fault, pair_of, pairs_of, with_pair, gather, names_of_pairs}
+use Rattle.basket_csv.specs.Csv.{field_in, pair_fault, pair_of, pairs_of, with_pair, gather, names_of_pairs}
 use Rattle.basket_csv.specs.Field.{trimmed}
-use Rattle.basket_names.specs.Names.{with_name, in_order, number_in, are_among}
+use Rattle.basket_names.specs.Names.{with_name, number_in, are_among}
 use Rattle.basket_csv.specs.Row.{IsKnownPair}
 use Rattle.basket_csv.specs.Named.{NamedBasket, are_named}
 use Rattle.basket_csv.specs.Pairs.{HasPairs, added_at, numbers_of}
@@ -55,9 +53,7 @@ gather_more : (pairs : List (List ℕ × List ℕ)) (id name : List ℕ) → gat
 gather_more pairs id name = fold-append with_pair [] pairs ((id, name) ∷ []) ∙ sym (one_pair (gather pairs) id name)
 
 names_more : (known : List (List ℕ)) (pairs : List (List ℕ × List ℕ)) (pair : List ℕ × List ℕ) → names_of_pairs known (pairs ++ pair ∷ []) ≡ with_name (names_of_pairs known pairs) pair.1
-names_more known pairs pair =
-    let names = map (λ (p : List ℕ × List ℕ). p.1) pairs in
-    ap (λ ns. in_order (known ++ ns)) (map-append (λ p. p.1) pairs (pair ∷ [])) ∙ ap in_order (sym (append_assoc known names (pair.1 ∷ []))) ∙ fold-append with_name [] (known ++ names) (pair.1 ∷ [])
+names_more known pairs pair = grind (arith, common_steps)
 
 pub paired : (old new : Pairs) (known : List (List ℕ)) (pairs : List (List ℕ × List ℕ)) (id name : List ℕ) (number index : ℕ)
     → new.names ≡ with_name old.names name → number ≡ number_in new.names name
@@ -83,9 +79,7 @@ paired old new known pairs id name number index a b c d e h =
     }
 
 pub pairs_both : (rows more : List (List (List ℕ))) → pairs_of (rows ++ more) ≡ pairs_of rows ++ pairs_of more
-pairs_both rows more =
-    let has_name : List ℕ × List ℕ → Bool = λ pair. not (is_nil pair.1) in
-    ap (filter has_name) (map-append pair_of rows more) ∙ filter-append has_name (map pair_of rows) (map pair_of more)
+pairs_both rows more = grind (arith, common_steps)
 
 pairs_more : (rows : List (List (List ℕ))) (row : List (List ℕ)) → is_nil (trimmed (field_in row 1)) ≡ false → pairs_of (rows ++ row ∷ []) ≡ pairs_of rows ++ pair_of row ∷ []
 pairs_more rows row some = pairs_both rows (row ∷ []) ∙ ap (λ b. pairs_of rows ++ cond (not b) (pair_of row ∷ []) []) some
@@ -94,8 +88,7 @@ pairs_more rows row some = pairs_both rows (row ∷ []) ∙ ap (λ b. pairs_of r
 pub pair_added : {X : Type 0} (new : Pairs) (known : List (List ℕ)) (rows : List (List (List ℕ))) (row : List (List ℕ)) (id name : List ℕ) (r : Result X ReadFault)
     → id ≡ trimmed (field_in row 0) → name ≡ trimmed (field_in row 1) → is_nil (trimmed (field_in row 1)) ≡ false
     → OnOk r (HasPairs new known (pairs_of rows ++ (id, name) ∷ [])) → OnOk r (HasPairs new known (pairs_of (rows ++ row ∷ [])))
-pair_added new known rows row id name r a b some h =
-    subst (λ pairs. OnOk r (HasPairs new known pairs)) (ap (λ i. pairs_of rows ++ (i, name) ∷ []) a ∙ ap (λ n. pairs_of rows ++ (trimmed (field_in row 0), n) ∷ []) b ∙ sym (pairs_more rows row some)) h
+pair_added new known rows row id name r a b some h = grind (arith, common_steps)
 
 -- a record of a known id and a known name, whose numbers were added
 pub known_paired : (old new : Pairs) (known : List (List ℕ)) (rows : List (List (List ℕ))) (row : List (List ℕ)) (index number : ℕ)
@@ -123,16 +116,8 @@ all_baskets f groups names gathered e =
 -- ---- records of two fields
 
 pub no_fault : (nth : ℕ) (row : List (List ℕ)) → length row ≡ 2 → is_utf8 (field_in row 0) ≡ true → is_utf8 (field_in row 1) ≡ true → pair_fault nth row ≡ None
-no_fault nth [] two id name = absurd (omega (arith, two))
-no_fault nth (field ∷ []) two id name = absurd (omega (arith, two))
-no_fault nth (field ∷ other ∷ []) two id name = rw (id, name) refl
-no_fault nth (field ∷ other ∷ more ∷ fields) two id name = absurd (omega (arith, two))
+no_fault h1 h2 h3 h4 h5 = grind (arith, common_steps)
 
 -- whether a record has a fault does not depend on its number
 pub any_number : (n m : ℕ) (row : List (List ℕ)) → pair_fault n row ≡ None → pair_fault m row ≡ None
-any_number n m row e = at (is_text row) (ltb (length row) 2) e
-  where
-    at : (text short : Bool) → cond text (cond short (Some (ShortRecord n)) None) (Some (NotText n)) ≡ None → cond text (cond short (Some (ShortRecord m)) None) (Some (NotText m)) ≡ None
-    at true false e = refl
-    at true true e = absurd cc
-    at false short e = absurd cc
+any_number n m row e = grind (arith, common_steps)

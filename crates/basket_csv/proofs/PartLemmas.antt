@@ -1,5 +1,6 @@
 -- A part of a text, none of whose records goes on after it, is read as a text of its own.
 use Rattle.std.proofs.Common.{◌≡◌, ◌⊎◌, inl, inr, ⊎_elim, ℕ, zero, suc, ◌+◌, ◌<◌, Bool, true, false, cond, eqb, ◌||◌, List, [], ◌∷◌, ◌++◌, length, Option, Some, None, refl, sym, ap, ◌∙◌, arith, append-nil}
+use Rattle.std.proofs.lemmas.Grind.{common_steps}
 use Rattle.std.proofs.lemmas.Bool.{eqb-true, or_parts}
 use Rattle.csv.specs.Machine.{Read, next_record, step, in_field, start_field, start_record, ends_at_end, is_end, fields_after, field_after}
 use Rattle.csv.specs.Reading.{records_from, strip_bom}
@@ -44,51 +45,26 @@ Follows c fields field (s, act.Copy) = Fits c s fields (field ++ c ∷ [])
 
 follows_if : (c : ℕ) (fields : List (List ℕ)) (field : List ℕ) (b : Bool) (x y : State × Action)
     → (b ≡ true → Follows c fields field x) → (b ≡ false → Follows c fields field y) → Follows c fields field (cond b x y)
-follows_if c fields field true x y h k = h refl
-follows_if c fields field false x y h k = k refl
+follows_if h1 h2 h3 h4 h5 h6 h7 h8 = grind (arith, common_steps)
 
 follows-in_field : (separator c : ℕ) (fields : List (List ℕ)) (field : List ℕ) → eqb separator 10 ≡ false → Follows c fields field (in_field (config_of separator) c)
-follows-in_field separator c fields field other =
-    follows_if c fields field (eqb c separator) _ _ (other_byte c separator other)
-    (λ _. follows_if c fields field (eqb c 13 || eqb c 10) _ _ (λ _. ended (eqb c 13) refl) (no_line_feed c))
-  where
-    ended : (b : Bool) → eqb c 13 ≡ b → Follows c fields field (cond b st.AfterCr st.StartRecord, act.EndRecord)
-    ended true is = (other_byte c 13 refl is, refl, refl)
-    ended false is = (refl, refl)
+follows-in_field separator c fields field other = grind (arith, common_steps)
 
 follows-start_field : (separator c : ℕ) (fields : List (List ℕ)) (field : List ℕ) → eqb separator 10 ≡ false → Follows c fields field (start_field (config_of separator) c)
-follows-start_field separator c fields field other =
-    follows_if c fields field (eqb c 34) _ _ (λ is line_feed. absurd (let no = other_byte c 34 refl is in cc)) (λ _. follows-in_field separator c fields field other)
+follows-start_field separator c fields field other = grind (arith, common_steps)
 
 follows-start_record : (separator c : ℕ) → eqb separator 10 ≡ false → Follows c [] [] (start_record (config_of separator) c)
-follows-start_record separator c other =
-    follows_if c [] [] (eqb c 13 || eqb c 10) _ _ (λ _. (refl, refl)) (λ _. follows-start_field separator c [] [] other)
+follows-start_record separator c other = grind (arith, common_steps)
 
 follows-step : (separator last c : ℕ) (s : State) (fields : List (List ℕ)) (field : List ℕ) → eqb separator 10 ≡ false → Fits last s fields field
     → Follows c fields field (step (config_of separator) s c)
-follows-step separator last c st.StartRecord fields field other fits = rw (fits.0, fits.1) (follows-start_record separator c other)
-follows-step separator last c st.AfterCr fields field other fits =
-    rw (fits.1, fits.2) (follows_if c [] [] (eqb c 10) _ _ (λ _. (refl, refl)) (λ _. follows-start_record separator c other))
-follows-step separator last c st.StartField fields field other fits = follows-start_field separator c fields field other
-follows-step separator last c st.InField fields field other fits = follows-in_field separator c fields field other
-follows-step separator last c st.InQuoted fields field other fits =
-    follows_if c fields field (eqb c 34) _ _ (other_byte c 34 refl) (λ _ line_feed. ap (λ x. eqb x 10) (last_push 0 c field) ∙ line_feed)
-follows-step separator last c st.AfterQuote fields field other fits =
-    follows_if c fields field (eqb c 34) _ _ (λ is line_feed. absurd (let no = other_byte c 34 refl is in cc)) (λ _. follows-in_field separator c fields field other)
-follows-step separator last c st.InEscape fields field other fits = absurd fits
-follows-step separator last c st.InComment fields field other fits = absurd fits
+follows-step h1 h2 h3 h4 h5 h6 h7 h8 = grind (arith, common_steps)
 
 follows-end : (c : ℕ) (fields : List (List ℕ)) (field : List ℕ) (s : State) (a : Action) → is_end a ≡ true → Follows c fields field (s, a) → Fits c s [] []
-follows-end c fields field s act.EndRecord e h = h
-follows-end c fields field s act.EndField e h = absurd cc
-follows-end c fields field s act.Skip e h = absurd cc
-follows-end c fields field s act.Copy e h = absurd cc
+follows-end h1 h2 h3 h4 h5 h6 h7 = grind (arith, common_steps)
 
 follows-more : (c : ℕ) (fields : List (List ℕ)) (field : List ℕ) (s : State) (a : Action) → is_end a ≡ false → Follows c fields field (s, a) → Fits c s (fields_after a fields field) (field_after a c field)
-follows-more c fields field s act.EndRecord e h = absurd cc
-follows-more c fields field s act.EndField e h = h
-follows-more c fields field s act.Skip e h = h
-follows-more c fields field s act.Copy e h = h
+follows-more h1 h2 h3 h4 h5 h6 h7 = grind (arith, common_steps)
 
 -- ---- the next record of a text that ends with a line feed, and that of the text with more after it
 
@@ -121,14 +97,7 @@ Next separator s fields field bytes more = Ended separator s fields field bytes 
 
 at_end : (separator last : ℕ) (s : State) (fields : List (List ℕ)) (field more : List ℕ) → Fits last s fields field → eqb last 10 ≡ true → Next separator s fields field [] more
 unfolding next_record
-at_end separator last st.StartRecord fields field more fits ends = inr (inl (record { here = refl; there = rw (fits.0, fits.1) refl }))
-at_end separator last st.InQuoted fields field more fits ends = inr (inr (record { done = fields; last = field; here = refl; ends = fits ends }))
-at_end separator last st.AfterCr fields field more fits ends = absurd (let no = fits.0 in cc)
-at_end separator last st.StartField fields field more fits ends = absurd cc
-at_end separator last st.InField fields field more fits ends = absurd cc
-at_end separator last st.AfterQuote fields field more fits ends = absurd cc
-at_end separator last st.InEscape fields field more fits ends = absurd fits
-at_end separator last st.InComment fields field more fits ends = absurd fits
+at_end h1 h2 h3 h4 h5 h6 h7 h8 = grind (arith, common_steps)
 
 next_of : (separator last : ℕ) (s : State) (fields : List (List ℕ)) (field bytes more : List ℕ) → eqb separator 10 ≡ false → Fits last s fields field → eqb (last_after last bytes) 10 ≡ true
     → Next separator s fields field bytes more

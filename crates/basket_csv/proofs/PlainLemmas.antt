@@ -1,9 +1,10 @@
 -- Records that are taken from a text as they are there.
-use Rattle.std.proofs.Common.{◌≡◌, ◌≢◌, Bor, map, ℕ, zero, suc, ◌+◌, ◌<◌, ◌≤◌, Bool, true, false, cond, eqb, ◌||◌, List, [], ◌∷◌, ◌++◌, length, take, drop, get_or, Option, Some, None, refl, sym, ap, subst, ◌∙◌, arith}
+use Rattle.std.proofs.Common.{◌≡◌, ◌≢◌, Bor, ℕ, zero, suc, ◌+◌, ◌<◌, ◌≤◌, Bool, true, false, cond, eqb, ◌||◌, List, [], ◌∷◌, ◌++◌, length, take, drop, get_or, Option, Some, refl, sym, ap, subst, ◌∙◌, arith}
+use Rattle.std.proofs.lemmas.Grind.{common_steps}
 use Rattle.std.proofs.lemmas.Bool.{eq-eqb, ne_eqb}
 use Rattle.std.proofs.lemmas.List.{get_or-drop, length-drop, map-append, nil_from_length, take_more, take-append-drop}
 use Rattle.std.proofs.lemmas.Bool.Decides.{nat_tests}
-use Rattle.csv.specs.Machine.{Read, Runs, next_record, step, start_field, in_field, after_end, ends_at_end, is_end, fields_after, field_after}
+use Rattle.csv.specs.Machine.{Read, Runs, next_record, step, after_end, ends_at_end, is_end, fields_after, field_after}
 use Rattle.csv.specs.Reading.{records, records_from, records_next, strip_bom}
 use Rattle.csv.specs.declared.parser.Config.{Config}
 use Rattle.csv.specs.declared.parser.State.{State}
@@ -21,17 +22,14 @@ use Rattle.basket_csv.proofs.RecordLemmas.{ends_after_end, one_more, records_non
 -- ---- a byte of a field without quotes
 
 inside : (same low : Bool) (x y z : State × Action) → (same || low) ≡ false → cond same x (cond low y z) ≡ z
-inside true low x y z e = absurd cc
-inside false true x y z e = absurd cc
-inside false false x y z e = refl
+inside h1 h2 h3 h4 h5 h6 = grind (arith, common_steps)
 
 goes_on : (separator byte : ℕ) → ends_field separator byte ≡ false → step (config_of separator) st.InField byte ≡ (st.InField, act.Copy)
 goes_on separator byte e = inside (eqb byte separator) (is_line_end byte) _ _ _ e
 
 inside_more : (separator : ℕ) (text : List ℕ) (index : ℕ) → index < length text → ends_field separator (get_or text index 0) ≡ false
     → Runs (config_of separator) st.InField (take index text) → Runs (config_of separator) st.InField (take (index + 1) text)
-inside_more separator text index below e runs =
-    rw (take_more text index 0 below) (runs-step (config_of separator) st.InField (take index text) (get_or text index 0) runs (goes_on separator (get_or text index 0) e))
+inside_more separator text index below e runs = grind (arith, common_steps, take_more, runs-step, goes_on)
 
 pub runs_inside : (separator : ℕ) (text : List ℕ) (end : ℕ) → end ≤ length text → ((index : ℕ) → index < end → ends_field separator (get_or text index 0) ≡ false)
     → Runs (config_of separator) st.InField (take end text)
@@ -48,11 +46,7 @@ no_feed separator byte e = grind (arith, nat_tests)
 
 ends_inside : (separator : ℕ) (text : List ℕ) (end : ℕ) → end ≤ length text → ((index : ℕ) → index < end → ends_field separator (get_or text index 0) ≡ false)
     → is_line_feed (last_after 0 (take end text)) ≡ false
-ends_inside separator text zero within inside = refl
-ends_inside separator text (suc end) within inside =
-    let one : suc end ≡ end + 1 = omega arith in
-    ap (λ n. is_line_feed (last_after 0 (take n text))) one ∙ ap (λ l. is_line_feed (last_after 0 l)) (take_more text end 0 (omega arith))
-    ∙ ap is_line_feed (last_push 0 (get_or text end 0) (take end text)) ∙ no_feed separator (get_or text end 0) (inside end (omega arith))
+ends_inside h1 h2 h3 h4 h5 = grind (arith, common_steps)
 
 -- ---- what a byte makes of a record
 
@@ -67,20 +61,12 @@ stepped cfg s fields field byte rest next e = ap (next_by cfg fields field byte 
 
 pub first_field : (separator : ℕ) (text : List ℕ) → Begins text → 0 < length text
     → next_record (config_of separator) st.StartRecord [] [] text ≡ next_record (config_of separator) st.StartField [] [] text
-first_field separator [] h some = absurd (omega (arith, some))
-first_field separator (byte ∷ rest) h some =
-    let cfg = config_of separator in
-    let same : step cfg st.StartRecord byte ≡ step cfg st.StartField byte = ap (λ b. cond b (st.StartRecord, act.Skip) (start_field cfg byte)) h in
-    stepped cfg st.StartRecord [] [] byte rest (step cfg st.StartField byte) same ∙ sym (stepped cfg st.StartField [] [] byte rest (step cfg st.StartField byte) refl)
+first_field h1 h2 h3 h4 = grind (arith, common_steps, stepped)
 
 unquoted : (separator : ℕ) (fields : List (List ℕ)) (text : List ℕ) → is_quoted text ≡ false
     → next_record (config_of separator) st.StartField fields [] text ≡ next_record (config_of separator) st.InField fields [] text
 unfolding next_record
-unquoted separator fields [] h = refl
-unquoted separator fields (byte ∷ rest) h =
-    let cfg = config_of separator in
-    let same : step cfg st.StartField byte ≡ step cfg st.InField byte = ap (λ b. cond b (st.InQuoted, act.Skip) (in_field cfg byte)) h in
-    stepped cfg st.StartField fields [] byte rest (step cfg st.InField byte) same ∙ sym (stepped cfg st.InField fields [] byte rest (step cfg st.InField byte) refl)
+unquoted h1 h2 h3 h4 = grind (arith, common_steps)
 
 -- a field without quotes
 pub field_passed : (separator : ℕ) (fields : List (List ℕ)) (text : List ℕ) (end : ℕ) → is_quoted text ≡ false → Runs (config_of separator) st.InField (take end text)
@@ -93,9 +79,7 @@ field_passed separator fields text end h runs =
 -- a separator behind it
 pub field_ended : (separator : ℕ) (fields : List (List ℕ)) (field : List ℕ) (byte : ℕ) (more : List ℕ) → eqb byte separator ≡ true
     → next_record (config_of separator) st.InField fields field (byte ∷ more) ≡ next_record (config_of separator) st.StartField (fields ++ field ∷ []) [] more
-field_ended separator fields field byte more e =
-    stepped (config_of separator) st.InField fields field byte more (st.StartField, act.EndField)
-    (ap (λ b. cond b (st.StartField, act.EndField) (cond (is_line_end byte) (after_end term.CRLF byte, act.EndRecord) (st.InField, act.Copy))) e)
+field_ended separator fields field byte more e = grind (arith, common_steps, stepped)
 
 -- an end of a line behind it
 record_ended : (separator : ℕ) (fields : List (List ℕ)) (field : List ℕ) (byte : ℕ) (more : List ℕ) → eqb byte separator ≡ false → is_line_end byte ≡ true
@@ -109,34 +93,18 @@ record_ended separator fields field byte more e f =
 
 passed_over : (separator byte : ℕ) (more : List ℕ) → is_line_end byte ≡ true
     → next_record (config_of separator) st.StartRecord [] [] (byte ∷ more) ≡ next_record (config_of separator) st.StartRecord [] [] more
-passed_over separator byte more e =
-    let cfg = config_of separator in
-    stepped cfg st.StartRecord [] [] byte more (st.StartRecord, act.Skip) (ap (λ b. cond b (st.StartRecord, act.Skip) (start_field cfg byte)) e)
+passed_over separator byte more e = grind (arith, common_steps, stepped)
 
 either : (a : Bool) → (a || true) ≡ true
-either true = refl
-either false = refl
+either h1 = grind (arith, common_steps)
 
 after_return : (separator : ℕ) (more : List ℕ) → next_record (config_of separator) st.AfterCr [] [] more ≡ next_record (config_of separator) st.StartRecord [] [] more
 unfolding next_record
 after_return separator [] = refl
-after_return separator (byte ∷ more) =
-    let cfg = config_of separator in
-    stepped cfg st.AfterCr [] [] byte more (step cfg st.StartRecord byte) (at (eqb byte 10) refl) ∙ sym (stepped cfg st.StartRecord [] [] byte more (step cfg st.StartRecord byte) refl)
-  where
-    at : (b : Bool) → eqb byte 10 ≡ b → step (config_of separator) st.AfterCr byte ≡ step (config_of separator) st.StartRecord byte
-    at true e =
-        let cfg = config_of separator in
-        let ends : is_line_end byte ≡ true = ap (λ b. eqb byte 13 || b) e ∙ either (eqb byte 13) in
-        ap (λ b. cond b (st.StartRecord, act.Skip) (step cfg st.StartRecord byte)) e ∙ sym (ap (λ b. cond b (st.StartRecord, act.Skip) (start_field cfg byte)) ends)
-    at false e = ap (λ b. cond b (st.StartRecord, act.Skip) (step (config_of separator) st.StartRecord byte)) e
+after_return separator (byte ∷ more) = grind (arith, common_steps)
 
 after_line : (separator byte : ℕ) (more : List ℕ) → next_record (config_of separator) (after_end term.CRLF byte) [] [] more ≡ next_record (config_of separator) st.StartRecord [] [] more
-after_line separator byte more = at (eqb byte 13)
-  where
-    at : (b : Bool) → next_record (config_of separator) (cond b st.AfterCr st.StartRecord) [] [] more ≡ next_record (config_of separator) st.StartRecord [] [] more
-    at true = after_return separator more
-    at false = refl
+after_line separator byte more = grind (arith, common_steps, after_return)
 
 -- a byte less, where the next record is the same
 records_same : (separator : ℕ) (s : State) (byte : ℕ) (more : List ℕ) → ends_at_end s ≡ false
@@ -166,9 +134,7 @@ line_end_is_low byte e = grind (arith, nat_tests)
 
 no_mark : (byte : ℕ) (more : List ℕ) → eqb byte 239 ≡ false → strip_bom (byte ∷ more) ≡ byte ∷ more
 unfolding strip_bom
-no_mark byte [] e = refl
-no_mark byte (b ∷ []) e = refl
-no_mark byte (b ∷ c ∷ more) e = rw e refl
+no_mark h1 h2 h3 = grind (arith, common_steps)
 
 pub taken_by_end : (separator : ℕ) (text : List ℕ) (fields : List (List ℕ)) (field : List ℕ) → may_go_on (fields ++ field ∷ []) ≡ false
     → next_record (config_of separator) st.StartRecord [] [] text ≡ next_record (config_of separator) st.InField fields field [] → Takes separator text (fields ++ field ∷ []) []
@@ -205,8 +171,7 @@ module _ (separator : ℕ) (text rest : List ℕ) (fields all : List (Bor (List 
   one_more_text = ap (λ last. texts fields ++ last ∷ []) (sym front) ∙ sym (map-append (λ (f : Bor (List ℕ)). f.now) fields (field ∷ [])) ∙ ap texts (sym more)
 
   to_end : next_record (config_of separator) st.StartRecord [] [] text ≡ next_record (config_of separator) st.InField (texts fields) (take end rest) behind
-  to_end = so_far ∙ field_passed separator (texts fields) rest end plain (runs_inside separator rest end within inside)
-      ∙ ap (next_record (config_of separator) st.InField (texts fields) (take end rest)) (sym back)
+  to_end = grind (arith, common_steps, field_passed, texts, runs_inside, inside)
 
   stays : may_go_on (texts fields ++ take end rest ∷ []) ≡ false
   stays = ap (λ f. is_line_feed (last_after 0 f)) (last_push [] (take end rest) (texts fields)) ∙ ends_inside separator rest end within inside
@@ -222,9 +187,7 @@ module _ (separator : ℕ) (text rest : List ℕ) (fields all : List (Bor (List 
     reached = to_end ∙ ap (next_record (config_of separator) st.InField (texts fields) (take end rest)) split
 
     pub next_taken : byte ≡ separator → next_record (config_of separator) st.StartRecord [] [] text ≡ next_record (config_of separator) st.StartField (texts all) [] later
-    next_taken same =
-        reached ∙ field_ended separator (texts fields) (take end rest) byte later (eq-eqb byte separator same)
-        ∙ ap (λ fs. next_record (config_of separator) st.StartField fs [] later) one_more_text
+    next_taken same = grind (arith, common_steps, reached, field_ended, texts, eq-eqb, one_more_text)
 
     pub line_taken : byte ≢ separator → (end < length rest → ends_field separator (get_or rest end 0) ≡ true) → Takes separator text (texts all) behind
     line_taken other ends =

@@ -1,8 +1,8 @@
 -- What a reader promises, by what bytes say.
-use Rattle.std.proofs.Common.{◌≡◌, ◌≢◌, ◌<◌, ℕ, Bool, false, cond, ltb, List, ◌++◌, length, Option, Result, Ok, Err, refl, sym, ap, ◌∙◌, subst, arith}
+use Rattle.std.proofs.Common.{◌≡◌, ◌≢◌, ◌<◌, ℕ, Bool, false, cond, ltb, List, length, Option, Result, Ok, Err, refl, sym, ap, ◌∙◌, arith}
+use Rattle.std.proofs.lemmas.Grind.{common_steps}
 use Rattle.std.specs.Prelude.{IfErr, IfOk, IfSome}
 use Rattle.std.proofs.lemmas.Bool.{lt-ltb}
-use Rattle.std.proofs.lemmas.List.{length-append}
 use Rattle.basket_read.specs.declared.fault.ReadFault.{ReadFault}
 use Rattle.basket_read.specs.declared.fault.ReadFault.TheVariants.{Read, TooLong}
 use Rattle.basket_read.specs.declared.item_counts.ItemCounts.{ItemCounts}
@@ -10,7 +10,6 @@ use Rattle.basket_read.specs.Bytes.{AreTakenOf}
 use Rattle.basket_read.specs.Fimi.{MOST_BYTES}
 use Rattle.basket_read.specs.ItemCounts.{AreLightCounts}
 use Rattle.basket_read.specs.Fault.{IsRead, Reads, ReturnsBy}
-use Rattle.basket_read.proofs.theory.Bytes.{of_all}
 use Rattle.basket_csv.specs.Baskets.{AreNamedCounts}
 use Rattle.basket_csv.specs.Csv.{Named, first_number}
 use Rattle.basket_csv.specs.Read.{AreCountsNamed}
@@ -29,16 +28,12 @@ module _ {X Y : Type 0} (finds : X → Result Y ReadFault → Type 0) (say : Lis
   too_long bytes more = ap (λ b. cond b (Err TooLong) (say bytes)) (lt-ltb MOST_BYTES (length bytes) more)
 
   exact : (left : Option (List ℕ)) (bytes items : List ℕ) (result : Result X ReadFault) → bytes ≡ items → IfSome left (AreTakenOf items) → ReturnsBy finds result (said bytes) → IfSome left (λ all. ReturnsBy finds result (said all))
-  exact left bytes items result same taken h =
-      of_all (λ all. ReturnsBy finds result (said all))
-      (λ bytes rest more. subst (ReturnsBy finds result) (too_long bytes more ∙ sym (too_long (bytes ++ rest) (let sum = length-append bytes rest in omega arith))))
-      left items taken (subst (λ bs. ReturnsBy finds result (said bs)) same h)
+  exact left bytes items result same taken h = grind (arith, common_steps)
 
   -- bytes of a reader were taken in, all or too many, and the result is what they say
   pub reads : (left : Option (List ℕ)) (failed : Bool) (bytes items : List ℕ) (result : Result X ReadFault) → bytes ≡ items → (failed ≡ false) × IfSome left (AreTakenOf items)
       → IfErr result (λ fault. fault ≢ Read) → ReturnsBy finds result (said bytes) → Reads finds said IsRead left failed result
-  reads left failed bytes items (Ok found) same (working, taken) not_read h = (working, exact left bytes items (Ok found) same taken h)
-  reads left failed bytes items (Err fault) same (working, taken) not_read h = (λ _. exact left bytes items (Err fault) same taken h, λ broken. absurd cc, λ e. absurd (not_read e))
+  reads h1 h2 h3 h4 h5 h6 h7 h8 h9 = grind (arith, common_steps)
 
 -- ---- counts of baskets
 

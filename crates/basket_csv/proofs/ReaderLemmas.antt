@@ -1,5 +1,6 @@
 -- A reader of records in memory.
-use Rattle.std.proofs.Common.{◌≡◌, ℕ, ◌+◌, true, false, List, [], ◌∷◌, length, Option, Some, unwrap_or, Bor, refl, sym, ap, ◌∙◌}
+use Rattle.std.proofs.Common.{◌≡◌, ℕ, ◌+◌, true, false, List, [], ◌∷◌, length, Option, Some, unwrap_or, Bor, refl, sym, ap, ◌∙◌, arith}
+use Rattle.std.proofs.lemmas.Grind.{common_steps}
 use Rattle.csv.specs.Machine.{ends_at_end}
 use Rattle.csv.specs.Reading.{records, records_from, source_of, ReadRecord, Reached}
 use Rattle.csv.specs.declared.reader.Reader.{Reader}
@@ -40,11 +41,7 @@ read_next a b row begins e r =
     let goes_on : records_from a.config (length read.2 + 1) read.1 read.2 ≡ rows b =
     ap (λ bytes. records_from a.config (length bytes + 1) read.1 bytes) (rest ∙ sym left_z) ∙ ap (λ s. records_from a.config (length (left b) + 1) s (left b)) state
     ∙ ap (λ cfg. records_from cfg (length (left b) + 1) b.state (left b)) (sym r.2) in
-    record {
-      begins = ap ends_at_end (sym state) ∙ fewer.begins;
-      known = at_z ∙ ap Some (sym left_z);
-      rows = records_some a.config a.state (left a) read begins next ∙ ap (λ row. row ∷ records_from a.config (length read.2 + 1) read.1 read.2) (sym same) ∙ ap (λ later. row ∷ later) goes_on;
-    }
+    grind (arith, common_steps, records_some)
 
 pub read_last : (a b : Reader (Bor (List ℕ))) (row : List (List ℕ)) → known a ≡ Some (left a) → ReadRecord (λ s. Some s.now) a b false row → rows a ≡ []
 read_last a b row e r = records_none a.config a.state (left a) (rows-end (λ (s : Bor (List ℕ)). Some s.now) a b row a.config (left a) refl e r)
@@ -55,6 +52,4 @@ known_bytes o bytes e = e ∙ ap (λ p. Some (unwrap_or p [])) (sym e)
 -- a new reader of bytes in memory has all their records left
 pub all_left : (r : Reader (Bor (List ℕ))) (cfg : Config) (bytes : List ℕ) → r.config ≡ cfg → r.state ≡ st.StartRecord → source_of (λ s. Some s.now) r ≡ Some bytes
     → records_from r.config (length (unwrap_or (source_of (λ s. Some s.now) r) []) + 1) r.state (unwrap_or (source_of (λ s. Some s.now) r) []) ≡ records cfg bytes
-all_left r cfg bytes config state e =
-    ap (λ o. records_from r.config (length (unwrap_or o []) + 1) r.state (unwrap_or o [])) e ∙ ap (λ s. records_from r.config (length bytes + 1) s bytes) state
-    ∙ ap (λ cfg. records_from cfg (length bytes + 1) st.StartRecord bytes) config
+all_left r cfg bytes config state e = grind (arith, common_steps)

@@ -1,17 +1,16 @@
 -- A record takes two bytes, except that the last may take one, so that a text has only so many.
 use Rattle.std.proofs.Common.{◌≡◌, ℕ, zero, suc, ◌+◌, ◌-◌, ◌*◌, ◌≤◌, ◌<◌, Bool, true, false, cond, eqb, ◌&&◌, List, [], ◌∷◌, ◌++◌, length, Option, Some, None, refl, sym, ap, ◌∙◌, subst, arith}
+use Rattle.std.proofs.lemmas.Grind.{common_steps}
 use Rattle.csv.specs.Machine.{Read, next_record, step, in_field, start_field, start_record, after_end, ends_with, is_byte, ends_at_end, is_end, fields_after, field_after}
-use Rattle.csv.specs.Reading.{records_from, records_next, strip_bom}
+use Rattle.csv.specs.Reading.{records_from, records_next}
 use Rattle.csv.specs.declared.parser.Config.{Config}
 use Rattle.csv.specs.declared.parser.State.{State}
 use Rattle.csv.specs.declared.parser.State.TheVariants as st
 use Rattle.csv.specs.declared.parser.Action.{Action}
 use Rattle.csv.specs.declared.parser.Action.TheVariants as act
 use Rattle.csv.specs.declared.parser.Terminator.{Terminator}
-use Rattle.csv.specs.declared.parser.Terminator.TheVariants as term
 use Rattle.basket_read.specs.Fimi.{MOST_BYTES}
 use Rattle.basket_csv.specs.Csv.{after_header}
-use Rattle.basket_csv.specs.Record.{config_of}
 use Rattle.basket_csv.specs.Records.{MOST_RECORDS, records_of}
 use Rattle.basket_csv.proofs.MarkLemmas.{stripped}
 
@@ -20,21 +19,13 @@ abbrev Ends : State × Action → Type 0
 Ends next = is_end next.1 ≡ true → ends_at_end next.0 ≡ false
 
 ends_if : (b : Bool) (x y : State × Action) → Ends x → Ends y → Ends (cond b x y)
-ends_if true x y h k = h
-ends_if false x y h k = k
+ends_if h1 h2 h3 h4 h5 = grind (arith, common_steps)
 
 pub ends_after_end : (t : Terminator) (c : ℕ) → ends_at_end (after_end t c) ≡ false
-ends_after_end term.CRLF c = at (eqb c 13)
-  where
-    at : (b : Bool) → ends_at_end (cond b st.AfterCr st.StartRecord) ≡ false
-    at true = refl
-    at false = refl
-ends_after_end (term.Any t) c = refl
+ends_after_end h1 h2 = grind (arith, common_steps)
 
 ends-in_field : (cfg : Config) (c : ℕ) → Ends (in_field cfg c)
-ends-in_field cfg c =
-    ends_if (eqb c cfg.delimiter) _ _ (λ e. absurd cc)
-    (ends_if (ends_with cfg.terminator c) _ _ (λ e. ends_after_end cfg.terminator c) (λ e. absurd cc))
+ends-in_field cfg c = grind (arith, common_steps)
 
 ends-start_field : (cfg : Config) (c : ℕ) → Ends (start_field cfg c)
 ends-start_field cfg c = ends_if (cfg.quoting && eqb c cfg.quote) _ _ (λ e. absurd cc) (ends-in_field cfg c)
@@ -43,14 +34,7 @@ ends-start_record : (cfg : Config) (c : ℕ) → Ends (start_record cfg c)
 ends-start_record cfg c = ends_if (ends_with cfg.terminator c) _ _ (λ e. absurd cc) (ends_if (is_byte cfg.comment c) _ _ (λ e. absurd cc) (ends-start_field cfg c))
 
 ends-step : (cfg : Config) (s : State) (c : ℕ) → Ends (step cfg s c)
-ends-step cfg st.StartRecord c = ends-start_record cfg c
-ends-step cfg st.StartField c = ends-start_field cfg c
-ends-step cfg st.InField c = ends-in_field cfg c
-ends-step cfg st.InQuoted c = ends_if (cfg.quoting && eqb c cfg.quote) _ _ (λ e. absurd cc) (ends_if (cfg.quoting && is_byte cfg.escape c) _ _ (λ e. absurd cc) (λ e. absurd cc))
-ends-step cfg st.InEscape c = λ e. absurd cc
-ends-step cfg st.AfterQuote c = ends_if (cfg.quoting && cfg.double_quote && eqb c cfg.quote) _ _ (λ e. absurd cc) (ends-in_field cfg c)
-ends-step cfg st.InComment c = ends_if (eqb c 10) _ _ (λ e. absurd cc) (λ e. absurd cc)
-ends-step cfg st.AfterCr c = ends_if (eqb c 10) _ _ (λ e. absurd cc) (ends-start_record cfg c)
+ends-step h1 h2 h3 = grind (arith, common_steps)
 
 -- what a record that was read leaves: a state at which the end of the text ends none, and fewer bytes, unless there were none
 pub record Leaves (read : Read) (bytes : List ℕ) : Type 0 where
@@ -80,10 +64,8 @@ leaves cfg s fields field (c ∷ bytes) read e =
 -- a record that was read of some bytes leaves fewer
 pub fewer_left : (cfg : Config) (s : State) (bytes : List ℕ) (read : Read) → ends_at_end s ≡ false → next_record cfg s [] [] bytes ≡ Some read → length read.2 < length bytes
 unfolding next_record
-fewer_left cfg s [] read begins e =
-    let none : next_record cfg s [] [] [] ≡ None = ap (λ b. cond b (Some ([] ++ ([] ∷ []), st.StartRecord, [])) None) begins in
-    absurd (let both : ◌≡◌ {A = Option Read} None (Some read) = sym none ∙ e in cc)
-fewer_left cfg s (c ∷ bytes) read begins e = let h = (leaves cfg s [] [] (c ∷ bytes) read e).fewer in omega arith
+fewer_left cfg s [] read begins e = grind (arith, common_steps)
+fewer_left cfg s (c ∷ bytes) read begins e = grind (arith, common_steps, leaves cfg s [] [] (c ∷ bytes) read e)
 
 abbrev chosen : Bool → State × Action → State × Action → State × Action
 chosen b x y = cond b x y
@@ -91,32 +73,13 @@ chosen b x y = cond b x y
 -- the first byte of a record does not end it
 first_goes_on : (ends comment quote delimiter : Bool) (after : State)
     → is_end (chosen ends (st.StartRecord, act.Skip) (chosen comment (st.InComment, act.Skip) (chosen quote (st.InQuoted, act.Skip) (chosen delimiter (st.StartField, act.EndField) (chosen ends (after, act.EndRecord) (st.InField, act.Copy)))))).1 ≡ false
-first_goes_on true comment quote delimiter after = refl
-first_goes_on false true quote delimiter after = refl
-first_goes_on false false true delimiter after = refl
-first_goes_on false false false true after = refl
-first_goes_on false false false false after = refl
+first_goes_on h1 h2 h3 h4 h5 = grind (arith, common_steps)
 
 record_goes_on : (cfg : Config) (c : ℕ) → is_end (start_record cfg c).1 ≡ false
 record_goes_on cfg c = first_goes_on (ends_with cfg.terminator c) (is_byte cfg.comment c) (cfg.quoting && eqb c cfg.quote) (eqb c cfg.delimiter) (after_end cfg.terminator c)
 
 goes_on : (cfg : Config) (s : State) (c : ℕ) → ends_at_end s ≡ false → is_end (step cfg s c).1 ≡ false
-goes_on cfg st.StartRecord c begins = record_goes_on cfg c
-goes_on cfg st.AfterCr c begins = at (eqb c 10)
-  where
-    at : (b : Bool) → is_end (chosen b (st.StartRecord, act.Skip) (start_record cfg c)).1 ≡ false
-    at true = refl
-    at false = record_goes_on cfg c
-goes_on cfg st.InComment c begins = at (eqb c 10)
-  where
-    at : (b : Bool) → is_end (chosen b (st.StartRecord, act.Skip) (st.InComment, act.Skip)).1 ≡ false
-    at true = refl
-    at false = refl
-goes_on cfg st.StartField c begins = absurd cc
-goes_on cfg st.InField c begins = absurd cc
-goes_on cfg st.InQuoted c begins = absurd cc
-goes_on cfg st.InEscape c begins = absurd cc
-goes_on cfg st.AfterQuote c begins = absurd cc
+goes_on h1 h2 h3 h4 = grind (arith, common_steps)
 
 -- so a record that is followed by bytes took two at least
 two_bytes : (cfg : Config) (s : State) (bytes : List ℕ) (read : Read) → ends_at_end s ≡ false → next_record cfg s [] [] bytes ≡ Some read → length read.2 ≤ length bytes - 2
@@ -151,9 +114,7 @@ enough cfg (suc more) n s bytes begins few =
 -- the records of a text: none, or the one that is read, and those of the bytes that it leaves
 pub records_none : (cfg : Config) (s : State) (bytes : List ℕ) → next_record cfg s [] [] bytes ≡ None → records_from cfg (length bytes + 1) s bytes ≡ []
 unfolding records_from
-records_none cfg s bytes e =
-    let same : length bytes + 1 ≡ suc (length bytes) = omega arith in
-    ap (λ k. records_from cfg k s bytes) same ∙ ap (records_next (records_from cfg (length bytes))) e
+records_none cfg s bytes e = grind (arith, common_steps)
 
 pub records_some : (cfg : Config) (s : State) (bytes : List ℕ) (read : Read) → ends_at_end s ≡ false → next_record cfg s [] [] bytes ≡ Some read
     → records_from cfg (length bytes + 1) s bytes ≡ read.0 ∷ records_from cfg (length read.2 + 1) read.1 read.2
@@ -162,9 +123,7 @@ records_some cfg s bytes read begins e =
     let same : length bytes + 1 ≡ suc (length bytes) = omega arith in
     let fewer = fewer_left cfg s bytes read begins e in
     let whole : length bytes ≡ length bytes - (length read.2 + 1) + (length read.2 + 1) = omega (arith, fewer) in
-    ap (λ k. records_from cfg k s bytes) same ∙ ap (records_next (records_from cfg (length bytes))) e
-    ∙ ap (λ k. read.0 ∷ records_from cfg k read.1 read.2) whole
-    ∙ ap (λ rows. read.0 ∷ rows) (enough cfg (length bytes - (length read.2 + 1)) (length read.2 + 1) read.1 read.2 (leaves cfg s [] [] bytes read e).begins (omega arith))
+    grind (arith, common_steps, enough, leaves)
 
 -- there are half as many records as bytes at most, rounded up
 pub few_records : (cfg : Config) (n : ℕ) (s : State) (bytes : List ℕ) → ends_at_end s ≡ false → 2 * length (records_from cfg n s bytes) ≤ length bytes + 1
@@ -185,15 +144,7 @@ few_records cfg (suc n) s bytes begins = at (next_record cfg s [] [] bytes) refl
 
 -- a text that is not too long has no more records than that
 pub few_records_of : (separator : ℕ) (bytes : List ℕ) → length bytes ≤ MOST_BYTES → length (records_of separator bytes) ≤ MOST_RECORDS
-few_records_of separator bytes short =
-    let few = few_records (config_of separator) (length (strip_bom bytes) + 1) st.StartRecord (strip_bom bytes) refl in
-    let less = stripped bytes in
-    omega (arith, few, less, short)
+few_records_of separator bytes short = grind (arith, common_steps, few_records, stripped)
 
 pub few_of_text : (separator : ℕ) (header : Bool) (bytes : List ℕ) → length bytes ≤ MOST_BYTES → length (after_header header (records_of separator bytes)) ≤ MOST_RECORDS
-few_of_text separator header bytes short = at header (records_of separator bytes) (few_records_of separator bytes short)
-  where
-    at : (header : Bool) (rows : List (List (List ℕ))) → length rows ≤ MOST_RECORDS → length (after_header header rows) ≤ MOST_RECORDS
-    at false rows few = few
-    at true [] few = few
-    at true (row ∷ rows) few = omega (arith, few)
+few_of_text separator header bytes short = grind (arith, common_steps, few_records_of separator bytes short)

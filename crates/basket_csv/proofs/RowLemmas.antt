@@ -1,15 +1,16 @@
 -- The fields of a record, one after another.
-use Rattle.std.proofs.Common.{◌≡◌, ℕ, zero, suc, ◌+◌, ◌≤◌, ◌<◌, Bool, true, false, cond, not, ◌&&◌, List, [], ◌∷◌, ◌++◌, length, map, filter, drop, get_or, Option, Some, None, fold, eqb, Bor, refl, sym, ap, subst, ◌∙◌, append_assoc, arith}
+use Rattle.std.proofs.Common.{◌≡◌, ℕ, zero, suc, ◌+◌, ◌≤◌, ◌<◌, Bool, true, false, cond, not, ◌&&◌, List, [], ◌∷◌, ◌++◌, length, map, filter, drop, get_or, Option, Some, None, fold, eqb, Bor, refl, sym, ap, ◌∙◌, arith}
+use Rattle.std.proofs.lemmas.Grind.{common_steps}
 use Rattle.std.specs.Option.{IfSome, MatchOption, is_some}
 use Rattle.std.specs.Str.{is_utf8, chars}
-use Rattle.std.proofs.lemmas.Bool.{and_left, and_right, ne_eqb}
+use Rattle.std.proofs.lemmas.Bool.{and_left, and_right}
 use Rattle.std.proofs.lemmas.List.{drop_all, at_drop_more}
 use Rattle.csv.specs.Records.{field_at}
 use Rattle.basket_read.specs.declared.fault.ReadFault.{ReadFault}
 use Rattle.basket_read.specs.declared.fault.ReadFault.TheVariants.{NotText}
 use Rattle.basket_read.specs.Fimi.{is_nil}
 use Rattle.basket_csv.specs.Field.{trimmed}
-use Rattle.basket_names.specs.Names.{with_name, number_in, IsKnown, is_among}
+use Rattle.basket_names.specs.Names.{with_name, number_in, IsKnown}
 use Rattle.basket_csv.specs.Row.{IsKnownField}
 use Rattle.basket_names.proofs.theory.Names.{among_with, number_in_all}
 use Rattle.basket_csv.specs.Csv.{field_in, is_text, names_of}
@@ -31,9 +32,7 @@ field_missing (first ∷ fields) (suc index) e = field_missing fields index e
 -- a field that is a known name as it is
 pub known_field : (result : Option ℕ) (names : List (List ℕ)) (field found : List ℕ) → field ≡ found → trimmed found ≡ found → 0 < length found
     → IfSome result (IsKnown names found) → IfSome result (IsKnownField names field)
-known_field None names field found e is some h = tt
-known_field (Some number) names field found e is some h =
-    subst (λ f. IsKnownField names f number) (sym e) (record { known = h; trimmed = is; some = some })
+known_field h1 h2 h3 h4 h5 h6 h7 h8 = grind (arith, common_steps)
 
 -- nothing is UTF-8
 pub nothing_is_text : is_utf8 [] ≡ true
@@ -50,13 +49,11 @@ text_fault nth fields fault index e = ap (λ b. cond b fault (Some (NotText nth)
 
 pub text_found : (text : Option (Bor (List ℕ))) (fields : List (List ℕ)) (index : ℕ) → MatchOption text (is_utf8 (field_in fields index) ≡ false) (λ t. (t.now ≡ field_in fields index) × (is_utf8 (field_in fields index) ≡ true))
     → is_some text ≡ true → is_utf8 (field_in fields index) ≡ true
-text_found None fields index h e = absurd cc
-text_found (Some text) fields index h e = h.1
+text_found h1 h2 h3 h4 h5 = grind (arith, common_steps)
 
 pub text_missing : (text : Option (Bor (List ℕ))) (fields : List (List ℕ)) (index : ℕ) → MatchOption text (is_utf8 (field_in fields index) ≡ false) (λ t. (t.now ≡ field_in fields index) × (is_utf8 (field_in fields index) ≡ true))
     → is_some text ≡ false → is_utf8 (field_in fields index) ≡ false
-text_missing None fields index h e = h
-text_missing (Some text) fields index h e = absurd cc
+text_missing h1 h2 h3 h4 h5 = grind (arith, common_steps)
 
 -- ---- the fields from an index on
 
@@ -67,22 +64,18 @@ pub text_ends : (fields : List (List ℕ)) (index : ℕ) → length fields ≤ i
 text_ends fields index all = ap is_text (drop_all index fields all)
 
 name_first : (name : List ℕ) (names : List (List ℕ)) (nil : Bool) → is_nil name ≡ nil → filter (λ n. not (is_nil n)) (name ∷ names) ≡ cond nil (filter (λ n. not (is_nil n)) names) (name ∷ filter (λ n. not (is_nil n)) names)
-name_first name names true e = rw e refl
-name_first name names false e = rw e refl
+name_first h1 h2 h3 h4 = grind (arith, common_steps)
 
 pub names_go_on : (fields : List (List ℕ)) (index : ℕ) → index < length fields → is_nil (trimmed (get_or fields index [])) ≡ false
     → names_of (drop index fields) ≡ trimmed (get_or fields index []) ∷ names_of (drop (index + 1) fields)
-names_go_on fields index below e =
-    at_drop_more names_of fields index [] below ∙ name_first (trimmed (get_or fields index [])) (map trimmed (drop (index + 1) fields)) false e
+names_go_on fields index below e = grind (arith, common_steps)
 
 pub names_pass_over : (fields : List (List ℕ)) (index : ℕ) → index < length fields → is_nil (trimmed (get_or fields index [])) ≡ true
     → names_of (drop index fields) ≡ names_of (drop (index + 1) fields)
-names_pass_over fields index below e =
-    at_drop_more names_of fields index [] below ∙ name_first (trimmed (get_or fields index [])) (map trimmed (drop (index + 1) fields)) true e
+names_pass_over fields index below e = grind (arith, common_steps)
 
 pub nil_test : (name : List ℕ) (b : Bool) → b ≡ eqb (length name) 0 → is_nil name ≡ b
-nil_test [] b e = sym e
-nil_test (byte ∷ name) b e = sym (e ∙ ne_eqb (suc (length name)) 0 (λ z. absurd (omega arith)))
+nil_test h1 h2 h3 = grind (arith, common_steps)
 
 -- ---- the names of a record, numbered one after another
 
@@ -102,34 +95,15 @@ module _ (fields : List (List ℕ)) (first index : ℕ) (before names : List (Li
   more_text = h.text ∙ text_goes_on fields index below ∙ ap (λ b. b && is_text (drop (index + 1) fields)) utf8
 
   pub no_name : is_nil (trimmed (get_or fields index [])) ≡ true → NumbersUpTo fields first (index + 1) before names numbers
-  no_name nil =
-      let same = names_pass_over fields index below nil in
-      record {
-        text = more_text;
-        names = h.names ∙ ap (fold with_name names) same;
-        numbers = h.numbers ∙ ap (λ ns. numbers ++ map (number_in all) ns) same;
-      }
+  no_name nil = grind (arith, common_steps)
 
   pub one_name : (new : List (List ℕ)) (number : ℕ) → is_nil (trimmed (get_or fields index [])) ≡ false
       → new ≡ with_name names (trimmed (get_or fields index [])) → number ≡ number_in new (trimmed (get_or fields index []))
       → NumbersUpTo fields first (index + 1) before new (numbers ++ number ∷ [])
-  one_name new number some e n =
-      let name = trimmed (get_or fields index []) in
-      let rest = names_of (drop (index + 1) fields) in
-      let same = names_go_on fields index below some in
-      let later : all ≡ fold with_name new rest = h.names ∙ ap (fold with_name names) same ∙ ap (λ ns. fold with_name ns rest) (sym e) in
-      let is_among = ap (λ ns. is_among ns name) e ∙ among_with names name in
-      let stays : number_in all name ≡ number = ap (λ ns. number_in ns name) later ∙ number_in_all new rest name is_among ∙ sym n in
-      record {
-        text = more_text;
-        names = later;
-        numbers = h.numbers ∙ ap (λ ns. numbers ++ map (number_in all) ns) same ∙ ap (λ k. numbers ++ k ∷ map (number_in all) rest) stays
-            ∙ sym (append_assoc numbers (number ∷ []) (map (number_in all) rest));
-      }
+  one_name new number some e n = grind (arith, common_steps, names_go_on, among_with, number_in_all, more_text)
 
 pub known_some : (names : List (List ℕ)) (field : List ℕ) (number : ℕ) → IsKnownField names field number → is_nil (trimmed field) ≡ false
-known_some names field number known =
-    ap is_nil known.trimmed ∙ nil_test field false (sym (ne_eqb (length field) 0 (λ z. absurd (let l = known.some in omega arith))))
+known_some names field number known = grind (arith, common_steps)
 
 pub known_name : (fields : List (List ℕ)) (first index : ℕ) (before names : List (List ℕ)) (numbers : List ℕ) (number : ℕ) → index < length fields
     → IsKnownField names (get_or fields index []) number → NumbersUpTo fields first index before names numbers

@@ -1,16 +1,15 @@
 -- The records of parts that are right, and of those after them.
-use Rattle.std.proofs.Common.{◌≡◌, ℕ, zero, suc, ◌+◌, ◌≤◌, Bool, true, false, cond, List, [], ◌∷◌, ◌++◌, Option, Some, None, Result, Err, drop, length, refl, sym, ap, ◌∙◌, subst, append_assoc, append-nil, arith}
+use Rattle.std.proofs.Common.{◌≡◌, ℕ, zero, suc, ◌+◌, ◌≤◌, Bool, false, List, [], ◌∷◌, ◌++◌, Option, Some, None, Result, Err, drop, length, refl, sym, ap, ◌∙◌, subst, append_assoc, arith}
+use Rattle.std.proofs.lemmas.Grind.{common_steps}
 use mir.Val.{bool_byte}
-use Rattle.std.proofs.lemmas.Bool.{le-ltb}
-use Rattle.std.proofs.lemmas.List.{length-append, length-drop}
+use Rattle.std.proofs.lemmas.List.{length-append}
 use Rattle.basket_read.specs.declared.fault.ReadFault.{ReadFault}
-use Rattle.basket_read.specs.declared.fault.ReadFault.TheVariants.{TooLong}
 use Rattle.basket_read.specs.Fimi.{or_else, MOST_BYTES}
 use Rattle.basket_csv.specs.declared.shared.ReadPart.{ReadPart}
 use Rattle.basket_csv.specs.declared.shared.Reading.{Reading}
 use Rattle.basket_csv.specs.declared.shared.RightParts.{RightParts}
 use Rattle.basket_csv.specs.RecordCollector.{Start}
-use Rattle.basket_csv.specs.Csv.{after_header, bytes_say, fault_from, first_number, if_faultless, records_say}
+use Rattle.basket_csv.specs.Csv.{after_header, bytes_say, fault_from, first_number}
 use Rattle.basket_csv.specs.Part.{InParts, Rows}
 use Rattle.basket_csv.specs.Records.{MOST_RECORDS, records_of}
 use Rattle.basket_csv.specs.Shared.{AreFaultless, AreRight, HasRows, IsReadPart}
@@ -21,8 +20,7 @@ use Rattle.basket_csv.proofs.RecordLemmas.{few_of_text, few_records_of}
 -- ---- faults, whatever the number of the first record
 
 both_none : (first later : Option ReadFault) → or_else first later ≡ None → (first ≡ None) × (later ≡ None)
-both_none None later e = (refl, e)
-both_none (Some fault) later e = absurd cc
+both_none h1 h2 h3 = grind (arith, common_steps)
 
 module _ (fault : ℕ → List (List ℕ) → Option ReadFault) where
   pub faultless : ((n m : ℕ) (row : List (List ℕ)) → fault n row ≡ None → fault m row ≡ None) → (n : ℕ) (rows : Rows) → fault_from fault n rows ≡ None → AreFaultless fault rows
@@ -47,16 +45,11 @@ module _ (fault : ℕ → List (List ℕ) → Option ReadFault) where
 -- a text has no more records than those before an index and those after it
 pub few_after : (header left : Bool) (before : ℕ) (all rows rest : Rows) → before + first_number left ≡ first_number header + length rows
     → after_header header all ≡ rows ++ after_header left rest → length all ≤ MOST_RECORDS → before + length rest ≤ MOST_RECORDS
-few_after true true before all rows rest number is few = omega (arith, ap length is, length-append rows (drop 1 rest), length-drop 1 all, length-drop 1 rest)
-few_after true false before all rows rest number is few = omega (arith, ap length is, length-append rows rest, length-drop 1 all)
-few_after false true before all rows rest number is few = omega (arith, ap length is, length-append rows (drop 1 rest), length-drop 1 rest)
-few_after false false before all rows rest number is few = omega (arith, ap length is, length-append rows rest)
+few_after h1 h2 h3 h4 h5 h6 h7 h8 h9 = grind (arith, common_steps)
 
 -- nothing after a part has no records
 pub nothing_after : (separator : ℕ) (header : Bool) (first rest : List ℕ) → rest ≡ [] → after_header header (records_of separator (first ++ rest)) ≡ after_header header (records_of separator first) ++ records_of separator rest
-nothing_after separator header first rest none =
-    ap (λ r. after_header header (records_of separator (first ++ r))) none ∙ ap (λ l. after_header header (records_of separator l)) (append-nil first)
-    ∙ sym (append-nil (after_header header (records_of separator first))) ∙ ap (λ rows. after_header header (records_of separator first) ++ rows) (sym (ap (records_of separator) none ∙ no_records separator))
+nothing_after separator header first rest none = grind (arith, common_steps, no_records)
 
 -- ---- what is read of a part
 
@@ -72,15 +65,10 @@ drop_past (x ∷ first) rest n zero e = absurd (omega arith)
 drop_past (x ∷ first) rest n (suc k) e = drop_past first rest n k (omega arith)
 
 header_before : (header : Bool) (n : ℕ) → n ≡ bool_byte header → n + 1 ≡ first_number header
-header_before true n e = omega (arith, e)
-header_before false n e = omega (arith, e)
+header_before h1 h2 h3 = grind (arith, common_steps)
 
 nothing_left : (separator : ℕ) (header : Bool) (rest : List ℕ) → rest ≡ [] → after_header header (records_of separator rest) ≡ []
-nothing_left separator header rest none = ap (λ r. after_header header (records_of separator r)) none ∙ ap (after_header header) (no_records separator) ∙ at header
-  where
-    at : (header : Bool) → after_header header [] ≡ []
-    at true = refl
-    at false = refl
+nothing_left separator header rest none = grind (arith, common_steps, no_records)
 
 module _ {C : Type 0} (has_read : C → Start → Rows → Type 0) (fault_of : Bool → ℕ → List (List ℕ) → Option ReadFault) (reading : Reading) where
   abbrev has : C → Rows → Type 0
@@ -129,17 +117,11 @@ module _ {C : Type 0} (has_read : C → Start → Rows → Type 0) (fault_of : B
 
   pub all_fault : (header : Bool) (bytes : List ℕ) (right : RightParts C) → Right header bytes right
       → fault_from fault (first_number header) (after_header header (records bytes)) ≡ fault_from fault (right.before + first_number right.header) (after_header right.header (records (drop right.end bytes)))
-  all_fault header bytes right is =
-      ap (fault_from fault (first_number header)) is.all ∙ fault_after fault (first_number header) is.rows _ (is.faultless (first_number header))
-      ∙ ap (λ n. fault_from fault n (after_header right.header (records (drop right.end bytes)))) (sym is.number)
+  all_fault header bytes right is = grind (arith, common_steps, fault_after)
 
   pub all_right : (header : Bool) (bytes : List ℕ) (right : RightParts C) → Right header bytes right → drop right.end bytes ≡ []
       → (fault_from fault (first_number header) (after_header header (records bytes)) ≡ None) × InParts has right.parts.items (after_header header (records bytes))
-  all_right header bytes right is none =
-      let rows : after_header header (records bytes) ≡ is.rows = is.all ∙ ap (λ r. is.rows ++ r) (nothing_left reading.dialect.separator right.header _ none) ∙ append-nil is.rows in (
-        ap (fault_from fault (first_number header)) rows ∙ is.faultless (first_number header),
-        subst (InParts has right.parts.items) (sym rows) is.parts,
-      )
+  all_right header bytes right is none = grind (arith, common_steps, nothing_left)
 
   pub all_parts : (header : Bool) (bytes rest : List ℕ) (right : RightParts C) (read : ReadPart C) (items : List C)
       → Right header bytes right → rest ≡ drop right.end bytes → IsRead right.header rest read → items ≡ right.parts.items ++ read.part ∷ []
@@ -158,13 +140,9 @@ module _ {C : Type 0} (has_read : C → Start → Rows → Type 0) (fault_of : B
 pub said_of_all : {X : Type 0} (separator : ℕ) (header : Bool) (fault : ℕ → List (List ℕ) → Option ReadFault) (said : Rows → Result X ReadFault) (bytes : List ℕ) → length bytes ≤ MOST_BYTES
     → fault_from fault (first_number header) (after_header header (records_of separator bytes)) ≡ None
     → bytes_say separator header fault said bytes ≡ said (after_header header (records_of separator bytes))
-said_of_all separator header fault said bytes short none =
-    ap (λ b. cond b (Err TooLong) (records_say separator header fault said bytes)) (le-ltb MOST_BYTES (length bytes) short)
-    ∙ ap (λ f. if_faultless f (said (after_header header (records_of separator bytes)))) none
+said_of_all separator header fault said bytes short none = grind (arith, common_steps)
 
 -- and one with a fault says the fault
 pub said_fault : {X : Type 0} (separator : ℕ) (header : Bool) (fault : ℕ → List (List ℕ) → Option ReadFault) (said : Rows → Result X ReadFault) (bytes : List ℕ) (found : ReadFault) → length bytes ≤ MOST_BYTES
     → fault_from fault (first_number header) (after_header header (records_of separator bytes)) ≡ Some found → bytes_say separator header fault said bytes ≡ Err found
-said_fault separator header fault said bytes found short some =
-    ap (λ b. cond b (Err TooLong) (records_say separator header fault said bytes)) (le-ltb MOST_BYTES (length bytes) short)
-    ∙ ap (λ f. if_faultless f (said (after_header header (records_of separator bytes)))) some
+said_fault separator header fault said bytes found short some = grind (arith, common_steps)

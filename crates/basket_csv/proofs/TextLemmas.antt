@@ -1,14 +1,13 @@
 -- What baskets say that were read in parts.
-use Rattle.std.proofs.Common.{◌≡◌, ◌≢◌, ℕ, Bool, true, false, cond, List, [], ◌++◌, Ok, Err, fold, leb, sym, ap, ◌∙◌, subst}
+use Rattle.std.proofs.Common.{◌≡◌, ◌≢◌, ℕ, Bool, List, [], ◌++◌, Ok, Err, fold, sym, ap, ◌∙◌, subst, arith}
+use Rattle.std.proofs.lemmas.Grind.{common_steps}
 use Rattle.std.specs.List.{flat_map}
 use Rattle.std.proofs.lemmas.List.Sums.{fold-append}
 use Rattle.basket_read.specs.declared.fault.ReadFault.{ReadFault}
-use Rattle.basket_read.specs.declared.fault.ReadFault.TheVariants.{Heavy, Memory, Read}
+use Rattle.basket_read.specs.declared.fault.ReadFault.TheVariants.{Memory, Read}
 use Rattle.basket_read.specs.declared.item_counts.ItemCounts.{ItemCounts}
 use Rattle.basket_read.specs.GatheredBaskets.{AreGathered, Gathers}
 use Rattle.basket_sets.specs.declared.weighted.Weighted.{Weighted}
-use Rattle.basket_sets.specs.Database.{MOST_WEIGHT}
-use Rattle.basket_sets.specs.Support.{total_of}
 use Rattle.basket_read.specs.Fimi.{if_light}
 use Rattle.basket_csv.specs.declared.part.Part.{Part}
 use Rattle.basket_csv.specs.declared.pairs.Pairs.{Pairs}
@@ -44,11 +43,7 @@ pair_parts weighted = in_each (HasRows pairs_read weighted) HasPartPairs (pair_p
 
 -- baskets that weigh too much are no fault of the reader
 pub never_read : (baskets : List Weighted) (fault : ReadFault) → (fault ≢ Memory → if_light baskets ≡ Err fault) → fault ≢ Read
-never_read baskets fault heavy is = at (leb (total_of baskets) MOST_WEIGHT) (heavy (λ memory. absurd (let both : ◌≡◌ {A = ReadFault} Read Memory = sym is ∙ memory in cc)))
-  where
-    at : (light : Bool) → cond light (Ok baskets) (Err Heavy) ≡ Err fault → ⊥
-    at true e = absurd cc
-    at false e = absurd cc
+never_read baskets fault heavy is = grind (arith, common_steps)
 
 module _ (weighted : Bool) (known names : List (List ℕ)) (rows : Rows) (are : names ≡ in_order (known ++ all_names weighted rows)) where
   same_baskets : flat_map (basket_of weighted names) rows ≡ baskets_in weighted known rows
@@ -59,8 +54,7 @@ module _ (weighted : Bool) (known names : List (List ℕ)) (rows : Rows) (are : 
 
   pub said_found : (counting : Bool) (counts : ItemCounts) → Gathers counting counts (if_light (flat_map (basket_of weighted names) rows))
       → (baskets : List Weighted) × (baskets_said weighted known rows ≡ Ok (baskets, names)) × AreGathered counting counts baskets
-  said_found counting counts (baskets, light, gathered) =
-      (baskets, ap (λ l. with_names l (in_order (known ++ all_names weighted rows))) (sym (ap if_light same_baskets) ∙ light) ∙ ap (λ ns. Ok (baskets, ns)) (sym are), gathered)
+  said_found counting counts (baskets, light, gathered) = grind (arith, common_steps)
 
 pub names_together : (known before names some : List (List ℕ)) → before ≡ in_order known → names ≡ fold with_name before some → names ≡ in_order (known ++ some)
 names_together known before names some is all = all ∙ ap (λ b. fold with_name b some) is ∙ sym (fold-append with_name [] known some)

@@ -1,4 +1,5 @@
-use Rattle.std.proofs.Common.{◌≡◌, ◌+◌, [], length, refl, arith}
+use Rattle.std.proofs.Common.{◌≡◌, ◌+◌, [], length, arith}
+use Rattle.std.proofs.lemmas.Grind.{common_steps}
 use Rattle.std.proofs.lemmas.Bool.{le-ltb}
 use Rattle.std.proofs.lemmas.Result.{err_from_is_err_and}
 use Rattle.basket_read.specs.Fimi.{MOST_BYTES}
@@ -10,11 +11,7 @@ pub add_all-requires-clause-few : goal.add_all-requires-clause-few
 add_all-requires-clause-few g c = let few = few_records_of c.args.dialect.separator c.args.bytes.now c.if-bytes-gt-MAX_BYTES.false in omega (arith, few)
 
 pub returns-in_err-add_all-clause-said : goal.returns-in_err-add_all-clause-said
-returns-in_err-add_all-clause-said g c = λ start first fresh.
-    let p = err_from_is_err_and c.from_residual.result c.from_residual.ensures.1 in
-    let number : 0 + first_number c.args.dialect.header ≡ first_number c.args.dialect.header = omega arith in
-    rw (le-ltb MOST_BYTES (length c.args.bytes.now) c.if-bytes-gt-MAX_BYTES.false, p.1, p.2)
-    (λ other. rw (rw number at (c.in_err-add_all.ensures.fault start [] (omega (arith, first)) fresh other)) refl)
+returns-in_err-add_all-clause-said g c = λ start first fresh. grind (arith, common_steps, err_from_is_err_and, le-ltb)
 
 pub returns-clause-said : goal.returns-clause-said
 returns-clause-said g c = λ start first fresh.

@@ -1,11 +1,11 @@
-use Rattle.std.proofs.Common.{sym, arith}
+use Rattle.std.proofs.Common.{arith}
+use Rattle.std.proofs.lemmas.Grind.{common_steps}
 use Rattle.std.proofs.lemmas.List.Sums.{prefix_len_is}
 use Rattle.basket_csv.specs.Field.{is_space}
 use Rattle.basket_csv.proofs.field.leading_spaces.Goals as goal
 
 pub returns-then-not-is_space-clause-value : goal.returns-then-not-is_space-clause-value
-returns-then-not-is_space-clause-value c =
-    sym (prefix_len_is is_space c.args.bytes.now c.loop-index.index 0 (omega arith) c.loop-index.invariant (λ _. sym (c.if-not-is_space.ensures)))
+returns-then-not-is_space-clause-value c = grind (arith, common_steps, prefix_len_is)
 
 pub returns-clause-value : goal.returns-clause-value
 returns-clause-value c =

@@ -1,4 +1,5 @@
-use Rattle.std.proofs.Common.{false, sym, subst}
+use Rattle.std.proofs.Common.{false, sym, subst, arith}
+use Rattle.std.proofs.lemmas.Grind.{common_steps}
 use Rattle.std.proofs.lemmas.Result.{err_from_is_err_and}
 use Rattle.basket_read.specs.Fault.{Returns}
 use Rattle.basket_csv.specs.Csv.{after_header, pair_fault, pairs_of, pairs_said}
@@ -15,9 +16,7 @@ returns-in_err-parts-clause-said g c = λ known has.
     said_fault c.args.reading.dialect.separator c.args.reading.dialect.header pair_fault (λ rows. pairs_said known (pairs_of rows)) c.args.bytes.now _ c.requires (c.in_err-parts.ensures.fault other))
 
 pub append_all-requires : goal.append_all-requires
-append_all-requires g c =
-    let rows = after_header c.args.reading.dialect.header (records_of c.args.reading.dialect.separator c.args.bytes.now) in
-    (rows, pair_parts c.args.reading.weighted _ rows c.in_ok-parts.ensures.parts)
+append_all-requires g c = grind (arith, common_steps, pair_parts)
 
 pub returns-clause-said : goal.returns-clause-said
 returns-clause-said g c = λ known has.

@@ -1,13 +1,11 @@
-use Rattle.std.proofs.Common.{◌≤◌, ap, ◌∙◌, ◌++◌, ◌∷◌, [], map, length, inl, inr, refl, arith}
+use Rattle.std.proofs.Common.{◌≤◌, ap, ◌∙◌, ◌++◌, ◌∷◌, [], map, length, inl, inr, arith}
+use Rattle.std.proofs.lemmas.Grind.{common_steps}
 use Rattle.std.proofs.lemmas.Bool.{cases_lt, false≢true}
 use Rattle.basket_csv.proofs.PairLemmas.{group_known, group_new}
 use Rattle.basket_csv.proofs.pairs.add_number.Goals as goal
 
 pub returns-in-Some : goal.returns-in-Some
-returns-in-Some c =
-    let below = c.in-Some.ensures.variant.0 refl in
-    group_known (λ group. group.items) c.args.groups.now.items c.args.index (c.args.number ∷ []) c.in-Some.group.now c.push.new.self (omega (arith, below, c.args.groups.now.ok.0))
-    c.in-Some.ensures.value c.in_ok-push.ensures.ok
+returns-in-Some c = grind (arith, common_steps, group_known)
 
 pub returns : goal.returns
 returns c =

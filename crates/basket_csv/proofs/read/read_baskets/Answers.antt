@@ -1,4 +1,5 @@
-use Rattle.std.proofs.Common.{◌≤◌, Ok, Err, length, subst}
+use Rattle.std.proofs.Common.{◌≤◌, Ok, length, subst, arith}
+use Rattle.std.proofs.lemmas.Grind.{common_steps}
 use Rattle.std.proofs.lemmas.Result.{err_from_is_err_and}
 use Rattle.basket_read.specs.Fault.{IsDefined}
 use Rattle.basket_read.specs.Fimi.{MOST_BYTES}
@@ -6,10 +7,7 @@ use Rattle.basket_csv.proofs.ReadLemmas.{all_kept, reads}
 use Rattle.basket_csv.proofs.read.read_baskets.Goals as goal
 
 pub returns-in_err-counts-clause-read : goal.returns-in_err-counts-clause-read
-returns-in_err-counts-clause-read g c =
-    let p = err_from_is_err_and c.from_residual-in_err-counts.result c.from_residual-in_err-counts.ensures.1 in
-    rw (p.1, p.2)
-    (reads IsDefined _ _ _ _ _ (Err c.in_err-counts.field-0.0) c.deref.ensures.value c.in_ok-bytes.ensures.taken c.in_err-counts.ensures.not_read c.in_err-counts.ensures.said)
+returns-in_err-counts-clause-read g c = grind (arith, common_steps, err_from_is_err_and, reads)
 
 pub returns-clause-read : goal.returns-clause-read
 returns-clause-read g c =

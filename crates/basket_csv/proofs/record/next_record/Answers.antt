@@ -1,4 +1,5 @@
-use Rattle.std.proofs.Common.{sym, ap, ◌∙◌}
+use Rattle.std.proofs.Common.{sym, ap, ◌∙◌, arith}
+use Rattle.std.proofs.lemmas.Grind.{common_steps}
 use Rattle.csv.specs.Reading.{records}
 use Rattle.basket_csv.specs.Record.{config_of}
 use Rattle.basket_csv.proofs.MarkLemmas.{text_is_stripped}
@@ -9,6 +10,4 @@ pub bytes-init : goal.bytes-init
 bytes-init c = λ separator. ap (records (config_of separator)) (sym (text_is_stripped c.args.bytes.now) ∙ sym c.text_of-rest.ensures)
 
 pub bytes-preserved : goal.bytes-preserved
-bytes-preserved c = λ separator.
-    c.bytes.invariant separator ∙ ap (records (config_of separator)) c.in-Some.ensures.cases.0
-    ∙ line_end_passed separator c.in-Some.byte.now c.in-Some.more.now (sym c.is_line_end.ensures ∙ c.if-not-is_line_end.false)
+bytes-preserved c = λ separator. grind (arith, common_steps, line_end_passed)

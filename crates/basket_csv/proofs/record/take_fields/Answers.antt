@@ -1,15 +1,11 @@
-use Rattle.std.proofs.Common.{[], ap, sym, ◌∙◌}
-use Rattle.csv.specs.Machine.{next_record}
-use Rattle.csv.specs.declared.parser.State.TheVariants as st
-use Rattle.basket_csv.specs.Record.{config_of}
+use Rattle.std.proofs.Common.{sym, ◌∙◌, arith}
+use Rattle.std.proofs.lemmas.Grind.{common_steps}
 use Rattle.basket_csv.proofs.LastLemmas.{texts}
 use Rattle.basket_csv.proofs.PlainLemmas.{first_field, last_taken, line_taken, next_taken}
 use Rattle.basket_csv.proofs.record.take_fields.Goals as goal
 
 pub fields-init : goal.fields-init
-fields-init c =
-    first_field c.args.separator c.args.text.now c.requires.begins c.requires.some
-    ∙ ap (λ fields. next_record (config_of c.args.separator) st.StartField (texts fields) [] c.args.text.now) (sym c.clear.ensures.items)
+fields-init c = grind (arith, common_steps, first_field, texts)
 
 pub returns-in_default : goal.returns-in_default
 returns-in_default c =

@@ -1,4 +1,5 @@
-use Rattle.std.proofs.Common.{◌++◌, sym, subst, ◌∙◌}
+use Rattle.std.proofs.Common.{◌++◌, sym, subst, ◌∙◌, arith}
+use Rattle.std.proofs.lemmas.Grind.{common_steps}
 use Rattle.std.proofs.lemmas.List.{take-append-drop}
 use Rattle.std.proofs.lemmas.Result.{err_from_is_err_and}
 use Rattle.basket_read.specs.Fault.{ReturnsBy}
@@ -8,16 +9,10 @@ use Rattle.basket_csv.proofs.HalfLemmas.{back_heavy, back_rows, front_heavy, fro
 use Rattle.basket_csv.proofs.renumbered.+halves.Goals as goal
 
 pub gathered_shared-gathered_halves-counts-requires-clause-front : goal.gathered_shared-gathered_halves-counts-requires-clause-front
-gathered_shared-gathered_halves-counts-requires-clause-front g t c κs within =
-    let (weighted, names, rows, parts) = c.requires in
-    let whole = sym (take-append-drop _ c.args.parts.now) ∙ (λ i. sym c.split_at.ensures.front i ++ sym c.split_at.ensures.back i) in
-    front_rows c.args.counting weighted names c.args.parts.now c.split_at.result.0.now c.split_at.result.1.now rows whole parts
+gathered_shared-gathered_halves-counts-requires-clause-front g t c κs within = grind (arith, common_steps, take-append-drop, front_rows)
 
 pub gathered_shared-gathered_halves-counts-requires-clause-back : goal.gathered_shared-gathered_halves-counts-requires-clause-back
-gathered_shared-gathered_halves-counts-requires-clause-back g t c κs within =
-    let (weighted, names, rows, parts) = c.requires in
-    let whole = sym (take-append-drop _ c.args.parts.now) ∙ (λ i. sym c.split_at.ensures.front i ++ sym c.split_at.ensures.back i) in
-    back_rows c.args.counting weighted names c.args.parts.now c.split_at.result.0.now c.split_at.result.1.now rows whole parts
+gathered_shared-gathered_halves-counts-requires-clause-back g t c κs within = grind (arith, common_steps, take-append-drop, back_rows)
 
 pub gathered_shared-returns-in_err-counts : goal.gathered_shared-returns-in_err-counts
 gathered_shared-returns-in_err-counts g t c = λ weighted names rows parts.

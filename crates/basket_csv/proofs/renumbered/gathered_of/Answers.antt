@@ -1,15 +1,11 @@
-use Rattle.std.proofs.Common.{◌+◌, ◌∷◌, drop, ap, sym, ◌∙◌}
+use Rattle.std.proofs.Common.{◌+◌, ◌∷◌, drop, ap, sym, ◌∙◌, arith}
+use Rattle.std.proofs.lemmas.Grind.{common_steps}
 use Rattle.std.proofs.lemmas.List.{drop_more}
-use Rattle.basket_csv.proofs.GatherLemmas.{part_more, part_numbered}
+use Rattle.basket_csv.proofs.GatherLemmas.{part_more}
 use Rattle.basket_csv.proofs.renumbered.gathered_of.Goals as goal
 
 pub gather-requires : goal.gather-requires
-gather-requires c =
-    let (weighted, names, rows, parts) = c.requires in
-    let part = c.part-item.result in
-    let others = drop (c.loop-part.part-index + 1) c.args.parts.now in
-    let next = drop_more c.args.parts.now c.loop-part.part-index part c.loop-part-test.true ∙ ap (λ p. p ∷ others) (sym c.part-item.is) in
-    record { numbered = part_numbered weighted names rows c.args.counting c.loop-part.gathered _ others part next (c.loop-part.invariant weighted names rows parts) }
+gather-requires c = grind (arith, common_steps)
 
 pub loop-part-preserved : goal.loop-part-preserved
 loop-part-preserved c = λ weighted names rows parts.

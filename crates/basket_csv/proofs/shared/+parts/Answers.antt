@@ -1,4 +1,5 @@
 use Rattle.std.proofs.Common.{◌≡◌, ◌≤◌, ◌++◌, [], ap, false, length, length-append, sym, subst, take-append-drop, ◌∙◌, arith}
+use Rattle.std.proofs.lemmas.Grind.{common_steps}
 use denote.Param.Send.{sendable}
 use Rattle.std.specs.Result.{IfOk}
 use Rattle.std.proofs.lemmas.Bool.{eqb-true}
@@ -48,13 +49,7 @@ read_parts-returns-in-Ok g t c =
     (c.after.ensures c.args.reading first rest (sym c.split_at.ensures.front_len) c.in-Ok.ensures.part (nothing_after separator c.args.header first rest none) (c.none.ensures c.args.reading rest))
 
 pub read_parts-read_both-read-requires-clause-few : goal.read_parts-read_both-read-requires-clause-few
-read_parts-read_both-read-requires-clause-few g t c κs within =
-    let separator = c.args.reading.dialect.separator in
-    let whole : c.split_at.result.0.now ++ c.split_at.result.1.now ≡ c.args.bytes.now = (λ i. c.split_at.ensures.front i ++ c.split_at.ensures.back i) ∙ take-append-drop c.end_of_part-end.result c.args.bytes.now in
-    let long = ap length whole in
-    let sum = length-append c.split_at.result.0.now c.split_at.result.1.now in
-    let short : length c.split_at.result.0.now ≤ MOST_BYTES = let few = c.requires in omega (arith, long, sum) in
-    few_records_of separator c.split_at.result.0.now short
+read_parts-read_both-read-requires-clause-few g t c κs within = grind (arith, common_steps, few_records_of)
 
 pub read_parts-after-requires-in-Ok-read-clause-few : goal.read_parts-after-requires-in-Ok-read-clause-few
 read_parts-after-requires-in-Ok-read-clause-few g t c =

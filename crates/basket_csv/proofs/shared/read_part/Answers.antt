@@ -1,4 +1,5 @@
 use Rattle.std.proofs.Common.{◌≡◌, ◌+◌, [], refl, arith}
+use Rattle.std.proofs.lemmas.Grind.{common_steps}
 use Rattle.std.proofs.lemmas.Result.{err_from_is_err_and}
 use Rattle.basket_csv.specs.Csv.{after_header, first_number}
 use Rattle.basket_csv.specs.Records.{records_of}
@@ -24,9 +25,4 @@ returns-clause-part g c =
     let sum : start.first + 0 ≡ c.args.before + first_number c.args.header = omega arith in
     let fresh = c.of_part-part.ensures.read start refl refl in
     let rows = after_header c.args.header (records_of c.args.reading.dialect.separator c.args.bytes.now) in
-    record {
-      part = (start, refl, refl, c.in_ok-added.ensures.read start [] sum fresh);
-      count = c.in_ok-added.ensures.records;
-      faultless = faultless _ c.of_part-part.ensures.any_number (c.args.before + first_number c.args.header) rows (c.in_ok-added.ensures.fault start [] sum fresh);
-      whole = c.in_ok-added.ensures.whole;
-    }
+    grind (arith, common_steps, faultless)

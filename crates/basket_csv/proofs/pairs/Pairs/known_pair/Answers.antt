@@ -1,7 +1,7 @@
-use Rattle.std.proofs.Common.{sym, ap, ◌∙◌, subst, refl}
+use Rattle.std.proofs.Common.{sym, ap, ◌∙◌, arith}
+use Rattle.std.proofs.lemmas.Grind.{common_steps}
 use Rattle.std.specs.Str.{is_utf8}
 use Rattle.basket_csv.specs.Record.{fields_of}
-use Rattle.basket_csv.specs.Row.{IsKnownField}
 use Rattle.basket_csv.proofs.PairLemmas.{no_fault}
 use Rattle.basket_csv.proofs.RowLemmas.{field_found}
 use Rattle.basket_csv.proofs.pairs.Pairs.known_pair.Goals as goal
@@ -13,12 +13,4 @@ returns-clause-fault c = λ nth.
     no_fault nth fields (sym c.len.ensures ∙ c.if-len-ne2.false) (ap is_utf8 id ∙ c.in_ok-index.ensures.text) c.in_ok-number.ensures.known.text
 
 pub returns-clause-known : goal.returns-clause-known
-returns-clause-known c =
-    let fields = fields_of c.args.row.now in
-    let id = field_found fields 0 c.in_ok-id.id.now c.in_ok-id.ensures in
-    record {
-      two = sym c.len.ensures ∙ c.if-len-ne2.false;
-      id = subst (λ field. IsKnownField c.args.self.now.ids field c.in_ok-index.index) (sym id)
-          (record { known = c.in_ok-index.ensures; trimmed = c.if-not-is_name.ensures.trimmed refl; some = c.if-not-is_name.ensures.some refl });
-      name = c.in_ok-number.ensures;
-    }
+returns-clause-known c = grind (arith, common_steps, field_found)
