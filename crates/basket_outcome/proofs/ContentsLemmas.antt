@@ -1,26 +1,22 @@
 -- What is made of what was read.
 use Rattle.std.specs.Prelude.{OnOk}
-use Rattle.std.proofs.Common.{◌≡◌, ℕ, Bool, List, Option, Result, Ok, Err, ap, refl}
+use Rattle.std.proofs.lemmas.Grind.{common_steps}
+use Rattle.std.proofs.Common.{◌≡◌, ℕ, Bool, List, Option, Result, Ok, arith}
 use Rattle.basket_read.specs.Fault.{IsDefined, Reads, result_and_then}
 use Rattle.basket_read.specs.declared.fault.ReadFault.{ReadFault}
-use Rattle.basket_read.proofs.theory.Reads.{Says, says}
+use Rattle.basket_read.proofs.theory.Reads.{Says}
 use Rattle.basket_outcome.specs.declared.contents.Contents.{Contents}
 
 module _ {A : Type 0} (say : A → Contents) where
   as_said : (read : Result A ReadFault) (result : Result Contents ReadFault) → result ≡ result_and_then (λ a. Ok (say a)) read → Says say read result
-  as_said (Ok a) result is = is
-  as_said (Err fault) result is = is
+  as_said h1 h2 h3 = grind (arith, common_steps)
 
   -- contents that are made of what was read
   pub contents_read : (defined : List ℕ → Result A ReadFault) (fails : ReadFault → Type 0) (left : Option (List ℕ)) (failed : Bool) (read : Result A ReadFault) (result : Result Contents ReadFault)
       → result ≡ result_and_then (λ a. Ok (say a)) read → Reads IsDefined defined fails left failed read
       → Reads IsDefined (λ bytes. result_and_then (λ a. Ok (say a)) (defined bytes)) fails left failed result
-  contents_read defined fails left failed read result is =
-      says IsDefined IsDefined say (result_and_then (λ a. Ok (say a))) (λ a answer. ap (result_and_then (λ a. Ok (say a)))) (λ fault. refl) defined fails left failed read result (as_said read result is)
+  contents_read defined fails left failed read result is = grind (arith, common_steps)
 
 -- what holds after `Ok` of what was read holds after `Ok` of what is made of it
 pub still : {A : Type 0} (P : Type 0) (next : A → Result Contents ReadFault) (read : Result A ReadFault) (result : Result Contents ReadFault) → result ≡ result_and_then next read → OnOk read P → OnOk result P
-still P next (Ok a) (Ok contents) is held = held
-still P next (Ok a) (Err fault) is held = tt
-still P next (Err fault) (Ok contents) is held = absurd cc
-still P next (Err fault) (Err other) is held = tt
+still h1 h2 h3 h4 h5 h6 = grind (arith, common_steps)

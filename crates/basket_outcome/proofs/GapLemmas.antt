@@ -1,6 +1,7 @@
 -- Counted sets without a gap are consistent.
-use Rattle.std.proofs.Common.{◌≡◌, ◌≢◌, ◌∙◌, ◌⊎◌, inl, inr, ℕ, zero, suc, ◌+◌, ◌-◌, ◌<◌, ◌≤◌, Bool, true, false, List, [], ◌∷◌, Option, Some, None, ap, ap₂, arith, cond, filter, length, map, refl, sym, subst}
-use Rattle.std.specs.Prelude.{All, ◌&&◌, ◌==◌, ◌||◌, find, nat_eq, not, option_map}
+use Rattle.std.proofs.Common.{◌≡◌, ◌≢◌, ◌∙◌, ◌⊎◌, inl, inr, ℕ, zero, suc, ◌+◌, ◌-◌, ◌<◌, ◌≤◌, Bool, true, false, List, [], ◌∷◌, Option, None, ap, arith, cond, filter, length, map, refl, sym, subst}
+use Rattle.std.proofs.lemmas.Grind.{common_steps}
+use Rattle.std.specs.Prelude.{All, ◌&&◌, ◌==◌, find, nat_eq, not, option_map}
 use Rattle.std.specs.Cmp.Lexicographic.{pointwise, bytes_decides}
 use Rattle.std.specs.List.{list_any}
 use Rattle.std.specs.List.Sorted.{IsStrictlySortedBy}
@@ -11,7 +12,7 @@ use Rattle.std.proofs.lemmas.List.Kept.{IsStrictlySortedBy-filter}
 use Rattle.basket_core.specs.Listing.{Listing}
 use Rattle.basket_parts.specs.Frequent.{HasRisingSet}
 use Rattle.basket_parts.specs.Gap.{first_gap, has_gap, is_gap}
-use Rattle.basket_parts.specs.CombinedCounts.{count_if, count_in, counted_in, frequent_in, has_set, is_frequent_in, sets_of, total_in}
+use Rattle.basket_parts.specs.CombinedCounts.{count_if, count_in, counted_in, frequent_in, is_frequent_in, sets_of, total_in}
 use Rattle.basket_parts.proofs.theory.Sets.{has_from_sets, listed_from_has, sets-in_order, sets_from_has}
 use Rattle.basket_plan.specs.Plan.{Question}
 use Rattle.basket_read.specs.declared.counted_line.CountedLine.{CountedLine}
@@ -28,8 +29,7 @@ use Rattle.basket_sets.proofs.theory.Members.{All-from_Member, Member, Member-ap
 use Rattle.basket_sets.proofs.theory.Support.{at_least_one, meets_more}
 
 both : (a b : Bool) → (a && b) ≡ true → (a ≡ true) × (b ≡ true)
-both true b e = (refl, e)
-both false b e = absurd (false≢true e)
+both h1 h2 h3 = grind (arith, common_steps)
 
 some_items : (set : List ℕ) → not (length set == 0) ≡ true → set ≢ []
 some_items set e none = false≢true (sym (ap (λ s. not (length s == 0)) none) ∙ e)
@@ -49,8 +49,7 @@ all_of_it [] = inl refl
 all_of_it (item ∷ items) = Member-append_left (item ∷ items) _ _ (Member-map (λ set. item ∷ set) items (subsets_of_size (length items) items) (all_of_it items))
 
 after_first : (size item : ℕ) (items set : List ℕ) → Member set (subsets_of_size size items) → Member set (subsets_of_size size (item ∷ items))
-after_first zero item items set m = m
-after_first (suc size) item items set m = Member-append_right set (map (λ s. item ∷ s) (subsets_of_size size items)) (subsets_of_size (suc size) items) m
+after_first h1 h2 h3 h4 h5 = grind (arith, common_steps, Member-append_right)
 
 without_is_subset : (place size : ℕ) (items : List ℕ) → place < length items → suc size ≡ length items → Member (without place items) (subsets_of_size size items)
 without_is_subset place size [] below sized = absurd (omega (arith, below))
@@ -66,25 +65,14 @@ without_is_subset (suc place) (suc size) (item ∷ items) below sized =
 
 none_found : {A : Type 0} (p : A → Bool) (list : List A) → find p list ≡ None → (x : A) → Member x list → p x ≡ false
 none_found p [] e x m = absurd m
-none_found p (y ∷ list) e x m = go (p y) refl e m (none_found p list)
-  where
-    go : (b : Bool) → p y ≡ b → (cond b (Some y) (find p list)) ≡ None → ((y ≡ x) ⊎ Member x list) → (find p list ≡ None → (z : _) → Member z list → p z ≡ false) → p x ≡ false
-    go true is e m rest = absurd cc
-    go false is e (inl same) rest = subst (λ z. p z ≡ false) same is
-    go false is e (inr m) rest = rest e x m
+none_found p (y ∷ list) e x m = grind (arith, common_steps, none_found p list)
 
 nothing_mapped : {A B : Type 0} (f : A → B) (o : Option A) → option_map f o ≡ None → o ≡ None
-nothing_mapped f None e = refl
-nothing_mapped f (Some a) e = absurd cc
+nothing_mapped h1 h2 h3 = grind (arith, common_steps)
 
 none_any : {A : Type 0} (p : A → Bool) (list : List A) → list_any p list ≡ false → (x : A) → Member x list → p x ≡ false
 none_any p [] e x m = absurd m
-none_any p (y ∷ list) e x m = go (p y) refl e m (none_any p list)
-  where
-    go : (b : Bool) → p y ≡ b → (b || list_any p list) ≡ false → ((y ≡ x) ⊎ Member x list) → (list_any p list ≡ false → (z : _) → Member z list → p z ≡ false) → p x ≡ false
-    go true is e m rest = absurd (false≢true (sym e))
-    go false is e (inl same) rest = subst (λ z. p z ≡ false) same is
-    go false is e (inr m) rest = rest e x m
+none_any p (y ∷ list) e x m = grind (arith, common_steps, none_any p list)
 
 -- ---- the sets that meet a minimum
 
@@ -118,27 +106,14 @@ module _ (lines : List CountedLine) (minimum : Minimum) (lines_rise : All HasRis
   frequent_sets = filter (is_frequent_in lines minimum) (sets_of lines)
 
   no_gap : (set : List ℕ) → Member set frequent_sets → has_gap lines set ≡ false
-  no_gap set m =
-      none_found (λ (c : Counted). has_gap lines c.set) (frequent_in lines minimum) (nothing_mapped _ (find (λ (c : Counted). has_gap lines c.set) (frequent_in lines minimum)) whole)
-      (counted_in lines set) (Member-map (counted_in lines) set frequent_sets m)
+  no_gap set m = grind (arith, common_steps, none_found, nothing_mapped, Member-map)
 
   met : (set : List ℕ) → Member set frequent_sets → (set ≢ []) × (meets minimum (count_in lines set) (total_in lines) ≡ true)
-  met set m =
-      let tests = both (not (length set == 0)) (meets minimum (count_in lines set) (total_in lines)) (Member-filter (is_frequent_in lines minimum) set (sets_of lines) m).1 in
-      (some_items set tests.0, tests.1)
+  met set m = grind (arith, common_steps, both, Member-filter, some_items)
 
   subset_there : (set subset : List ℕ) → Member set frequent_sets → 1 ≤ length subset → is_gap (count_in lines set) subset (count_if lines subset) ≡ false
       → count_in lines set ≤ listed_count (frequent_in lines minimum) subset
-  subset_there set subset m some gap = go (has_set lines subset) refl gap
-    where
-      go : (b : Bool) → has_set lines subset ≡ b → is_gap (count_in lines set) subset (cond b (Some (count_in lines subset)) None) ≡ false → count_in lines set ≤ listed_count (frequent_in lines minimum) subset
-      go true is gap =
-          let enough : count_in lines set ≤ count_in lines subset = grind (arith, nat_tests, gap) in
-          let passes = ap₂ (λ a b. a && b) (not_none (length subset) some) (meets_more minimum (count_in lines set) (count_in lines subset) (total_in lines) enough (met set m).1) in
-          let there = Member-from_filter (is_frequent_in lines minimum) subset (sets_of lines) (sets_from_has lines subset is) passes in
-          let listed = listed_is lines frequent_sets subset there in
-          omega (arith, enough, listed)
-      go false is gap = absurd (false≢true (sym gap ∙ not_none (length subset) some))
+  subset_there set subset m some gap = grind (arith, common_steps, nat_tests, not_none, meets_more, met, Member-from_filter, sets_from_has, listed_is)
 
   has_subsets : (set : List ℕ) → Member set frequent_sets → HasSubsets (frequent_in lines minimum) (counted_in lines set)
   has_subsets set m place below long =
