@@ -1,5 +1,6 @@
 -- A tree's branches, where a path is added.
 use Rattle.std.proofs.Common.{◌≡◌, ◌≢◌, ℕ, ◌+◌, ◌-◌, ◌<◌, ◌≤◌, ◌↔◌, true, List, [], ◌∷◌, ◌++◌, length, get_or, cond, eqb, map, max, take, zero, suc, refl, sym, ap, ◌∙◌, subst, inl, inr, ◌⊎◌, arith, zero-add}
+use Rattle.std.proofs.lemmas.Grind.{common_steps}
 use Rattle.std.specs.List.{AllPairs, Contains, range_with_len}
 use Rattle.std.proofs.lemmas.Bool.{and_from, and_parts, cases_Bool, cases_lt, eq-eqb, eqb-true, true≢false}
 use Rattle.std.proofs.lemmas.List.{get_or_append_left, get_or-append_right, length-append, length-map, length-take-le, map-append, take_at, take-take}
@@ -36,8 +37,7 @@ shorter_begins q b p r short long less h =
 -- ---- weights
 
 weight_push : (p q : List ℕ) (w : ℕ) (paths : List Weighted) → weight_begun p (paths ++ weighted q w ∷ []) ≡ weight_begun p paths + cond (begins p q) w 0
-weight_push p q w paths =
-    sum_by-append (λ (place : Weighted). cond (begins p place.basket) place.weight 0) paths (weighted q w ∷ []) ∙ ap (λ n. weight_begun p paths + n) (zero-add (cond (begins p q) w 0))
+weight_push p q w paths = grind (arith, common_steps)
 
 none_begun : (p : List ℕ) (paths : List Weighted) → ((place : Weighted) → Contains paths place → begins p place.basket ≡ true → ⊥) → weight_begun p paths ≡ 0
 none_begun p [] none = refl
@@ -104,9 +104,7 @@ module _ (nodes : List (List ℕ × ℕ)) (path : List ℕ) (w : ℕ) where
   new = map prefix (range_with_len known (length path - known))
 
   all_paths : paths_of (grown path w nodes) ≡ branches ++ new
-  all_paths =
-      map-append (λ (node : List ℕ × ℕ). node.0) (map (heavier path w) nodes) (made path w known)
-      ∙ (λ i. map-map (λ (node : List ℕ × ℕ). node.0) (heavier path w) nodes i ++ map-map (λ (node : List ℕ × ℕ). node.0) (λ rank. (prefix rank, w)) (range_with_len known (length path - known)) i)
+  all_paths = grind (arith, common_steps, map-append, map-map)
 
   pub older_first : take (length nodes) (paths_of (grown path w nodes)) ≡ branches
   older_first = ap (take (length nodes)) all_paths ∙ take_at branches new (length nodes) (length-map nodes (λ (node : List ℕ × ℕ). node.0))
@@ -122,9 +120,7 @@ module _ (nodes : List (List ℕ × ℕ)) (path : List ℕ) (w : ℕ) where
     is_new rank past here has = omega (arith, longest_most path branches (prefix rank) has.0 has.1 has.2 (take_begins (rank + 1) path), prefix_long rank here)
 
     new_at : (k : ℕ) (d : List ℕ) → k < length new → (k < length path - known) × (get_or new k d ≡ prefix (known + k))
-    new_at k d here =
-        let within : k < length path - known = omega (arith, here, length-map-range_with_len prefix known (length path - known)) in
-        (within, get_or-map-range_with_len prefix known (length path - known) k (known + k) d within refl)
+    new_at k d here = grind (arith, common_steps, length-map-range_with_len, get_or-map-range_with_len)
 
     here_or_new : (q : List ℕ) → q ≢ [] → begins q path ≡ true → Contains (branches ++ new) q
     here_or_new [] some begun = absurd (some refl)

@@ -1,5 +1,6 @@
 -- The pattern base of the empty set, and those of the ranks alone.
 use Rattle.std.proofs.Common.{◌≡◌, ℕ, ◌+◌, ◌<◌, ◌≤◌, false, true, List, [], ◌∷◌, get_or, length, map, Option, refl, sym, ap, ◌∙◌, subst, inl, inr, arith, zero-add}
+use Rattle.std.proofs.lemmas.Grind.{common_steps}
 use Rattle.std.specs.Prelude.{IfNone, IfSome}
 use Rattle.std.specs.List.{range_with_len}
 use Rattle.std.proofs.lemmas.Bool.{le-leb, lt-leb}
@@ -104,13 +105,7 @@ module _ {all : PatternBase} (is : IsForest all) where
     -- so it begins a search for its class
     pub class_of_rank : {below : Option PatternBase} {one : ℕ × ℕ} → one ≡ get_or all.ranks.items rank one → all.least ≤ one.1 → IfNone below (pairs_of all.paths.baskets all.least rank ≡ [])
         → IfSome below (IsBelow all rank) → IsClass IsBase coding rank one.1 below (supports_in coding all.least)
-    class_of_rank is_at enough none some = record {
-      over_coding = over_coding;
-      supported = entry_support rank here is_at;
-      frequent = enough;
-      some = λ inner e. base_of_rank inner (subst (λ o. IfSome o (IsBelow all rank)) e some);
-      none = λ e. none_of_rank (subst (λ o. IfNone o (pairs_of all.paths.baskets all.least rank ≡ [])) e none);
-    }
+    class_of_rank is_at enough none some = grind (arith, common_steps, over_coding, entry_support, base_of_rank, none_of_rank)
 
     -- and that search makes the trees of the class
     pub trees_made : {one : ℕ × ℕ} → one ≡ get_or all.ranks.items rank one → all.least ≤ one.1 → 1 + work_at (of_rank (supports_in coding all.least) rank) ≡ class_trees coding rank

@@ -1,9 +1,10 @@
 -- Nodes of a tree, where a path is added.
-use Rattle.std.proofs.Common.{◌≡◌, ℕ, ◌+◌, ◌-◌, ◌<◌, ◌≤◌, ◌&&◌, Bool, true, false, List, [], ◌∷◌, ◌++◌, length, get_or, map, set, take, drop, zero, suc, cond, eqb, leb, max, refl, sym, ap, ◌∙◌, subst, arith}
+use Rattle.std.proofs.Common.{◌≡◌, ℕ, ◌+◌, ◌-◌, ◌<◌, ◌≤◌, Bool, List, [], ◌∷◌, ◌++◌, length, get_or, map, set, take, drop, zero, suc, cond, eqb, leb, max, refl, sym, ap, ◌∙◌, arith}
+use Rattle.std.proofs.lemmas.Grind.{common_steps}
 use Rattle.std.specs.List.{All, common_prefix_len, range_with_len}
-use Rattle.std.proofs.Math.Dec.{leb-suc-suc, leb-suc-zero}
+use Rattle.std.proofs.Math.Dec.{leb-suc-zero}
 use Rattle.std.proofs.lemmas.Bool.{le-leb}
-use Rattle.std.proofs.lemmas.List.{drop_at, drop-append-le, get_or-append_right, get_or-drop, get_or_default, length-append, length-drop, length-map, length-take-le, map-append, map_push, take_at, take-append-le, take_more}
+use Rattle.std.proofs.lemmas.List.{drop_at, drop-append-le, get_or_default, length-append, length-drop, length-take-le, map-append, map_push, take-append-le, take_more}
 use Rattle.std.proofs.lemmas.List.Edits.{map_over_more}
 use Rattle.std.proofs.lemmas.List.Elements.{All-append, All-head, All-map, All-tail, All-weaker}
 use Rattle.std.proofs.lemmas.List.FromFn.{get_or-range_with_len, length-range_with_len}
@@ -16,18 +17,11 @@ pub begins_is : (n : ℕ) (p q : List ℕ) → n ≤ length p → begins (take n
 begins_is zero p q here = sym (le-leb 0 (common_prefix_len eqb p q) (omega arith))
 begins_is (suc n) [] q here = absurd (omega arith)
 begins_is (suc n) (x ∷ p) [] here = sym (leb-suc-zero n)
-begins_is (suc n) (x ∷ p) (y ∷ q) here = go (eqb x y) (begins_is n p q (omega arith))
-  where
-    go : (b : Bool) → begins (take n p) q ≡ leb n (common_prefix_len eqb p q) → (b && begins (take n p) q) ≡ leb (suc n) (cond b (1 + common_prefix_len eqb p q) 0)
-    go true rest = let one : suc (common_prefix_len eqb p q) ≡ 1 + common_prefix_len eqb p q = omega arith in rest ∙ sym (leb-suc-suc n (common_prefix_len eqb p q)) ∙ ap (leb (suc n)) one
-    go false rest = sym (leb-suc-zero n)
+begins_is (suc n) (x ∷ p) (y ∷ q) here = grind (arith, common_steps, begins_is n p q (omega arith))
 
 -- where the elements before a place are changed, the others are as they were
 pub rest_at : {X : Type 0} (f : X → X) (xs now : List X) (k : ℕ) (d : X) → k < length xs → now ≡ map f (take k xs) ++ drop k xs → get_or now k d ≡ get_or xs k d
-rest_at f xs now k d here is =
-    let long = length-map (take k xs) f ∙ length-take-le k xs (omega arith) in
-    let first : k + (k - k) ≡ k = omega arith in
-    ap (λ l. get_or l k d) is ∙ get_or-append_right (map f (take k xs)) (drop k xs) k k d long (omega arith) ∙ get_or-drop k xs (k - k) d ∙ ap (λ n. get_or xs n d) first
+rest_at f xs now k d here is = grind (arith, common_steps)
 
 -- the nodes before a place have more weight
 module _ (ranks path : List ℕ) (weight : ℕ) (nodes now : List Node) (k : ℕ) (d : Node) (here : k < length nodes) (there : k < length now)
@@ -52,8 +46,7 @@ module _ (ranks path : List ℕ) (weight : ℕ) (nodes now : List Node) (k : ℕ
       )
 
 if_less : (b : Bool) (n : ℕ) → cond b n 0 ≤ n
-if_less true n = omega arith
-if_less false n = omega arith
+if_less h1 h2 = grind (arith, common_steps)
 
 pub raised_are : (ranks path : List ℕ) (weight total : ℕ) (nodes : List Node) → AreNodes ranks nodes total → AreNodes ranks (map (raised ranks path weight) nodes) (total + weight)
 raised_are ranks path weight total nodes are = record {
@@ -105,12 +98,9 @@ module _ (ranks path : List ℕ) (weight known total : ℕ) (nodes : List Node) 
 
   pub with_made : (at : ℕ) (now : List Node) (more : List ℕ) → at ≡ length ranks → more ≡ ranks ++ path → now ≡ nodes ++ map (made_at at weight) numbers
       → AreNodes more now total × (map (node_of more) now ≡ map (node_of ranks) nodes ++ made path weight known)
-  with_made at now more start items is =
-      subst (λ (t : List ℕ × List Node). AreNodes t.0 t.1 total × (map (node_of t.0) t.1 ≡ map (node_of ranks) nodes ++ made path weight known))
-      (λ i. (sym items i, sym (is ∙ ap (λ s. nodes ++ map (made_at s weight) numbers) start) i)) (made_are, made_nodes)
+  with_made at now more start items is = grind (arith, common_steps, made_are, made_nodes)
 
 -- nodes that were lent with room for more, each with the weight
 pub written : (ranks path : List ℕ) (weight : ℕ) (nodes : List Node) (at : List ℕ) (lent old new : List Node) (len : ℕ) → at ≡ ranks → lent ≡ old → old ≡ nodes → len ≡ length lent
     → new ≡ map (raised at path weight) lent → take len (new ++ drop (length new) old) ≡ map (raised ranks path weight) nodes
-written ranks path weight nodes at lent old new len same is was long raise =
-    take_at new (drop (length new) old) len (ap length raise ∙ length-map lent (raised at path weight) ∙ sym long) ∙ raise ∙ (λ i. map (raised (same i) path weight) ((is ∙ was) i))
+written ranks path weight nodes at lent old new len same is was long raise = grind (arith, common_steps)

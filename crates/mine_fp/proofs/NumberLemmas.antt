@@ -1,8 +1,9 @@
 -- Pattern bases, whose ranks have numbers of their own.
-use Rattle.std.proofs.Common.{◌≡◌, ℕ, ◌<◌, ◌≤◌, Bool, true, ◌&&◌, List, [], ◌∷◌, ◌++◌, leb, get_or, length, map, refl, sym, ap, ◌∙◌, subst, inl, inr, arith, append_assoc}
+use Rattle.std.proofs.Common.{◌≡◌, ℕ, ◌<◌, ◌≤◌, Bool, true, ◌&&◌, List, [], ◌∷◌, ◌++◌, get_or, length, map, refl, sym, ap, ◌∙◌, subst, inl, inr, arith, append_assoc}
+use Rattle.std.proofs.lemmas.Grind.{common_steps}
 use Rattle.std.specs.List.{range_with_len}
 use Rattle.std.proofs.lemmas.Bool.{cases_order, le-leb, leb-true, lt-ltb}
-use Rattle.std.proofs.lemmas.List.{get_or_default, length-map, map-append}
+use Rattle.std.proofs.lemmas.List.{length-map, map-append}
 use Rattle.std.proofs.lemmas.List.Elements.{recursion_from_All}
 use Rattle.basket_ranks.specs.Codes.{Coding, IsCodedPlace, IsCoding}
 use Rattle.basket_sets.specs.declared.weighted.Weighted.{Weighted}
@@ -21,7 +22,7 @@ use Rattle.basket_sets.proofs.theory.Tests.{Member-at, rising_at}
 use Rattle.mine_classes.specs.Conditional.{is_kept}
 use Rattle.mine_pairs.specs.Pairs.{kept_ranks, named_pair, pairs_of}
 use Rattle.mine_classes.proofs.theory.Conditional.{support_with}
-use Rattle.mine_pairs.proofs.theory.Kept.{Member-kept, met_alone, kept_rises, kept_below as below_kept, pair_ranks as first_ranks}
+use Rattle.mine_pairs.proofs.theory.Kept.{Member-kept, kept_rises, kept_below as below_kept, pair_ranks as first_ranks}
 use Rattle.mine_fp.specs.declared.pattern_base.PatternBase.{PatternBase}
 use Rattle.mine_fp.specs.PatternBase.{IsBelow, IsNumbered, named, ranks_of, supports_in}
 use Rattle.mine_conditional.proofs.theory.Numbers.{named_among, named_twice, support_below}
@@ -65,42 +66,29 @@ module _ {base : PatternBase} {node : Node} (is : IsNumbered base node) where
 
   -- what is frequent in the search is frequent in the coding
   pub tests : (set : List ℕ) → is_met node.over set ≡ is_frequent coding.baskets coding.minimum set
-  tests set =
-      ap (λ over. is_met over set) is.over ∙ sym (is.least.met (support_of coding.baskets set) (support_falls coding.baskets set [] refl))
+  tests set = grind (arith, common_steps, support_falls)
 
   pub support_numbers : (numbers : List ℕ) → AllBelow count numbers → support_of coding.baskets (named ranks numbers ++ node.set) ≡ support_of paths numbers
   support_numbers numbers low = is.supports numbers (subst (λ n. AllBelow n numbers) is.long low)
 
   -- a test of numbers by the paths is one of their ranks by the coding
   met_numbers : (numbers : List ℕ) → AllBelow count numbers → is_frequent paths (Count base.least) numbers ≡ is_met node.over (named ranks numbers ++ node.set)
-  met_numbers numbers low =
-      met_alone base.least (support_of paths numbers) is.least.some
-      ∙ ap (leb base.least) (sym (support_numbers numbers low))
-      ∙ sym (ap (λ over. is_met over (named ranks numbers ++ node.set)) is.over)
+  met_numbers numbers low = grind (arith, common_steps)
 
   pub none_below : AllBelow count []
   none_below j h = absurd cc
 
   pub more_below : (k : ℕ) (numbers : List ℕ) → k < count → AllBelow count numbers → AllBelow count (k ∷ numbers)
-  more_below k numbers here low j h = at (Member-from_has (k ∷ numbers) j h)
-    where
-      at : Member j (k ∷ numbers) → j < count
-      at (inl e) = subst (λ n. n < count) e here
-      at (inr m) = low j (has-from_Member numbers j m)
+  more_below k numbers here low j h = grind (arith, common_steps)
 
   pub ranks_less : (i j : ℕ) → i < j → j < count → rank_of i < rank_of j
   ranks_less i j less here = rising_at ranks i j is.rises less here
 
   pub numbers_less : (i j : ℕ) → i < count → j < count → rank_of i < rank_of j → i < j
-  numbers_less i j here there less = elim (cases_order i j) [
-    | inl same ↦ absurd (omega (arith, less, ap rank_of same))
-    | inr (inl before) ↦ before
-    | inr (inr after) ↦ (let more = ranks_less j i after here in absurd (omega arith))
-  ]
+  numbers_less i j here there less = grind (arith, common_steps, cases_order, ranks_less)
 
   pub number_of : (rank : ℕ) → rank < node.below → is_met node.over (rank ∷ node.set) ≡ true → (k : ℕ) × (k < count) × (rank_of k ≡ rank)
-  number_of rank less h =
-      let c = Contains-from_Member rank ranks (Member-from_has ranks rank (is.all rank less h)) in (c.0, c.1, get_or_default ranks c.0 0 rank c.1 ∙ c.2)
+  number_of rank less h = let c = Contains-from_Member rank ranks (Member-from_has ranks rank (is.all rank less h)) in grind (arith, common_steps)
 
   -- ---- the pattern base of the set with one more rank
 

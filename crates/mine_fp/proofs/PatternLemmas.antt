@@ -1,8 +1,9 @@
 -- Pattern bases of nodes: their single branches and trees.
-use Rattle.std.proofs.Common.{◌≡◌, ℕ, ◌<◌, ◌≤◌, Bool, true, false, not, ◌&&◌, List, [], ◌∷◌, ◌++◌, cond, ltb, get_or, length, map, Option, None, Some, refl, sym, ap, ◌∙◌, subst, inl, inr, arith}
+use Rattle.std.proofs.Common.{◌≡◌, ℕ, ◌<◌, ◌≤◌, Bool, true, false, ◌&&◌, List, [], ◌∷◌, ◌++◌, cond, ltb, get_or, length, map, Option, refl, sym, ap, ◌∙◌, subst, inl, inr, arith}
+use Rattle.std.proofs.lemmas.Grind.{common_steps}
 use Rattle.std.specs.List.{list_all, range_with_len}
 use Rattle.std.specs.Prelude.{IfNone}
-use Rattle.std.proofs.lemmas.Bool.{and_from, and_parts, lt-ltb, ltb-true}
+use Rattle.std.proofs.lemmas.Bool.{and_from, and_parts, lt-ltb}
 use Rattle.std.proofs.lemmas.List.{get_or-map, get_or_default, length-map}
 use Rattle.std.proofs.lemmas.List.Elements.{recursion_from_All}
 use Rattle.basket_sets.specs.declared.weighted.Weighted.{Weighted}
@@ -34,9 +35,7 @@ branch_has baskets h place m i j less n =
 
 -- scratch memory with a slot for each rank has one for each that is kept
 pub slots_below : {base below : PatternBase} {number : ℕ} {before after : ClassScratch} → IsBelow base number below → number < base.paths.ranks → HaveSlots before base → KeepSlots before after → HaveSlots after below
-slots_below {base} {below} {number} is less slots kept =
-    let short = kept_short base.paths.baskets base.least number in
-    record { sums = omega (arith, is.conditional.ranks, short, less, slots.sums, kept.0); places = omega (arith, is.conditional.ranks, short, less, slots.places, kept.1) }
+slots_below {base} {below} {number} is less slots kept = grind (arith, common_steps, kept_short)
 
 module _ {base : PatternBase} {node : Node} (is : IsBase base node) where
   abbrev baskets : List Weighted
@@ -58,14 +57,10 @@ module _ {base : PatternBase} {node : Node} (is : IsBase base node) where
   joined rank = ltb rank node.below && is_frequent baskets base.coded.now.minimum (rank ∷ full)
 
   joins : (rank : ℕ) → rank < node.below → is_met node.over (rank ∷ node.set) ≡ true → joined rank ≡ true
-  joins rank less h =
-      and_from (ltb rank node.below) (is_frequent baskets base.coded.now.minimum (rank ∷ full)) (lt-ltb rank node.below less)
-      (ap (λ set. is_frequent baskets base.coded.now.minimum (rank ∷ set)) (sym is.first.1) ∙ sym (tests is.numbered (rank ∷ node.set)) ∙ h)
+  joins rank less h = grind (arith, common_steps, and_from, lt-ltb, tests)
 
   joined_parts : (rank : ℕ) → joined rank ≡ true → (rank < node.below) × (is_met node.over (rank ∷ node.set) ≡ true)
-  joined_parts rank h =
-      let p = and_parts (ltb rank node.below) (is_frequent baskets base.coded.now.minimum (rank ∷ full)) h in
-      (ltb-true rank node.below p.0, tests is.numbered (rank ∷ node.set) ∙ ap (λ set. is_frequent baskets base.coded.now.minimum (rank ∷ set)) is.first.1 ∙ p.1)
+  joined_parts rank h = grind (arith, common_steps)
 
   joins_number : (k : ℕ) → k < length (ranks_of base) → joined (rank_of is.numbered k) ≡ true
   joins_number k here =
@@ -76,9 +71,7 @@ module _ {base : PatternBase} {node : Node} (is : IsBase base node) where
   one_support i here = ap (λ set. support_of baskets (rank_of is.numbered i ∷ set)) (sym is.first.1) ∙ support_numbers is.numbered (i ∷ []) (more_below is.numbered i [] here (none_below is.numbered))
 
   two_support : (i j : ℕ) → i < length (ranks_of base) → j < length (ranks_of base) → support_of baskets (rank_of is.numbered i ∷ rank_of is.numbered j ∷ full) ≡ support_of paths (i ∷ j ∷ [])
-  two_support i j here there =
-      ap (λ set. support_of baskets (rank_of is.numbered i ∷ rank_of is.numbered j ∷ set)) (sym is.first.1)
-      ∙ support_numbers is.numbered (i ∷ j ∷ []) (more_below is.numbered i (j ∷ []) here (more_below is.numbered j [] there (none_below is.numbered)))
+  two_support i j here there = grind (arith, common_steps)
 
   -- ---- the rank of a number, and the support of the set with it
 
@@ -88,8 +81,7 @@ module _ {base : PatternBase} {node : Node} (is : IsBase base node) where
     entry {one} is_at = is_at ∙ sym (get_or_default base.ranks.items at (0, 0) one (omega (arith, inside, length-map base.ranks.items (λ (pair : ℕ × ℕ). pair.0))))
 
     pub entry_rank : {one : ℕ × ℕ} → one ≡ get_or base.ranks.items at one → one.0 ≡ get_or (ranks_of base) at 0
-    entry_rank {one} is_at = ap (λ (pair : ℕ × ℕ). pair.0) (entry is_at)
-        ∙ sym (get_or-map (λ (pair : ℕ × ℕ). pair.0) base.ranks.items at (0, 0) 0 (omega (arith, inside, length-map base.ranks.items (λ (pair : ℕ × ℕ). pair.0))))
+    entry_rank {one} is_at = grind (arith, common_steps)
 
     pub rank_known : get_or (ranks_of base) at 0 < length base.coded.now.items
     rank_known = let less = is.numbered.low (get_or (ranks_of base) at 0) (has-from_Member (ranks_of base) (get_or (ranks_of base) at 0) (Member-at (ranks_of base) at inside)) in let most = is.numbered.known in omega arith
@@ -146,12 +138,8 @@ module _ {base : PatternBase} {node : Node} (is : IsBase base node) where
 
   -- below a single branch there is no tree
   no_tree : straight ≡ true → (rank : ℕ) (more : List ℕ) → has_tree baskets base.coded.now.minimum (rank ∷ more ++ full) ≡ false
-  no_tree h rank [] = ap (λ b. not b && has_tree baskets base.coded.now.minimum full) h
-  no_tree h rank (x ∷ more) = ap (λ b. not (is_straight baskets base.coded.now.minimum (x ∷ more ++ full)) && b) (no_tree h x more) ∙ and_false (not (is_straight baskets base.coded.now.minimum (x ∷ more ++ full)))
-    where
-      and_false : (b : Bool) → (b && false) ≡ false
-      and_false true = refl
-      and_false false = refl
+  no_tree h rank [] = grind (arith, common_steps)
+  no_tree h rank (x ∷ more) = grind (arith, common_steps, no_tree h x more)
 
   pub base_is_straight : is_branch paths ≡ true → IsStraight node
   base_is_straight branch =
@@ -176,10 +164,7 @@ module _ {base : PatternBase} {node : Node} (is : IsBase base node) where
   module _ (branches : is_branch paths ≡ false) where
     -- a tree is made for each set with one more rank
     pub tree_more : (rank : ℕ) → has_tree baskets base.coded.now.minimum (rank ∷ node.set) ≡ true
-    tree_more rank =
-        ap (λ set. has_tree baskets base.coded.now.minimum (rank ∷ set)) is.first.1
-        ∙ ap (λ b. not b && has_tree baskets base.coded.now.minimum full) (branch_is ∙ branches)
-        ∙ sym (ap (has_tree baskets base.coded.now.minimum) is.first.1) ∙ is.tree
+    tree_more rank = grind (arith, common_steps, branch_is)
 
     pub base_below : (number : ℕ) → number < length (ranks_of base) → (below : PatternBase) → IsBelow base number below → IsBase below (child node (rank_of is.numbered number))
     base_below number here below is_below = record {
@@ -194,5 +179,4 @@ module _ {base : PatternBase} {node : Node} (is : IsBase base node) where
 
 -- what follows if there is no value
 pub none_then : {X : Type 0} (o : Option X) {P Q : Type 0} → IfNone o P → (P → Q) → IfNone o Q
-none_then None h f = f h
-none_then (Some x) h f = h
+none_then h1 h2 h3 = grind (arith, common_steps)

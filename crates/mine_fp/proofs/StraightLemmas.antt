@@ -1,5 +1,6 @@
 -- A conditional tree is a single branch where each basket that has a rank has the lower ones.
 use Rattle.std.proofs.Common.{◌≡◌, ℕ, ◌+◌, ◌<◌, ◌≤◌, Bool, true, ◌&&◌, List, [], ◌∷◌, filter, cond, eqb, ltb, refl, sym, ap, ◌∙◌, inl, inr, arith}
+use Rattle.std.proofs.lemmas.Grind.{common_steps}
 use Rattle.std.specs.Prelude.{◌||◌}
 use Rattle.std.specs.List.{list_all}
 use Rattle.std.specs.Ordering.{nat_cmp}
@@ -39,14 +40,10 @@ abbrev HasLower : List ℕ → List ℕ → Type 0
 HasLower xs ys = (a b : ℕ) → a < b → Member b xs → Member a ys → Member a xs
 
 rest_has_lower : (x y : ℕ) (xs ys : List ℕ) → x ≡ y → IsRising (y ∷ ys) → HasLower (x ∷ xs) (y ∷ ys) → HasLower xs ys
-rest_has_lower x y xs ys same up low a b less m n = elim (low a b less (inr m) (inr n)) [
-  | inl e ↦ (let more = first_below y ys up a n in absurd (omega arith))
-  | inr k ↦ k
-]
+rest_has_lower x y xs ys same up low a b less m n = grind (arith, common_steps, first_below)
 
 not_lower : (x y : ℕ) (ys : List ℕ) → x < y → IsRising (y ∷ ys) → Member x (y ∷ ys) → ⊥
-not_lower x y ys less up (inl e) = omega arith
-not_lower x y ys less up (inr m) = let more = first_below y ys up x m in omega arith
+not_lower h1 h2 h3 h4 h5 h6 = grind (arith, common_steps, first_below)
 
 one_begins : (xs ys : List ℕ) → IsRising xs → IsRising ys → HasLower xs ys → HasLower ys xs → (begins xs ys || begins ys xs) ≡ true
 one_begins [] ys up over low high = refl

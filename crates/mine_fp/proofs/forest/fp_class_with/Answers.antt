@@ -1,4 +1,5 @@
-use Rattle.std.proofs.Common.{◌≡◌, ◌<◌, ◌≤◌, ◌∷◌, ◌∙◌, [], false, ap, length, subst, sym, arith}
+use Rattle.std.proofs.Common.{◌≡◌, ◌<◌, ◌≤◌, ◌∷◌, [], false, ap, length, subst, sym, arith}
+use Rattle.std.proofs.lemmas.Grind.{common_steps}
 use Rattle.std.proofs.lemmas.Result.{IfOk-weaker}
 use Rattle.basket_ranks.specs.Codes.{Coding}
 use Rattle.basket_sets.specs.Frequent.{is_frequent}
@@ -12,9 +13,7 @@ use Rattle.mine_fp.proofs.TreesLemmas.{rare_trees, trees_few}
 use Rattle.mine_fp.proofs.forest.fp_class_with.Goals as goal
 
 pub index-requires : goal.index-requires
-index-requires g c =
-    let all = c.forest.inside.all in
-    omega (arith, c.requires.rank, ap (λ (v : Coding). length v.items) c.forest.view_is, entries c.forest.invariant, c.forest.invariant.count, all.ranks.ok.0)
+index-requires g c = grind (arith, common_steps, entries)
 
 pub returns-then-support-all-clause-class : goal.returns-then-support-all-clause-class
 returns-then-support-all-clause-class g c =
@@ -23,10 +22,7 @@ returns-then-support-all-clause-class g c =
     mining_none (subst (λ (v : Coding). is_frequent v.baskets v.minimum (c.args.rank ∷ []) ≡ false) c.forest.view_is not) c.in_ok-none.ensures c.requires.going
 
 pub returns-then-support-all-clause-trees : goal.returns-then-support-all-clause-trees
-returns-then-support-all-clause-trees g c =
-    let here = subst (λ (v : Coding). c.args.rank < length v.items) (sym c.forest.view_is) c.requires.rank in
-    let not = rare c.forest.invariant c.args.rank (omega (arith, c.if-support-all.true, entry_support c.forest.invariant c.args.rank here c.index.ensures)) in
-    sym (subst (λ (v : Coding). class_trees v c.args.rank ≡ 0) c.forest.view_is (rare_trees c.forest.inside.all.coded.now c.args.rank not))
+returns-then-support-all-clause-trees g c = grind (arith, common_steps, rare, entry_support, rare_trees)
 
 pub below-requires-clause-long : goal.below-requires-clause-long
 below-requires-clause-long g c = omega (arith, entries c.forest.invariant, c.forest.inside.all.ranks.ok.0)
@@ -46,14 +42,7 @@ list-requires-clause-lent g c = λ inner e.
     slots_below (rw e at c.in_ok-below.ensures.below) (omega (arith, c.requires.rank, same, c.forest.invariant.count)) slots c.below.ensures.kept
 
 pub returns-clause-trees : goal.returns-clause-trees
-returns-clause-trees g c =
-    let all = c.forest.inside.all in
-    let here = subst (λ (v : Coding). c.args.rank < length v.items) (sym c.forest.view_is) c.requires.rank in
-    let over = supports_in all.coded.now all.least in
-    let class = class_of_rank c.forest.invariant c.args.rank here c.index.ensures (omega (arith, c.if-support-all.false)) c.in_ok-below.ensures.none c.in_ok-below.ensures.below in
-    let made = trees_made c.forest.invariant c.args.rank here c.index.ensures (omega (arith, c.if-support-all.false)) in
-    IfOk-weaker c.list.result _ (λ mined. mined.1 ≡ class_trees c.args.forest.now c.args.rank)
-    (λ mined work. omega (arith, work over class, c.in_ok-below.ensures.trees, c.none-trees.ensures) ∙ made ∙ ap (λ (v : Coding). class_trees v c.args.rank) c.forest.view_is) c.list.ensures.work
+returns-clause-trees g c = grind (arith, common_steps, class_of_rank, trees_made, IfOk-weaker)
 
 pub returns-clause-few : goal.returns-clause-few
 returns-clause-few g c =

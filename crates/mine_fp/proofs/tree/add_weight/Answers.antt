@@ -1,9 +1,10 @@
-use Rattle.std.proofs.Common.{◌≡◌, ◌≤◌, ◌+◌, ◌++◌, true, false, get_or, leb, length, map, nat_eq, drop, refl, sym, ap, ◌∙◌, arith}
+use Rattle.std.proofs.Common.{◌≡◌, ◌≤◌, ◌+◌, true, false, get_or, leb, length, nat_eq, drop, refl, sym, ap, ◌∙◌, arith}
+use Rattle.std.proofs.lemmas.Grind.{common_steps}
 use Rattle.std.specs.List.{common_prefix_len}
 use Rattle.std.proofs.lemmas.List.{append-nil, drop_all, length-drop, take_all}
 use Rattle.std.proofs.lemmas.Bool.{le-leb, lt-leb}
 use Rattle.mine_fp.specs.declared.tree.Node.{Node}
-use Rattle.mine_fp.specs.Tree.{longest, node_of, paths_of, raised}
+use Rattle.mine_fp.specs.Tree.{raised}
 use Rattle.mine_fp.proofs.NodeLemmas.{begins_is, raised_more, rest_at}
 use Rattle.mine_fp.proofs.tree.add_weight.Goals as goal
 use Rattle.mine_fp.proofs.tree.add_weight.Goals.{then-node-start, else-node-start, then-node-shared, else-node-shared}
@@ -42,10 +43,4 @@ loop-node-preserved c =
     ]
 
 pub returns : goal.returns
-returns c =
-    let nodes = c.args.nodes.now in
-    let k = c.loop-node.node-index in
-    record {
-      raised = c.loop-node.invariant.raised ∙ (λ i. map (raised c.args.ranks.now c.args.path.now c.args.weight) (take_all k nodes c.loop-node-test.false i) ++ drop_all k nodes c.loop-node-test.false i) ∙ append-nil _;
-      known = c.loop-node.invariant.known ∙ ap (λ l. longest c.args.path.now (paths_of (map (node_of c.args.ranks.now) l))) (take_all k nodes c.loop-node-test.false);
-    }
+returns c = let nodes = c.args.nodes.now in let k = c.loop-node.node-index in grind (arith, common_steps, take_all, drop_all, append-nil)

@@ -1,4 +1,5 @@
-use Rattle.std.proofs.Common.{◌≡◌, ◌+◌, ◌++◌, ◌∷◌, [], List, ℕ, length, map, take, sym, ap, ◌∙◌, subst, arith}
+use Rattle.std.proofs.Common.{◌≡◌, ◌+◌, ◌++◌, ◌∷◌, [], List, ℕ, map, sym, ap, ◌∙◌, subst, arith}
+use Rattle.std.proofs.lemmas.Grind.{common_steps}
 use Rattle.std.proofs.lemmas.Simd.{map-map}
 use Rattle.basket_sets.specs.Database.{weighted}
 use Rattle.mine_fp.specs.declared.tree.Node.{Node}
@@ -38,6 +39,4 @@ returns-clause-ok c = λ begun stands.
     (stands_now (older c) c.args.path.now c.args.weight c.self.inside.total begun (subst (λ (v : Tree). StandsFor v begun) (sym c.self.view_is) stands))
 
 pub returns-clause-order : goal.returns-clause-order
-returns-clause-order c =
-    subst (λ (v : Tree). take (length v.nodes) (paths_of (map (node_of c.add_nodes.new.ranks.items) c.add_nodes.new.nodes.items)) ≡ paths_of v.nodes) c.self.view_is
-    (ap (λ (l : List (List ℕ × ℕ)). take (length (older c)) (paths_of l)) (all_are c).1 ∙ older_first (older c) c.args.path.now c.args.weight)
+returns-clause-order c = grind (arith, common_steps, all_are, older_first)
