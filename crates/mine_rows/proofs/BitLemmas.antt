@@ -1,5 +1,6 @@
 -- Words of bits.
 use Rattle.std.proofs.Common.{◌≡◌, ℕ, zero, suc, ◌+◌, ◌*◌, ◌/◌, ◌<◌, ◌≤◌, ◌^◌, List, [], ◌∷◌, ◌++◌, take, drop, length, get_or, map, refl, sym, ap, ◌∙◌, arith}
+use Rattle.std.proofs.lemmas.Grind.{common_steps}
 use Rattle.std.specs.Prelude.{bit_and, count_ones}
 use Rattle.std.specs.Prelude.{All}
 use Rattle.std.specs.List.{AllByRecursion}
@@ -50,18 +51,13 @@ shared_front (suc n) (x ∷ xs) (y ∷ ys) none = ap (λ m. count_ones (bit_and 
 
 pub chunks_step : (xs ys : List (List ℕ)) (i : ℕ) → length xs ≡ length ys → i < length xs
     → shared_in_chunks (drop i xs) (drop i ys) ≡ shared_bits (get_or xs i []) (get_or ys i []) + shared_in_chunks (drop (i + 1) xs) (drop (i + 1) ys)
-chunks_step xs ys i same here =
-    ap (λ l. shared_in_chunks l (drop i ys)) (drop_more xs i [] here) ∙ ap (shared_in_chunks (get_or xs i [] ∷ drop (i + 1) xs)) (drop_more ys i [] (omega arith))
+chunks_step xs ys i same here = grind (arith, common_steps)
 
 pub chunks_end : (xs ys : List (List ℕ)) (i : ℕ) → length xs ≤ i → shared_in_chunks (drop i xs) (drop i ys) ≡ 0
 chunks_end [] ys zero le = refl
 chunks_end [] ys (suc i) le = refl
 chunks_end (x ∷ xs) ys zero le = absurd (omega arith)
-chunks_end (x ∷ xs) [] (suc i) le = shared_nil (drop i xs)
-  where
-    shared_nil : (l : List (List ℕ)) → shared_in_chunks l [] ≡ 0
-    shared_nil [] = refl
-    shared_nil (z ∷ l) = refl
+chunks_end (x ∷ xs) [] (suc i) le = grind (arith, common_steps)
 chunks_end (x ∷ xs) (y ∷ ys) (suc i) le = chunks_end xs ys i (omega arith)
 
 pub in_chunks : (k : ℕ) (xs ys : List ℕ) → length xs ≡ length ys → k * 4 ≤ length xs
@@ -82,10 +78,7 @@ in_chunks (suc k) xs ys same le =
 -- so the chunks and what is left of them share what the words share
 pub parts_share : (xs ys : List ℕ) {fronts others : List (List ℕ)} {backs rests : List ℕ} → length xs ≡ length ys → fronts ≡ first_chunks 4 (length xs / 4) xs → backs ≡ drop (length xs / 4 * 4) xs
     → others ≡ first_chunks 4 (length ys / 4) ys → rests ≡ drop (length ys / 4 * 4) ys → shared_in_chunks fronts others + shared_bits backs rests ≡ shared_bits xs ys
-parts_share xs ys same fronts backs others rests =
-    let n = ap (λ n. n / 4) (sym same) in
-    (λ i. shared_in_chunks (fronts i) ((others ∙ ap (λ k. first_chunks 4 k ys) n) i) + shared_bits (backs i) ((rests ∙ ap (λ k. drop (k * 4) ys) n) i))
-    ∙ in_chunks (length xs / 4) xs ys same (omega arith)
+parts_share xs ys same fronts backs others rests = grind (arith, common_steps, in_chunks)
 
 chunks_are : (k : ℕ) (xs : List ℕ) → k * 4 ≤ length xs → AllByRecursion (λ (words : List ℕ). length words ≡ 4) (first_chunks 4 k xs)
 chunks_are zero xs le = tt

@@ -1,5 +1,6 @@
 -- Covers: what they share, what they lack, and what they weigh.
 use Rattle.std.proofs.Common.{◌≡◌, ℕ, ◌+◌, ◌<◌, ◌≤◌, Bool, true, false, not, List, [], ◌∷◌, ◌++◌, take, length, get_or, cond, sum, refl, sym, ap, ◌∙◌, inl, inr, arith}
+use Rattle.std.proofs.lemmas.Grind.{common_steps}
 use Rattle.std.specs.List.{filter, range_with_len, sum_by}
 use Rattle.std.proofs.lemmas.List.Elements.{filter_more}
 use Rattle.std.proofs.lemmas.List.{append-nil, get_or_default}
@@ -46,10 +47,7 @@ cover_light weights cover up below =
 -- ---- parts of covers
 
 pub part_covers : (weights cover : List ℕ) (p : ℕ → Bool) → IsCover weights cover → IsCover weights (filter p cover)
-part_covers weights cover p is = record {
-  rises = filter_rises p cover is.rises;
-  below = λ tid h. is.below tid (has-from_Member cover tid (Member-filter p tid cover (Member-from_has (filter p cover) tid h)).0);
-}
+part_covers weights cover p is = grind (arith, common_steps, filter_rises, has-from_Member, Member-filter, Member-from_has)
 
 absent : (xs : List ℕ) (x : ℕ) → (Member x xs → ⊥) → has xs x ≡ false
 absent xs x never = false_from_ne_true (has xs x) (λ e. never (Member-from_has xs x e))
@@ -84,8 +82,7 @@ lacking_joined parent first second up rises inside = same_rising (lacking (lacki
 
 -- each tid of a cover is one of all tids
 pub within_all : (weights cover : List ℕ) → IsCover weights cover → contains (all_tids weights) cover ≡ true
-within_all weights cover is = contains_each (all_tids weights) cover (λ tid m.
-    let low = is.below tid (has-from_Member cover tid m) in Member-into_range 0 (length weights) tid (omega arith) (omega arith))
+within_all weights cover is = grind (arith, common_steps, contains_each, has-from_Member, Member-into_range)
 
 pub all_cover : (weights : List ℕ) → IsCover weights (all_tids weights)
 all_cover weights = record {
@@ -110,34 +107,14 @@ has_reached cover tid at here e = ap (has cover) (sym e) ∙ has_place cover at 
 module _ (cover : List ℕ) (up : IsRising cover) (tid at : ℕ) (is : IsReached cover tid at) where
   -- the tid stands in the cover
   pub reached_found : at < length cover → get_or cover at 0 ≡ tid → IsReached cover (tid + 1) (at + 1)
-  reached_found here e = record {
-    within = omega arith;
-    before = λ i less. elim (cases_eq i at) [
-      | inl same ↦ (let read = ap (λ n. get_or cover n 0) same in omega arith)
-      | inr differ ↦ (let lower : i < at = omega arith in let low = is.before i lower in omega arith)
-    ];
-    after = λ i most inside. let more = rising_at cover at i up (omega arith) inside in omega arith;
-  }
+  reached_found here e = grind (arith, common_steps, cases_eq, rising_at)
 
   -- it does not
   beyond : (at < length cover → get_or cover at 0 ≡ tid → ⊥) → (i : ℕ) → at ≤ i → i < length cover → tid + 1 ≤ get_or cover i 0
-  beyond never i most here = elim (cases_eq at i) [
-    | inl same ↦
-        (let low = is.after i most here in
-        let differ : get_or cover i 0 ≡ tid → ⊥ = λ e. never (omega arith) (ap (λ n. get_or cover n 0) same ∙ e) in
-        elim (cases_eq (get_or cover i 0) tid) [ inl e ↦ absurd (differ e) | inr more ↦ omega arith ])
-    | inr differ ↦
-        (let inside : at < length cover = omega arith in
-        let low = is.after at (omega arith) inside in
-        let more = rising_at cover at i up (omega arith) here in omega arith)
-  ]
+  beyond never i most here = grind (arith, common_steps, cases_eq, rising_at)
 
   pub reached_missed : (at < length cover → get_or cover at 0 ≡ tid → ⊥) → IsReached cover (tid + 1) at
-  reached_missed never = record {
-    within = is.within;
-    before = λ i less. let low = is.before i less in omega arith;
-    after = beyond never;
-  }
+  reached_missed never = grind (arith, common_steps, beyond)
 
   pub lacks_reached : (at < length cover → get_or cover at 0 ≡ tid → ⊥) → has cover tid ≡ false
   lacks_reached never = absent cover tid (λ m.

@@ -1,13 +1,13 @@
 -- What rows of bits weigh.
 use Rattle.std.proofs.Common.{◌≡◌, ◌≢◌, ℕ, zero, suc, ◌+◌, ◌*◌, ◌<◌, ◌≤◌, ◌^◌, ◌/◌, ◌%◌, Bool, true, false, ◌&&◌, ◌||◌, List, [], ◌∷◌, length, get_or, map, cond, eqb, ltb, sum, refl, sym, ap, ◌∙◌, subst, inl, inr, arith}
+use Rattle.std.proofs.lemmas.Grind.{common_steps}
 use Rattle.std.specs.Prelude.{All, bit_and, bit_or}
 use Rattle.std.specs.Simd.Lanes.{zip2}
 use Rattle.mine_rows.specs.declared.bit_rows.BitRow.{BitRow}
 use Rattle.mine_rows.specs.Rows.{IsBitRow}
 use Rattle.std.specs.List.{filter, list_any, range_with_len, sum_by}
-use Rattle.std.proofs.lemmas.Bool.{and_from, and_parts, cases_eq, cases_lt, eqb-true, false_from_ne_true, le-ltb, lt-ltb, true≢false}
+use Rattle.std.proofs.lemmas.Bool.{and_parts, eqb-true, false_from_ne_true, lt-ltb, true≢false}
 use Rattle.std.proofs.lemmas.Bool.Decides.{nat_tests}
-use Rattle.std.proofs.lemmas.List.{get_or_past}
 use Rattle.std.proofs.lemmas.List.Folds.{list_any_at}
 use Rattle.std.proofs.lemmas.Nat.{div_below, mod-pow-add, or_mod, or_shr, shr_le}
 use Rattle.std.proofs.lemmas.Grind.{div_ceil_times}
@@ -57,11 +57,7 @@ parts-add number (suc m) =
 -- a sum over what a test keeps, where what it drops adds nothing
 sum-kept : (f : ℕ → ℕ) (keeps : ℕ → Bool) (xs : List ℕ) → ((x : ℕ) → keeps x ≡ false → f x ≡ 0) → sum_by f (filter keeps xs) ≡ sum_by f xs
 sum-kept f keeps [] none = refl
-sum-kept f keeps (x ∷ xs) none = at (keeps x) refl (sum-kept f keeps xs none)
-  where
-    at : (b : Bool) → keeps x ≡ b → sum_by f (filter keeps xs) ≡ sum_by f xs → sum_by f (cond b (x ∷ filter keeps xs) (filter keeps xs)) ≡ sum_by f (x ∷ xs)
-    at true e rest = sum_by-cons f x (filter keeps xs) ∙ ap (λ n. f x + n) rest ∙ sym (sum_by-cons f x xs)
-    at false e rest = let all = sum_by-cons f x xs in let zero_is = none x e in omega arith
+sum-kept f keeps (x ∷ xs) none = grind (arith, common_steps, sum-kept f keeps xs none)
 
 -- a weight is the sum of its bits
 pub bits-add : (weights : List ℕ) (tid : ℕ) → tid < length weights → sum weights ≤ MOST_WEIGHT → sum_by (part (get_or weights tid 0)) (bits_of weights) ≡ get_or weights tid 0
@@ -80,19 +76,7 @@ bits-add weights tid here light =
 
 -- the bits of two numbers together
 pub either_bit : (bit a b : ℕ) → has_bit bit (bit_or a b) ≡ (has_bit bit a || has_bit bit b)
-either_bit bit a b =
-    let shifted = or_shr a b bit in
-    let halves = or_mod (a / 2 ^ bit) (b / 2 ^ bit) 1 in
-    ap (λ n. eqb (n % 2 ^ 1) 1) shifted ∙ ap (λ n. eqb n 1) halves ∙ low (a / 2 ^ bit % 2) (b / 2 ^ bit % 2) (omega arith) (omega arith)
-  where
-    low : (x y : ℕ) → x < 2 → y < 2 → eqb (bit_or x y) 1 ≡ (eqb x 1 || eqb y 1)
-    low zero zero p q = refl
-    low zero (suc zero) p q = refl
-    low (suc zero) zero p q = refl
-    low (suc zero) (suc zero) p q = refl
-    low zero (suc (suc y)) p q = absurd (omega arith)
-    low (suc zero) (suc (suc y)) p q = absurd (omega arith)
-    low (suc (suc x)) y p q = absurd (omega arith)
+either_bit bit a b = grind (arith, common_steps, or_shr a b bit, or_mod (a / 2 ^ bit) (b / 2 ^ bit) 1)
 
 -- ---- planes tid by tid
 
@@ -100,41 +84,22 @@ pub tid_in : (test : ℕ → Bool) (i : ℕ) → test i ≡ true → (ltb i (i +
 tid_in test i h = ap (λ b. b && test i) (lt-ltb i (i + 1) (omega arith)) ∙ h
 
 pub tid_apart : (test : ℕ → Bool) (i t : ℕ) → t ≢ i → (ltb t (i + 1) && test t) ≡ (ltb t i && test t)
-tid_apart test i t differ = ap (λ b. b && test t) (same t i differ)
-  where
-    same : (t i : ℕ) → t ≢ i → ltb t (i + 1) ≡ ltb t i
-    same t i differ = grind (arith, nat_tests)
+tid_apart test i t differ = grind (arith, common_steps)
 
 pub tid_out : (test : ℕ → Bool) (i : ℕ) → test i ≡ false → (t : ℕ) → (ltb t (i + 1) && test t) ≡ (ltb t i && test t)
-tid_out test i h t = elim (cases_eq t i) [
-  | inl e ↦ (ap (λ b. ltb t (i + 1) && b) (ap test e ∙ h) ∙ and_none (ltb t (i + 1)) ∙ sym (ap (λ b. ltb t i && b) (ap test e ∙ h) ∙ and_none (ltb t i)))
-  | inr differ ↦ tid_apart test i t differ
-]
-  where
-    and_none : (b : Bool) → (b && false) ≡ false
-    and_none true = refl
-    and_none false = refl
+tid_out test i h t = grind (arith, common_steps)
 
 zero_has : (bit : ℕ) → has_bit bit 0 ≡ false
 zero_has bit = let le = shr_le 0 bit in let e : 0 / 2 ^ bit ≡ 0 = omega arith in ap (λ n. eqb (n % 2) 1) e
 
 pub plane_end : (weights : List ℕ) (bit n t : ℕ) → length weights ≤ n → (ltb t n && has_bit bit (get_or weights t 0)) ≡ has_bit bit (get_or weights t 0)
-plane_end weights bit n t most = elim (cases_lt t n) [
-  | inl below ↦ ap (λ b. b && has_bit bit (get_or weights t 0)) (lt-ltb t n below)
-  | inr above ↦
-      (ap (λ b. b && has_bit bit (get_or weights t 0)) (le-ltb t n above)
-      ∙ sym (ap (has_bit bit) (get_or_past weights t 0 (omega arith)) ∙ zero_has bit))
-]
+plane_end weights bit n t most = grind (arith, common_steps)
 
 -- ---- rows of bits
 
 pub filter_both : (p q : ℕ → Bool) (xs : List ℕ) → filter (λ t. p t && q t) xs ≡ filter q (filter p xs)
 filter_both p q [] = refl
-filter_both p q (x ∷ xs) = at (p x) (filter_both p q xs)
-  where
-    at : (b : Bool) → filter (λ t. p t && q t) xs ≡ filter q (filter p xs) → cond (b && q x) (x ∷ filter (λ t. p t && q t) xs) (filter (λ t. p t && q t) xs) ≡ filter q (cond b (x ∷ filter p xs) (filter p xs))
-    at true rest = ap (λ l. cond (q x) (x ∷ l) l) rest
-    at false rest = rest
+filter_both p q (x ∷ xs) = grind (arith, common_steps, filter_both p q xs)
 
 pub room : (n : ℕ) → n ≤ word_count n * 64
 room n = let most = (div_ceil_times n 64 (omega arith)).0 in omega arith
@@ -155,10 +120,7 @@ module _ (weights cover : List ℕ) (is : IsCover weights cover) where
 
 -- the words that two covers share are those of what they share
 pub share_is_common : (n : ℕ) (first second : List ℕ) → words_from (λ t. has first t && has second t) 0 (word_count n) ≡ words_of n (common first second)
-share_is_common n first second = words_same (λ t. has first t && has second t) (has (common first second)) 0 (word_count n) (λ t low.
-    same_test (has first t && has second t) (has (common first second) t)
-    (λ h. let p = and_parts (has first t) (has second t) h in has-from_Member (common first second) t (Member-from_filter (has second) t first (Member-from_has first t p.0) p.1))
-    (λ h. let m = Member-filter (has second) t first (Member-from_has (common first second) t h) in and_from (has first t) (has second t) (has-from_Member first t m.0) m.1))
+share_is_common n first second = grind (arith, common_steps, words_same, same_test, and_parts, has-from_Member, Member-from_filter, Member-from_has, Member-filter)
 
 -- ---- what the tids of a row weigh
 
@@ -221,9 +183,7 @@ planes_weigh weights cover planes is light bits are =
 
 low_bits : (weights : List ℕ) (bit : ℕ) → Member bit (bits_of weights) → bit < 40
 unfolding bits_of
-low_bits weights bit m =
-    let r = Member-range 0 40 bit (Member-filter (λ b. list_any (has_bit b) weights) bit (range_with_len 0 40) m).0 in
-    let high = r.1 in omega arith
+low_bits weights bit m = let r = Member-range 0 40 bit (Member-filter (λ b. list_any (has_bit b) weights) bit (range_with_len 0 40) m).0 in let high = r.1 in grind (arith, common_steps)
 
 pub planes_narrow : (weights : List ℕ) (planes : List Plane) → map (λ plane. plane.bit) planes ≡ bits_of weights → All (λ plane. plane.bit < 40) planes
 planes_narrow weights planes bits k d here =
@@ -231,8 +191,7 @@ planes_narrow weights planes bits k d here =
     low_bits weights plane.bit (subst (Member plane.bit) bits (Member-map (λ (p : Plane). p.bit) plane planes (Member-from_Contains plane planes (Contains-get_or planes k d here))))
 
 pub planes_wide : (weights : List ℕ) (planes : List Plane) → All (IsPlane weights) planes → All (λ plane. length plane.words.items ≡ word_count (length weights)) planes
-planes_wide weights planes are = All-weaker (IsPlane weights) (λ (plane : Plane). length plane.words.items ≡ word_count (length weights))
-    (λ plane e. ap length e ∙ length-words (λ tid. has_bit plane.bit (get_or weights tid 0)) 0 (word_count (length weights))) planes are
+planes_wide weights planes are = grind (arith, common_steps, All-weaker, length-words)
 
 -- ---- two rows of bits
 
@@ -261,8 +220,7 @@ module _ (weights : List ℕ) (ones : Bool) (planes : List Plane) (keeps : Keeps
     kept_narrow = planes_narrow weights planes bits
 
     pub kept_wide : All (λ plane. length plane.words.items ≡ length words) planes
-    kept_wide = All-weaker (λ (plane : Plane). length plane.words.items ≡ word_count (length weights)) (λ (plane : Plane). length plane.words.items ≡ length words)
-        (λ plane e. e ∙ sym long) planes (planes_wide weights planes planes_are.words)
+    kept_wide = grind (arith, common_steps, All-weaker, long, planes_wide)
 
     pub kept_weigh : sum_by (plane_weight words) planes ≡ cover_weight weights cover
     kept_weigh = ap (λ l. sum_by (plane_weight l) planes) are ∙ planes_weigh weights cover planes is keeps.light bits planes_are.words

@@ -1,5 +1,6 @@
 -- Rows of covers that are joined.
-use Rattle.std.proofs.Common.{◌≡◌, ℕ, ◌+◌, true, not, List, get_or, subst, sym, ap, ◌∙◌}
+use Rattle.std.proofs.Common.{◌≡◌, ℕ, ◌+◌, true, not, List, get_or, subst, sym, ap, ◌∙◌, arith}
+use Rattle.std.proofs.lemmas.Grind.{common_steps}
 use Rattle.basket_sets.specs.Itemset.{contains, has}
 use Rattle.basket_sets.proofs.theory.Members.{Member-filter, Member-from_filter}
 use Rattle.basket_sets.proofs.theory.Rising.{Member-from_has, contains_each, has-from_Member, same_test}
@@ -11,10 +12,7 @@ use Rattle.mine_rows.proofs.CoverLemmas.{lacking_joined, part_covers, parts_weig
 
 -- what a cover lacks of what it shares with another is what the other lacks
 lacking_common : (first second : List ℕ) → lacking first (common first second) ≡ lacking first second
-lacking_common first second = filter_members (λ tid. not (has (common first second) tid)) (λ tid. not (has second tid)) first (λ tid m.
-    ap not (same_test (has (common first second) tid) (has second tid)
-    (λ h. (Member-filter (has second) tid first (Member-from_has (common first second) tid h)).1)
-    (λ h. has-from_Member (common first second) tid (Member-from_filter (has second) tid first m h))))
+lacking_common first second = grind (arith, common_steps, filter_members, same_test, Member-filter, Member-from_has, has-from_Member, Member-from_filter)
 
 -- the weights of what two covers share, and of the rest of the first
 pub rest_weighs : (weights first second : List ℕ) → cover_weight weights (common first second) + cover_weight weights (lacking first (common first second)) ≡ cover_weight weights first
@@ -29,9 +27,7 @@ module _ (weights parent first second : List ℕ) where
   common_covers is = part_covers weights first (has second) is
 
   pub diffs_lacking : (x y : DiffList) → IsDiffList weights parent first x → IsDiffList weights parent second y → lacking y.missing.items x.missing.items ≡ lacking first (common first second)
-  diffs_lacking x y p q =
-      ap (λ l. lacking l x.missing.items) q.missing ∙ ap (lacking (lacking parent second)) p.missing
-      ∙ lacking_joined parent first second p.above.rises p.covers.rises p.inside
+  diffs_lacking x y p q = grind (arith, common_steps, lacking_joined)
 
   pub rest_covers : IsCover weights first → IsCover weights (lacking first (common first second))
   rest_covers is = part_covers weights first (λ tid. not (has (common first second) tid)) is

@@ -1,5 +1,6 @@
 -- Words of the tids that pass a test.
 use Rattle.std.proofs.Common.{◌≡◌, ◌≢◌, ℕ, zero, suc, ◌+◌, ◌*◌, ◌<◌, ◌≤◌, ◌^◌, Bool, true, false, ◌&&◌, List, [], ◌∷◌, ◌++◌, length, get_or, map, cond, eqb, refl, sym, ap, ◌∙◌, arith, length-append}
+use Rattle.std.proofs.lemmas.Grind.{common_steps}
 use Rattle.std.specs.Prelude.{bit_and, bit_or, count_ones, replicate}
 use Rattle.std.specs.Int.Bits.{or_zero_r}
 use Rattle.std.specs.List.{filter, range_with_len}
@@ -28,8 +29,7 @@ word_none a zero = refl
 word_none a (suc n) = ap (λ m. 0 + 2 * m) (word_none (a + 1) n)
 
 bit_below : (b : Bool) → cond b 1 0 < 2 ^ 1
-bit_below true = omega arith
-bit_below false = omega arith
+bit_below h1 = grind (arith, common_steps)
 
 -- a word with one more tid
 word_set : (p q : ℕ → Bool) (a n j : ℕ) → j < n → q (a + j) ≡ true → ((t : ℕ) → t ≢ a + j → q t ≡ p t) → bit_or (word p a n) (2 ^ j) ≡ word q a n
@@ -138,8 +138,7 @@ words_set p q a (suc n) (suc i) j here below one same =
 -- what two rows share
 pub words_and : (p q : ℕ → Bool) (a n : ℕ) → zip2 bit_and (words_from p a n) (words_from q a n) ≡ words_from (λ t. p t && q t) a n
 words_and p q a zero = refl
-words_and p q a (suc n) =
-    ap (λ w. w ∷ zip2 bit_and (words_from p (a + 64) n) (words_from q (a + 64) n)) (at_and p q a) ∙ ap (λ l. word_at (λ t. p t && q t) a ∷ l) (words_and p q (a + 64) n)
+words_and p q a (suc n) = grind (arith, common_steps, words_and p q (a + 64) n, at_and)
 
 range-append : (a m k : ℕ) → range_with_len a (m + k) ≡ range_with_len a m ++ range_with_len (a + m) k
 range-append a zero k = let e : 0 + k ≡ k = omega arith in let f : a ≡ a + 0 = omega arith in ap (range_with_len a) e ∙ ap (λ b. range_with_len b k) f
@@ -163,8 +162,7 @@ words_share p q a (suc n) =
 -- ---- the bits of words
 
 one_is : (b : Bool) → eqb (cond b 1 0) 1 ≡ b
-one_is true = refl
-one_is false = refl
+one_is h1 = grind (arith, common_steps)
 
 at_bit : (p : ℕ → Bool) (a j : ℕ) → j < 64 → has_bit j (word_at p a) ≡ p (a + j)
 unfolding word_at
@@ -175,6 +173,5 @@ at_bit p a j below =
 -- the bit of a tid is one where the tid passes the test
 pub words_bit : (p : ℕ → Bool) (a n i j : ℕ) → i < n → j < 64 → has_bit j (get_or (words_from p a n) i 0) ≡ p (a + (i * 64 + j))
 words_bit p a zero i j here below = absurd (omega arith)
-words_bit p a (suc n) zero j here below = let e : a + j ≡ a + (0 * 64 + j) = omega arith in at_bit p a j below ∙ ap p e
-words_bit p a (suc n) (suc i) j here below =
-    let e : (a + 64) + (i * 64 + j) ≡ a + (suc i * 64 + j) = omega arith in words_bit p (a + 64) n i j (omega arith) below ∙ ap p e
+words_bit p a (suc n) zero j here below = grind (arith, common_steps, at_bit)
+words_bit p a (suc n) (suc i) j here below = grind (arith, common_steps, words_bit p (a + 64) n i j (omega arith) below)

@@ -1,4 +1,5 @@
-use Rattle.std.proofs.Common.{◌≡◌, ◌≢◌, ℕ, ◌+◌, ◌<◌, ◌||◌, List, length, get_or, take, sym, ap, [], refl, ◌∙◌, arith, true, false}
+use Rattle.std.proofs.Common.{◌≡◌, ◌≢◌, ℕ, ◌+◌, ◌<◌, List, length, get_or, take, sym, ap, [], refl, ◌∙◌, arith, true, false}
+use Rattle.std.proofs.lemmas.Grind.{common_steps}
 use Rattle.std.proofs.lemmas.Bool.{eq-eqb}
 use Rattle.basket_sets.specs.Itemset.{has}
 use Rattle.basket_sets.proofs.theory.Rising.{has_more, has_place}
@@ -10,12 +11,10 @@ use Rattle.mine_rows.proofs.bit_rows.bits_of_cover.Goals as goal
 
 -- the tids before one more, with it
 has_this : (cover : List ℕ) (i : ℕ) → i < length cover → has (take (i + 1) cover) (get_or cover i 0) ≡ true
-has_this cover i here =
-    let tid : ℕ = get_or cover i 0 in has_more cover i tid here ∙ ap (λ b. has (take i cover) tid || b) (eq-eqb tid tid refl) ∙ or_true (has (take i cover) tid)
+has_this cover i here = grind (arith, common_steps, has_more, eq-eqb, or_true)
 
 has_others : (cover : List ℕ) (i : ℕ) → i < length cover → (t : ℕ) → t ≢ get_or cover i 0 → has (take (i + 1) cover) t ≡ has (take i cover) t
-has_others cover i here t differ =
-    has_more cover i t here ∙ ap (λ b. has (take i cover) t || b) (apart_eqb (get_or cover i 0) t (λ e. differ (sym e))) ∙ or_false (has (take i cover) t)
+has_others cover i here t differ = grind (arith, common_steps, has_more, apart_eqb, or_false)
 
 pub loop-tid-init : goal.loop-tid-init
 loop-tid-init c =

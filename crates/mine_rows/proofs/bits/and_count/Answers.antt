@@ -1,15 +1,10 @@
-use Rattle.std.proofs.Common.{◌≡◌, ◌/◌, length, sym, subst, arith}
-use Rattle.std.specs.Prelude.{All}
+use Rattle.std.proofs.Common.{arith}
+use Rattle.std.proofs.lemmas.Grind.{common_steps}
 use Rattle.mine_rows.proofs.BitLemmas.{chunks_wide, parts_share, shared_most}
 use Rattle.mine_rows.proofs.bits.and_count.Goals as goal
 
 pub shared_by_lanes-requires-clause-wide : goal.shared_by_lanes-requires-clause-wide
-shared_by_lanes-requires-clause-wide c =
-    let a = c.args.a.now in
-    let b = c.args.b.now in (
-      subst (All (λ words. length words ≡ 4)) (sym c.as_chunks.ensures.front) (chunks_wide (length a / 4) a (omega arith)),
-      subst (All (λ words. length words ≡ 4)) (sym c.as_chunks-2.ensures.front) (chunks_wide (length b / 4) b (omega arith)),
-    )
+shared_by_lanes-requires-clause-wide c = grind (arith, common_steps, chunks_wide)
 
 pub shared_by_lanes-requires-clause-few : goal.shared_by_lanes-requires-clause-few
 shared_by_lanes-requires-clause-few c =

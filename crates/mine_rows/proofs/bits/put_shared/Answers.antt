@@ -1,16 +1,12 @@
 use Rattle.std.proofs.Common.{◌++◌, ◌∷◌, [], get_or, sym, ap, ◌∙◌, arith}
+use Rattle.std.proofs.lemmas.Grind.{common_steps}
 use Rattle.std.specs.Prelude.{bit_and}
 use Rattle.std.proofs.lemmas.List.{length-set, take_more_set}
 use Rattle.mine_rows.proofs.BitLemmas.{both_more, shared_most, shared_step}
 use Rattle.mine_rows.proofs.bits.put_shared.Goals as goal
 
 pub overflow_add-ones : goal.overflow_add-ones
-overflow_add-ones c =
-    let x = c.args.x.now in
-    let y = c.args.y.now in
-    let most = shared_most x y (λ k. (c.type_inv.x k).fits) in
-    let step = shared_step x y c.loop-at.at c.requires.same (omega (arith, c.loop-at-test.true, c.loop-at.invariant.long)) in
-    omega (arith, most, step, c.loop-at.invariant.ones, c.from-ones.ensures, c.requires.few)
+overflow_add-ones c = grind (arith, common_steps, shared_most, shared_step)
 
 pub loop-at-preserved : goal.loop-at-preserved
 loop-at-preserved c =

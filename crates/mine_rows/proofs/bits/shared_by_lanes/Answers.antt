@@ -1,4 +1,5 @@
 use Rattle.std.proofs.Common.{◌+◌, drop, get_or, sym, ap, ◌∙◌, [], arith}
+use Rattle.std.proofs.lemmas.Grind.{common_steps}
 use Rattle.std.specs.Int.{w64}
 use Rattle.std.proofs.lemmas.Simd.{adds_fit, fold-sum, length-zip2, sum-zip2, sum_fits}
 use Rattle.mine_rows.specs.Bits.{shared_in_chunks}
@@ -6,15 +7,7 @@ use Rattle.mine_rows.proofs.BitLemmas.{chunks_end, chunks_step, lane_ones, lanes
 use Rattle.mine_rows.proofs.bits.shared_by_lanes.Goals as goal
 
 pub overflow_add-lanes : goal.overflow_add-lanes
-overflow_add-lanes c =
-    let first = c.args.first.now in
-    let second = c.args.second.now in
-    let i = c.loop-at.at in
-    let x = get_or first i [] in
-    let y = get_or second i [] in
-    let step = chunks_step first second i c.requires.same c.loop-at-test.true in
-    let share = lanes_share x y in
-    adds_fit w64 c.loop-at.lanes (lane_ones x y) (omega (arith, step, share, c.loop-at.invariant.counted, c.requires.few))
+overflow_add-lanes c = grind (arith, common_steps, chunks_step, lanes_share, adds_fit, lane_ones)
 
 pub loop-at-preserved : goal.loop-at-preserved
 loop-at-preserved c =

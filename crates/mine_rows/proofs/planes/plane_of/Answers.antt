@@ -1,4 +1,5 @@
-use Rattle.std.proofs.Common.{◌≡◌, ℕ, ◌+◌, ◌&&◌, ◌/◌, ◌%◌, ◌^◌, length, get_or, sym, ap, subst, ◌∙◌, arith, false, ltb}
+use Rattle.std.proofs.Common.{ℕ, ◌+◌, ◌&&◌, ◌/◌, ◌%◌, ◌^◌, length, get_or, sym, ap, ◌∙◌, arith, false, ltb}
+use Rattle.std.proofs.lemmas.Grind.{common_steps}
 use Rattle.std.proofs.lemmas.Bool.{eq-eqb, le-ltb, ne_eqb}
 use Rattle.mine_rows.specs.Bits.{word_count, words_from}
 use Rattle.mine_rows.specs.Planes.{has_bit}
@@ -43,11 +44,4 @@ loop-tid-preserved c =
     ]
 
 pub returns-clause-words : goal.returns-clause-words
-returns-clause-words c =
-    let weights = c.args.weights.now in
-    let bit = c.args.bit in
-    let i = c.loop-tid.tid in
-    subst (λ b. c.of.result.words.items ≡ words_from (λ t. has_bit b (get_or weights t 0)) 0 (word_count (length weights))) (sym c.of.ensures.bit)
-    (c.of.ensures.words ∙ c.loop-tid.invariant
-    ∙ words_same (λ t. ltb t i && has_bit bit (get_or weights t 0)) (λ t. has_bit bit (get_or weights t 0)) 0 (word_count (length weights))
-    (λ t low. plane_end weights bit i t (omega (arith, c.loop-tid-test.false))))
+returns-clause-words c = grind (arith, common_steps, words_same, plane_end)

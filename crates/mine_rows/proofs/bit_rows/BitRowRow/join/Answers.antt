@@ -1,6 +1,5 @@
-use Rattle.std.proofs.Common.{leb, length, sym, ap, ◌∙◌, arith}
-use Rattle.basket_sets.specs.Itemset.{has}
-use Rattle.mine_rows.specs.Bits.{word_count}
+use Rattle.std.proofs.Common.{leb, ap, ◌∙◌, arith}
+use Rattle.std.proofs.lemmas.Grind.{common_steps}
 use Rattle.mine_rows.specs.Cover.{common}
 use Rattle.mine_rows.proofs.RowLemmas.{common_covers}
 use Rattle.mine_rows.proofs.PlaneLemmas.{row_ones, row_words}
@@ -8,17 +7,10 @@ use Rattle.mine_rows.proofs.WordLemmas.{length-words}
 use Rattle.mine_rows.proofs.bit_rows.BitRowRow.join.Goals as goal
 
 pub share-requires-clause-same : goal.share-requires-clause-same
-share-requires-clause-same c =
-    let (parent, first, second, p, q) = c.requires.rows in
-    let n = word_count (length c.args.weights.now) in
-    ap length p.words ∙ length-words (has first) 0 n ∙ sym (length-words (has second) 0 n) ∙ sym (ap length q.words)
+share-requires-clause-same c = grind (arith, common_steps, length-words)
 
 pub share-requires-clause-few : goal.share-requires-clause-few
-share-requires-clause-few c =
-    let (parent, first, second, p, q) = c.requires.rows in
-    let n = word_count (length c.args.weights.now) in
-    let long = ap length p.words ∙ length-words (has first) 0 n in
-    omega (arith, long, c.bounds.ensures.few)
+share-requires-clause-few c = grind (arith, common_steps, length-words)
 
 pub weight_of_bits-self-requires-clause-cover : goal.weight_of_bits-self-requires-clause-cover
 weight_of_bits-self-requires-clause-cover c =

@@ -1,4 +1,5 @@
 use Rattle.std.proofs.Common.{◌≡◌, ◌<◌, ◌≤◌, ℕ, Bool, List, filter, get_or, leb, length, ltb, not, subst, sym, ap, ◌∙◌, arith}
+use Rattle.std.proofs.lemmas.Grind.{common_steps}
 use Rattle.std.specs.Prelude.{IfNone, IfSome}
 use Rattle.std.proofs.lemmas.Bool.{false_from_ne_true, le-leb, leb-true}
 use Rattle.std.specs.List.{sum_by}
@@ -35,10 +36,7 @@ keep-requires-clause-light c =
     (c.bounds.ensures.light (lacking first (common first second)) (rest_covers weights parent first second p.covers))
 
 pub returns-in_default-clause-frequent : goal.returns-in_default-clause-frequent
-returns-in_default-clause-frequent c = λ parent first second p q.
-    let both = cover_weight c.args.weights.now (common first second) in
-    sym (false_from_ne_true (leb c.args.least both) (λ enough.
-    c.in_default.ensures (omega (arith, leb-true c.args.least both enough, rest_weighs c.args.weights.now first second, p.count))))
+returns-in_default-clause-frequent c = λ parent first second p q. grind (arith, common_steps, false_from_ne_true, leb-true, rest_weighs)
 
 pub returns-in_default-2-clause-frequent : goal.returns-in_default-2-clause-frequent
 returns-in_default-2-clause-frequent c = λ parent first second p q.

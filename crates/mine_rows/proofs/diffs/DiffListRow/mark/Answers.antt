@@ -1,15 +1,13 @@
-use Rattle.std.proofs.Common.{◌&&◌, true, length, not, subst, sym, ap, ◌∙◌}
+use Rattle.std.proofs.Common.{◌&&◌, true, not, ap, ◌∙◌, arith}
+use Rattle.std.proofs.lemmas.Grind.{common_steps}
 use Rattle.std.proofs.Math.Bool.{and-true}
-use Rattle.basket_sets.specs.Itemset.{AllBelow, has}
+use Rattle.basket_sets.specs.Itemset.{has}
 use Rattle.mine_rows.proofs.MarkLemmas.{same_marks}
 use Rattle.mine_rows.proofs.RowLemmas.{missing_covers}
 use Rattle.mine_rows.proofs.diffs.DiffListRow.mark.Goals as goal
 
 pub clear-requires : goal.clear-requires
-clear-requires c =
-    let (parent, cover, is) = c.requires.row in
-    let below = (missing_covers c.args._weights.now parent cover c.args.self.now is).below in
-    subst (λ n. AllBelow n c.deref.result.now) (sym c.requires.marks.long) (subst (AllBelow (length c.args._weights.now)) (sym c.deref.ensures.value) below)
+clear-requires c = let (parent, cover, is) = c.requires.row in let below = (missing_covers c.args._weights.now parent cover c.args.self.now is).below in grind (arith, common_steps)
 
 pub returns : goal.returns
 returns c =

@@ -1,8 +1,8 @@
 use Rattle.std.proofs.Common.{ℕ, ◌+◌, get_or, ltb, take, ap, ◌∙◌, arith, ◌≡◌}
+use Rattle.std.proofs.lemmas.Grind.{common_steps}
 use mir.Val.{bool_byte}
 use Rattle.std.proofs.Math.ListN.{set}
 use Rattle.std.proofs.lemmas.List.{get_or_default, length-set, take_all}
-use Rattle.std.specs.List.{sum_by}
 use Rattle.std.proofs.lemmas.List.Sums.{sum_by_more, sum_by_more_le}
 use Rattle.basket_sets.proofs.theory.Rising.{has_place}
 use Rattle.mine_rows.proofs.MarkLemmas.{most_one, put_down}
@@ -58,6 +58,4 @@ returns-then-sum-most-clause-more c =
     omega (arith, read, sum_by_more_le (λ p. get_or items p 0) tids i 0 here, c.if-sum-most.true, c.loop-tid.invariant.sum)
 
 pub returns-clause-sum : goal.returns-clause-sum
-returns-clause-sum c =
-    let all = take_all c.loop-tid.tid-index c.args.tids.now (omega (arith, c.loop-tid-test.false)) in
-    (c.loop-tid.invariant.few_enough, c.loop-tid.invariant.sum ∙ ap (sum_by (λ tid. get_or c.args.self.now.weights.items tid 0)) all)
+returns-clause-sum c = grind (arith, common_steps, take_all)

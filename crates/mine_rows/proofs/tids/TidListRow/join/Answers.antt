@@ -1,4 +1,5 @@
 use Rattle.std.proofs.Common.{◌≡◌, ◌<◌, ◌≤◌, ℕ, List, arith, leb, filter, get_or, length, ltb, subst, sym, ap, ◌∙◌}
+use Rattle.std.proofs.lemmas.Grind.{common_steps}
 use Rattle.std.specs.Prelude.{IfNone, IfSome}
 use Rattle.std.specs.List.{sum_by}
 use Rattle.basket_sets.specs.Database.{MOST_WEIGHT}
@@ -15,9 +16,7 @@ use Rattle.mine_rows.proofs.tids.TidListRow.join.Goals as goal
 -- what is kept weighs what both covers share
 kept_weighs : (weights parent first second lent : List ℕ) (x y : TidList) (marks : Marks) → IsTidList weights parent first x → IsTidList weights parent second y
     → IsMarked weights (has x.tids.items) marks → lent ≡ y.tids.items → sum_by (λ tid. get_or marks.weights.items tid 0) lent ≡ cover_weight weights (common first second)
-kept_weighs weights parent first second lent x y marks p q are same =
-    ap (sum_by (λ tid. get_or marks.weights.items tid 0)) (same ∙ q.tids) ∙ sums_test weights (has first) marks (subst (λ l. IsMarked weights (has l) marks) p.tids are) second
-    ∙ ap (cover_weight weights) (common_other first second p.covers.rises q.covers.rises)
+kept_weighs weights parent first second lent x y marks p q are same = grind (arith, common_steps, sums_test, common_other)
 
 pub keep-requires-clause-below : goal.keep-requires-clause-below
 keep-requires-clause-below c =

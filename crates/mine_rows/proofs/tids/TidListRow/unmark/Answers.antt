@@ -1,13 +1,12 @@
-use Rattle.std.proofs.Common.{◌&&◌, false, length, not, subst, sym, ap, ◌∙◌}
-use Rattle.basket_sets.specs.Itemset.{AllBelow, has}
+use Rattle.std.proofs.Common.{◌&&◌, false, not, ap, ◌∙◌, arith}
+use Rattle.std.proofs.lemmas.Grind.{common_steps}
+use Rattle.basket_sets.specs.Itemset.{has}
 use Rattle.std.proofs.Math.Bool.{not-and_self}
 use Rattle.mine_rows.proofs.MarkLemmas.{same_marks}
 use Rattle.mine_rows.proofs.tids.TidListRow.unmark.Goals as goal
 
 pub clear-requires : goal.clear-requires
-clear-requires c =
-    let (parent, cover, is) = c.requires.row in
-    subst (λ n. AllBelow n c.deref.result.now) (sym c.requires.marks.long) (subst (AllBelow (length c.args._weights.now)) (sym (c.deref.ensures.value ∙ is.tids)) is.covers.below)
+clear-requires c = let (parent, cover, is) = c.requires.row in grind (arith, common_steps)
 
 pub returns : goal.returns
 returns c =

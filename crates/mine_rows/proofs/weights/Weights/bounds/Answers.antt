@@ -1,6 +1,6 @@
-use Rattle.std.proofs.Common.{◌≤◌, length, subst, sum, arith}
+use Rattle.std.proofs.Common.{◌≤◌, length, subst, arith}
+use Rattle.std.proofs.lemmas.Grind.{common_steps}
 use Rattle.std.specs.Prelude.{All}
-use Rattle.basket_sets.specs.Database.{MOST_WEIGHT}
 use Rattle.mine_rows.specs.Weights.{MOST_TIDS}
 use Rattle.mine_rows.proofs.CoverLemmas.{cover_light}
 use Rattle.mine_rows.proofs.weights.Weights.bounds.Goals as goal
@@ -12,6 +12,4 @@ pub returns-clause-some : goal.returns-clause-some
 returns-clause-some c = subst (All (λ weight. 1 ≤ weight)) c.self.view_is c.self.invariant.some
 
 pub returns-clause-light : goal.returns-clause-light
-returns-clause-light c = λ cover is.
-    let light = cover_light c.args.self.now cover is.rises is.below in
-    let most = subst (λ l. sum l ≤ MOST_WEIGHT) c.self.view_is c.self.invariant.light in omega arith
+returns-clause-light c = λ cover is. grind (arith, common_steps, cover_light)

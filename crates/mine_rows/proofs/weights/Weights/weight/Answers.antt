@@ -1,28 +1,16 @@
-use Rattle.std.proofs.Common.{◌≤◌, ◌+◌, length, get_or, take, sum, subst, sym, ap, ◌∙◌, arith}
+use Rattle.std.proofs.Common.{◌+◌, get_or, take, sym, ap, ◌∙◌, arith}
+use Rattle.std.proofs.lemmas.Grind.{common_steps}
 use Rattle.std.proofs.lemmas.List.{get_or_default}
 use Rattle.std.proofs.lemmas.List.Sums.{sum_by_more, sum_by_more_le, sum_by-take-le}
-use Rattle.basket_sets.specs.Database.{MOST_WEIGHT}
 use Rattle.mine_rows.specs.Cover.{cover_weight}
 use Rattle.mine_rows.proofs.CoverLemmas.{cover_at, cover_light}
 use Rattle.mine_rows.proofs.weights.Weights.weight.Goals as goal
 
 pub index-requires : goal.index-requires
-index-requires c =
-    let here = cover_at c.args.self.now c.args.tids.now c.loop-tid.tid-index c.requires.below c.loop-tid-test.true in
-    omega (arith, here, ap length c.self.view_is)
+index-requires c = grind (arith, common_steps, cover_at)
 
 pub overflow_add-weight : goal.overflow_add-weight
-overflow_add-weight c =
-    let weights = c.args.self.now in
-    let tids = c.args.tids.now in
-    let i = c.loop-tid.tid-index in
-    let tid = get_or tids i 0 in
-    let here = cover_at weights tids i c.requires.below c.loop-tid-test.true in
-    let added = c.index.ensures ∙ ap (λ l. get_or l tid c.index.result.now) c.self.view_is ∙ get_or_default weights tid c.index.result.now 0 here in
-    let more = sum_by_more_le (λ p. get_or weights p 0) tids i 0 c.loop-tid-test.true in
-    let light = cover_light weights tids c.requires.rises c.requires.below in
-    let most = subst (λ l. sum l ≤ MOST_WEIGHT) c.self.view_is c.self.invariant.light in
-    omega (arith, c.loop-tid.invariant, added, more, light, most)
+overflow_add-weight c = grind (arith, common_steps, cover_at, get_or_default, sum_by_more_le, cover_light)
 
 pub loop-tid-preserved : goal.loop-tid-preserved
 loop-tid-preserved c =
@@ -36,10 +24,4 @@ loop-tid-preserved c =
     ∙ sym (sum_by_more (λ p. get_or weights p 0) tids i 0 c.loop-tid-test.true)
 
 pub returns-clause-within : goal.returns-clause-within
-returns-clause-within c =
-    let weights = c.args.self.now in
-    let tids = c.args.tids.now in
-    let part = sum_by-take-le (λ p. get_or weights p 0) tids c.loop-tid.tid-index in
-    let light = cover_light weights tids c.requires.rises c.requires.below in
-    let most = subst (λ l. sum l ≤ MOST_WEIGHT) c.self.view_is c.self.invariant.light in
-    omega (arith, c.loop-tid.invariant, part, light, most)
+returns-clause-within c = grind (arith, common_steps, sum_by-take-le, cover_light)
