@@ -68,6 +68,7 @@ pub trait PartCollector: RecordCollector + Drop + Send + Sized {
 }
 
 /// What the bytes of an input say: their records, except the header, unless they are too many.
+#[tactic(auto, using(std::proofs::lemmas::Grind::common_steps, crate::proofs::RecordLemmas::few_records_of))]
 pub fn say<C: TextCollector + Drop>(
     alloc: Global,
     bytes: &[u8],

@@ -16,6 +16,7 @@ fn is_space(byte: u8) -> bool
 
 /// How many leading spaces and tabs there are.
 #[inline]
+#[tactic(auto, using(std::proofs::lemmas::Grind::common_steps, std::proofs::lemmas::List::Sums::prefix_len_is))]
 fn leading_spaces(bytes: &[u8]) -> usize
     ensures value { result ≡ prefix_len is_space bytes.now }
     ensures within { result ≤ length bytes.now }
@@ -31,6 +32,7 @@ fn leading_spaces(bytes: &[u8]) -> usize
 
 /// How many bytes there are before the spaces and tabs at the end.
 #[inline]
+#[tactic(auto, using(std::proofs::lemmas::Grind::common_steps, std::proofs::lemmas::List::Sums::suffix_len_is))]
 fn end_spaces(bytes: &[u8]) -> usize
     ensures value { result ≡ length bytes.now - suffix_len is_space bytes.now }
     ensures within { result ≤ length bytes.now }
@@ -45,6 +47,7 @@ fn end_spaces(bytes: &[u8]) -> usize
 
 /// A text without the spaces and tabs at its two ends.
 #[inline]
+#[tactic(auto, using(std::proofs::lemmas::Grind::common_steps, crate::proofs::FieldLemmas::cut_after_spaces))]
 pub fn trim(text: &str) -> &str
     ensures { result.now ≡ trimmed text.now }
 {

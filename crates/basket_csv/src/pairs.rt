@@ -25,6 +25,7 @@ use std::alloc::{AllocError, Global};
 type Group = SmallVec<u32, { INLINE_ITEMS }>;
 
 /// Adds a number to the group at an index, or to a new one at the end.
+#[tactic(auto, using(std::proofs::lemmas::Grind::common_steps, crate::proofs::PairLemmas::group_known))]
 fn add_number(
     alloc: Global,
     groups: &mut Vec<Group>,
@@ -44,6 +45,7 @@ fn add_number(
 }
 
 /// Adds numbers to the group at an index, or to a new one at the end.
+#[tactic(auto, using(std::proofs::lemmas::Grind::common_steps, crate::proofs::PairLemmas::group_known))]
 fn add_numbers(
     alloc: Global,
     groups: &mut Vec<Group>,
@@ -154,6 +156,7 @@ impl Pairs {
     /// The numbers of the id and the name of a record, if these are its two fields as they are, and
     /// both were found recently.
     #[inline]
+    #[tactic(auto, using(std::proofs::lemmas::Grind::common_steps, crate::proofs::RowLemmas::field_found))]
     fn known_pair(&self, row: &Record<'_>) -> Option<(u32, u32)>
         ensures fault { (nth : ℕ) → IfSome result (λ _. pair_fault nth (fields_of row.now) ≡ None) }
         ensures known { IfSome result (λ pair. IsKnownPair self.now.ids self.now.names (fields_of row.now) pair.0 pair.1) }
@@ -199,6 +202,7 @@ impl RecordCollector for Pairs {
 }
 
 impl PartCollector for Pairs {
+    #[tactic(auto, using(std::proofs::lemmas::Grind::common_steps, crate::proofs::PairLemmas::any_number))]
     fn of_part(alloc: Global, seed: Seed, weighted: bool) -> Self
         ensures read { (start : Start) → start.weighted ≡ weighted → start.known ≡ [] → HasPairs result start.known (pairs_of []) }
         ensures any_number { (n m : ℕ) (row : List (List ℕ)) → pair_fault n row ≡ None → pair_fault m row ≡ None }

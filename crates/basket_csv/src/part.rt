@@ -64,6 +64,7 @@ impl RecordCollector for Part {
 }
 
 impl PartCollector for Part {
+    #[tactic(auto, using(std::proofs::lemmas::Grind::common_steps, crate::proofs::BasketLemmas::any_number))]
     fn of_part(alloc: Global, seed: Seed, weighted: bool) -> Self
         ensures read { (start : Start) → start.weighted ≡ weighted → start.known ≡ [] → HasPart start.weighted result [] }
         ensures any_number { (n m : ℕ) (row : List (List ℕ)) → basket_fault weighted n row ≡ None → basket_fault weighted m row ≡ None }

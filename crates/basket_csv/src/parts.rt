@@ -63,6 +63,7 @@ fn id_of(line: &[u8], separator: u8) -> &[u8] {
 }
 
 /// Where the first of about so many parts of some bytes ends.
+#[tactic(auto, using(std::proofs::lemmas::Grind::common_steps, crate::proofs::MarkLemmas::cut_after))]
 pub fn end_of_part(bytes: &[u8], count: usize) -> usize
     ensures within { result ≤ length bytes.now }
     ensures last { count < 2 → result ≡ length bytes.now }

@@ -34,6 +34,7 @@ impl<'r> Record<'r> {
 
     /// The field at an index.
     #[inline]
+    #[tactic(auto, using(std::proofs::lemmas::Grind::common_steps, crate::proofs::LastLemmas::field_got))]
     pub fn get(&self, index: usize) -> Option<&'r [u8]>
         ensures { option_map (λ field. field.now) result ≡ field_at (fields_of self.now) index }
     {
@@ -46,6 +47,7 @@ impl<'r> Record<'r> {
 
 /// The bytes from the start of the next record on, after a byte order mark and ends of lines.
 #[inline]
+#[tactic(auto, using(std::proofs::lemmas::Grind::common_steps, crate::proofs::MarkLemmas::text_is_stripped, crate::proofs::PlainLemmas::line_end_passed))]
 pub fn next_record(bytes: &[u8]) -> &[u8]
     ensures begins { Begins result.now }
     ensures same { (separator : ℕ) → records_of separator bytes.now ≡ records (config_of separator) result.now }
@@ -63,6 +65,7 @@ pub fn next_record(bytes: &[u8]) -> &[u8]
 /// Takes the fields of the record at the front of a text as they are there, and returns the text from
 /// the record's end on. If one of them begins with a quote, nothing is returned.
 #[inline]
+#[tactic(auto, using(std::proofs::lemmas::Grind::common_steps, crate::proofs::PlainLemmas::first_field, crate::proofs::LastLemmas::texts))]
 pub fn take_fields<'a>(
     fields: &mut Vec<&'a [u8]>,
     text: &'a [u8],

@@ -32,6 +32,7 @@ struct Quoted<'a> {
 
 impl<'a> Quoted<'a> {
     /// Records of any length.
+    #[tactic(auto, using(std::proofs::lemmas::Grind::common_steps, crate::proofs::ReaderLemmas::known_bytes))]
     fn new(alloc: Global, bytes: &'a [u8], separator: u8) -> Self
         ensures reading { IsReadingBy result.reader }
         ensures rows { rows_by result.reader ≡ records_of separator bytes.now }
@@ -50,6 +51,7 @@ impl<'a> Quoted<'a> {
     }
 
     /// Reads the next record, if there is one.
+    #[tactic(auto, using(std::proofs::lemmas::Grind::common_steps, crate::proofs::ReaderLemmas::read_next, crate::proofs::ReaderLemmas::read_last))]
     fn read(&mut self) -> Result<bool, ReadFault>
         requires { IsReadingBy self.old.reader }
         ensures reading { IfOk result (λ found. found ≡ true → IsReadingBy self.new.reader) }

@@ -90,6 +90,7 @@ fn occurrences(parts: &[RenumberedRecords]) -> usize {
 }
 
 /// The baskets of parts that come one after another. They may be counted.
+#[tactic(auto, using(std::proofs::lemmas::Grind::common_steps))]
 fn gathered_of(
     alloc: Global,
     counting: bool,

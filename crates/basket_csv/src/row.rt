@@ -26,6 +26,7 @@ pub fn text_at<'r>(row: &'r Record<'_>, index: usize) -> Option<&'r str>
 /// The number of the name in a field, if the field is the name and no more, and it was found
 /// recently.
 #[inline]
+#[tactic(auto, using(std::proofs::lemmas::Grind::common_steps, crate::proofs::RowLemmas::known_field, crate::proofs::RowLemmas::field_found))]
 pub fn known_number(row: &Record<'_>, index: usize, names: &Numbering) -> Option<u32>
     ensures { IfSome result (IsKnownField names.now (field_in (fields_of row.now) index)) }
 {

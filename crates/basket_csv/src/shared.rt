@@ -94,6 +94,7 @@ impl<C: PartCollector> RightParts<C> {
 }
 
 /// The records of all of about so many parts.
+#[tactic(auto, using(std::proofs::lemmas::Grind::common_steps, crate::proofs::SharedLemmas::few_before, std::proofs::lemmas::Result::err_from_is_err_and, crate::proofs::SharedLemmas::all_fault))]
 pub fn read_all<R: Threads + Sync, C: PartCollector>(
     rt: &R,
     reading: Reading,

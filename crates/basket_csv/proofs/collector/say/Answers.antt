@@ -4,11 +4,7 @@ use Rattle.std.proofs.lemmas.Bool.{le-ltb}
 use Rattle.std.proofs.lemmas.Result.{err_from_is_err_and}
 use Rattle.basket_read.specs.Fimi.{MOST_BYTES}
 use Rattle.basket_csv.specs.Csv.{first_number}
-use Rattle.basket_csv.proofs.RecordLemmas.{few_records_of}
 use Rattle.basket_csv.proofs.collector.say.Goals as goal
-
-pub add_all-requires-clause-few : goal.add_all-requires-clause-few
-add_all-requires-clause-few g c = let few = few_records_of c.args.dialect.separator c.args.bytes.now c.if-bytes-gt-MAX_BYTES.false in omega (arith, few)
 
 pub returns-in_err-add_all-clause-said : goal.returns-in_err-add_all-clause-said
 returns-in_err-add_all-clause-said g c = λ start first fresh. grind (arith, common_steps, err_from_is_err_and, le-ltb)

@@ -1,11 +1,7 @@
 use Rattle.std.proofs.Common.{arith}
-use Rattle.std.proofs.lemmas.Grind.{common_steps}
 use Rattle.std.proofs.lemmas.List.Sums.{suffix_len_is}
 use Rattle.basket_csv.specs.Field.{is_space}
 use Rattle.basket_csv.proofs.field.end_spaces.Goals as goal
-
-pub returns-else-is_space-clause-value : goal.returns-else-is_space-clause-value
-returns-else-is_space-clause-value c = grind (arith, common_steps, suffix_len_is)
 
 pub returns-after-loop-end-clause-value : goal.returns-after-loop-end-clause-value
 returns-after-loop-end-clause-value c =

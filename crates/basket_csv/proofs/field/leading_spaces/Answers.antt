@@ -1,11 +1,7 @@
 use Rattle.std.proofs.Common.{arith}
-use Rattle.std.proofs.lemmas.Grind.{common_steps}
 use Rattle.std.proofs.lemmas.List.Sums.{prefix_len_is}
 use Rattle.basket_csv.specs.Field.{is_space}
 use Rattle.basket_csv.proofs.field.leading_spaces.Goals as goal
-
-pub returns-then-not-is_space-clause-value : goal.returns-then-not-is_space-clause-value
-returns-then-not-is_space-clause-value c = grind (arith, common_steps, prefix_len_is)
 
 pub returns-clause-value : goal.returns-clause-value
 returns-clause-value c =
@@ -13,6 +9,3 @@ returns-clause-value c =
     let most = c.loop-index.auto.index-end in
     let same = prefix_len_is is_space c.args.bytes.now c.loop-index.index 0 most c.loop-index.invariant (λ h. absurd (omega arith)) in
     omega (arith, same)
-
-pub returns-clause-space : goal.returns-clause-space
-returns-clause-space c = λ some. let all = c.loop-index-test.false in c.loop-index.invariant _ (omega arith)

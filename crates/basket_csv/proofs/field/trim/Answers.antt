@@ -1,10 +1,5 @@
-use Rattle.std.proofs.Common.{arith}
-use Rattle.basket_csv.proofs.FieldLemmas.{cut_after_spaces, trim_is}
-use Rattle.std.proofs.lemmas.Grind.{common_steps}
+use Rattle.basket_csv.proofs.FieldLemmas.{trim_is}
 use Rattle.basket_csv.proofs.field.trim.Goals as goal
-
-pub range_from-rest-requires : goal.range_from-rest-requires
-range_from-rest-requires c = grind (arith, common_steps, cut_after_spaces)
 
 pub returns : goal.returns
 returns c =

@@ -1,11 +1,7 @@
 use Rattle.std.proofs.Common.{◌≤◌, ap, ◌∙◌, ◌++◌, ◌∷◌, [], map, length, inl, inr, arith}
-use Rattle.std.proofs.lemmas.Grind.{common_steps}
 use Rattle.std.proofs.lemmas.Bool.{cases_lt, false≢true}
-use Rattle.basket_csv.proofs.PairLemmas.{group_known, group_new}
+use Rattle.basket_csv.proofs.PairLemmas.{group_new}
 use Rattle.basket_csv.proofs.pairs.add_number.Goals as goal
-
-pub returns-in-Some : goal.returns-in-Some
-returns-in-Some c = grind (arith, common_steps, group_known)
 
 pub returns : goal.returns
 returns c =

@@ -1,11 +1,6 @@
-use Rattle.std.proofs.Common.{sym, ◌∙◌, arith}
-use Rattle.std.proofs.lemmas.Grind.{common_steps}
-use Rattle.basket_csv.proofs.LastLemmas.{texts}
-use Rattle.basket_csv.proofs.PlainLemmas.{first_field, last_taken, line_taken, next_taken}
+use Rattle.std.proofs.Common.{sym, ◌∙◌}
+use Rattle.basket_csv.proofs.PlainLemmas.{last_taken, line_taken, next_taken}
 use Rattle.basket_csv.proofs.record.take_fields.Goals as goal
-
-pub fields-init : goal.fields-init
-fields-init c = grind (arith, common_steps, first_field, texts)
 
 pub returns-in_default : goal.returns-in_default
 returns-in_default c =

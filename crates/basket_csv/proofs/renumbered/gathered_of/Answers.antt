@@ -1,11 +1,7 @@
-use Rattle.std.proofs.Common.{◌+◌, ◌∷◌, drop, ap, sym, ◌∙◌, arith}
-use Rattle.std.proofs.lemmas.Grind.{common_steps}
+use Rattle.std.proofs.Common.{◌+◌, ◌∷◌, drop, ap, sym, ◌∙◌}
 use Rattle.std.proofs.lemmas.List.{drop_more}
 use Rattle.basket_csv.proofs.GatherLemmas.{part_more}
 use Rattle.basket_csv.proofs.renumbered.gathered_of.Goals as goal
-
-pub gather-requires : goal.gather-requires
-gather-requires c = grind (arith, common_steps)
 
 pub loop-part-preserved : goal.loop-part-preserved
 loop-part-preserved c = λ weighted names rows parts.

@@ -1,15 +1,11 @@
 use Rattle.std.proofs.Common.{◌≤◌, ◌+◌, length, sym, subst, arith}
 use Rattle.std.proofs.lemmas.Grind.{common_steps}
 use denote.Param.Send.{sendable}
-use Rattle.std.proofs.lemmas.Result.{err_from_is_err_and}
 use Rattle.std.proofs.lemmas.Bool.{eqb-true}
 use Rattle.std.proofs.lemmas.List.{nil_from_length}
 use Rattle.basket_csv.specs.Records.{records_of}
-use Rattle.basket_csv.proofs.SharedLemmas.{all_fault, all_parts, all_right, few_before}
+use Rattle.basket_csv.proofs.SharedLemmas.{all_parts, all_right, few_before}
 use Rattle.basket_csv.proofs.shared.read_all.Goals as goal
-
-pub overflow_cast-before : goal.overflow_cast-before
-overflow_cast-before g c = grind (arith, common_steps, few_before)
 
 pub read_part-requires : goal.read_part-requires
 read_part-requires g c =
@@ -22,9 +18,6 @@ returns-then-is_empty-clause-fault g c = grind (arith, common_steps, nil_from_le
 
 pub returns-then-is_empty-clause-parts : goal.returns-then-is_empty-clause-parts
 returns-then-is_empty-clause-parts g c = grind (arith, common_steps, nil_from_length, eqb-true, all_right)
-
-pub returns-in_err-last-clause-fault : goal.returns-in_err-last-clause-fault
-returns-in_err-last-clause-fault g c = grind (arith, common_steps, err_from_is_err_and, all_fault)
 
 pub returns-clause-fault : goal.returns-clause-fault
 returns-clause-fault g c =

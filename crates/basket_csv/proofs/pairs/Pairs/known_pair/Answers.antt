@@ -1,5 +1,4 @@
-use Rattle.std.proofs.Common.{sym, ap, ◌∙◌, arith}
-use Rattle.std.proofs.lemmas.Grind.{common_steps}
+use Rattle.std.proofs.Common.{sym, ap, ◌∙◌}
 use Rattle.std.specs.Str.{is_utf8}
 use Rattle.basket_csv.specs.Record.{fields_of}
 use Rattle.basket_csv.proofs.PairLemmas.{no_fault}
@@ -11,6 +10,3 @@ returns-clause-fault c = λ nth.
     let fields = fields_of c.args.row.now in
     let id = field_found fields 0 c.in_ok-id.id.now c.in_ok-id.ensures in
     no_fault nth fields (sym c.len.ensures ∙ c.if-len-ne2.false) (ap is_utf8 id ∙ c.in_ok-index.ensures.text) c.in_ok-number.ensures.known.text
-
-pub returns-clause-known : goal.returns-clause-known
-returns-clause-known c = grind (arith, common_steps, field_found)

@@ -1,5 +1,0 @@
-use Rattle.basket_csv.proofs.PairLemmas.{any_number}
-use Rattle.basket_csv.proofs.pairs.PairsPartCollector.of_part.Goals as goal
-
-pub returns-clause-any_number : goal.returns-clause-any_number
-returns-clause-any_number c = any_number
