@@ -99,10 +99,12 @@ impl<'a> Projected for PatternBase<'a> {
         self.coded.item(self.ranks[at].0)
     }
 
+    #[tactic(auto, using(std::proofs::lemmas::Grind::common_steps, crate::proofs::PatternLemmas::entry_support))]
     fn support(&self, at: usize) -> u64 {
         self.ranks[at].1
     }
 
+    #[tactic(auto, using(std::proofs::lemmas::Grind::common_steps, crate::proofs::PatternLemmas::few_ranks, crate::proofs::PatternLemmas::none_then, crate::proofs::NumberLemmas::none_are_kept))]
     fn projected(
         &self,
         alloc: Global,
@@ -120,6 +122,7 @@ impl<'a> Projected for PatternBase<'a> {
         trees.number
     }
 
+    #[tactic(auto, using(std::proofs::lemmas::Grind::common_steps, crate::proofs::PatternLemmas::base_is_straight))]
     fn is_straight(&self) -> bool {
         self.paths.is_branch()
     }

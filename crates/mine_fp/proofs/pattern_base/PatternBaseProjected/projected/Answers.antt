@@ -1,19 +1,12 @@
 use Rattle.std.proofs.Common.{◌<◌, ◌∷◌, ◌∙◌, cond, get_or, ap, subst, arith}
 use Rattle.std.proofs.lemmas.Option.{IfSome_then}
 use Rattle.mine_fp.specs.PatternBase.{ranks_of}
-use Rattle.mine_fp.proofs.NumberLemmas.{none_are_kept}
-use Rattle.mine_fp.proofs.PatternLemmas.{base_below, few_ranks, none_then, slots_below, tree_more}
+use Rattle.mine_fp.proofs.PatternLemmas.{base_below, slots_below, tree_more}
 use Rattle.mine_fp.proofs.pattern_base.PatternBaseProjected.projected.Goals as goal
-
-pub overflow_cast-at : goal.overflow_cast-at
-overflow_cast-at c = let (node, is) = c.requires.given in omega (arith, few_ranks is, c.requires.inside)
 
 pub returns-clause-below : goal.returns-clause-below
 returns-clause-below c = IfSome_then c.in_ok-below.below c.in_ok-below.ensures.below (λ below is_below node is.
     base_below is c.requires.branching c.args.at c.requires.inside below is_below)
-
-pub returns-clause-none : goal.returns-clause-none
-returns-clause-none c = none_then c.in_ok-below.below c.in_ok-below.ensures.none (λ none node is. none_are_kept is.numbered c.args.at c.requires.inside none)
 
 pub returns-clause-work : goal.returns-clause-work
 returns-clause-work c = λ node is.
