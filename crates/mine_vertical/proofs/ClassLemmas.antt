@@ -1,5 +1,6 @@
 -- The class of a rank, as a search begins it.
-use Rattle.std.proofs.Common.{◌≡◌, ℕ, ◌+◌, ◌<◌, ◌≤◌, true, false, ◌&&◌, List, [], ◌∷◌, ◌++◌, length, map, leb, refl, sym, ap, ◌∙◌, subst, arith}
+use Rattle.std.proofs.Common.{◌≡◌, ℕ, ◌+◌, ◌<◌, ◌≤◌, true, false, ◌&&◌, List, [], ◌∷◌, ◌++◌, length, map, refl, sym, ap, ◌∙◌, subst, arith}
+use Rattle.std.proofs.lemmas.Grind.{common_steps}
 use Rattle.std.specs.Prelude.{All, Some, nat_le}
 use Rattle.std.specs.List.{range_with_len}
 use Rattle.std.proofs.lemmas.Bool.{lt-leb, lt-ltb, true≢false}
@@ -44,9 +45,7 @@ module _ (coding : Coding) (least : ℕ) (all : List Weighted) (is : IsLeastSupp
   supports set = weights (λ basket. contains basket set)
 
   tests : (set : List ℕ) → is_frequent all (Count least) set ≡ is_met (over coding least) set
-  tests set =
-      ap (λ n. leb 1 n && leb least n) (sym (supports set))
-      ∙ met_alone least (support_of coding.baskets set) is.some
+  tests set = grind (arith, common_steps, supports, met_alone)
 
   met : (set : List ℕ) → is_frequent coding.baskets coding.minimum set ≡ is_met (over coding least) set
   met set = is.met (support_of coding.baskets set) (support_falls coding.baskets set [] refl)

@@ -1,14 +1,14 @@
 -- The extensions of a node's set, and those of the set with one more rank.
 use Rattle.std.proofs.Common.{◌≡◌, ℕ, ◌<◌, ◌≤◌, Bool, true, List, [], ◌∷◌, ◌++◌, length, get_or, take, map, leb, sym, ap, ◌∙◌, subst, inl, inr, arith, append_assoc}
+use Rattle.std.proofs.lemmas.Grind.{common_steps}
 use Rattle.std.specs.Prelude.{All, nat_le}
 use Rattle.std.specs.List.{filter, range_with_len}
-use Rattle.std.proofs.lemmas.Bool.{le-leb, leb-true}
 use Rattle.std.proofs.lemmas.List.{append-nil, get_or-map, get_or-take, get_or_default, length-map, length-take-le, map-append, take-map, take-take}
 use Rattle.std.proofs.lemmas.List.Elements.{All-take}
 use Rattle.basket_sets.specs.Counts.{AllBelow}
 use Rattle.basket_sets.specs.Itemset.{IsRising, has}
 use Rattle.basket_sets.specs.Support.{support_of}
-use Rattle.basket_sets.proofs.theory.Members.{Member, Member-append, Member-filter}
+use Rattle.basket_sets.proofs.theory.Members.{Member, Member-filter}
 use Rattle.basket_sets.proofs.theory.Ranges.{Member-range, filter_members, filter_rises, range_rises}
 use Rattle.basket_sets.proofs.theory.Rising.{Member-from_has, has-from_Member, has_place}
 use Rattle.basket_sets.proofs.theory.Tests.{all_below_at}
@@ -55,8 +55,7 @@ module _ {R : Type 0} (base : Siblings R) (at : ℕ) (inside : at < base.kept) w
     row_at stands set rows = subst (IsSibling stands (baskets_in base.local.value) set) sibling_at (rows at sibling (omega (arith, kept_is_long, inside)))
 
 pub as_long : {R : Type 0} (base : Siblings R) → length (ranks_in base) ≡ base.kept
-as_long {R} base =
-    length-map (numbers_in base) (λ number. get_or base.local.value.ranks.items number 0) ∙ length-map (siblings_in base) (λ (s : Sibling R). s.number) ∙ length-take-le base.kept base.list.items base.within
+as_long {R} base = grind (arith, common_steps)
 
 -- ---- a node with one more rank
 
@@ -94,16 +93,10 @@ module _ {R : Type 0} {stands : List ℕ → List ℕ → List ℕ → R → Typ
 
   -- the rank that is read is that of the sibling's number
   pub rank_read : (sibling : Sibling R) → sibling ≡ get_or base.list.items at sibling → (held : LocalBaskets) → held ≡ local → (read : ℕ) → read ≡ get_or held.ranks.items sibling.number read → read ≡ rank
-  rank_read sibling index held same read at_number =
-      let named = number_at base at (omega (arith, inside, as_long base)) sibling index in
-      at_number ∙ ap (λ (l : LocalBaskets). get_or l.ranks.items sibling.number read) same ∙ ap (λ n. get_or ranks n read) (sym named) ∙ get_or_default ranks number read 0 number_low ∙ sym rank_is
+  rank_read sibling index held same read at_number = grind (arith, common_steps, number_at, as_long, get_or_default, number_low, rank_is)
 
   low_with : (others : List ℕ) → AllBelow (length ranks) others → AllBelow (length ranks) (others ++ number ∷ [])
-  low_with others low x h = elim (Member-append x others (number ∷ []) (Member-from_has (others ++ number ∷ []) x h)) [
-    | inl m ↦ low x (has-from_Member others x m)
-    | inr (inl e) ↦ subst (λ n. n < length ranks) e number_low
-    | inr (inr m) ↦ absurd m
-  ]
+  low_with others low x h = grind (arith, common_steps, number_low)
 
   -- the support of numbers with that of the rank is that of their ranks with the rank
   support_with : (others : List ℕ) → AllBelow (length ranks) others → node.over.support (named ranks others ++ rank ∷ node.set) ≡ support_of (baskets_in local) (others ++ number ∷ set)
@@ -137,8 +130,7 @@ module _ {R : Type 0} {stands : List ℕ → List ℕ → List ℕ → R → Typ
   few = omega (arith, as_many, kept_few test rank node.set, lower, is.joined.within, is.joined.few)
 
   falls : (other : ℕ) → test (other ∷ rank ∷ node.set) ≡ true → test (other ∷ node.set) ≡ true
-  falls other h = le-leb node.over.least (node.over.support (other ∷ node.set))
-      (let enough = leb-true node.over.least (node.over.support (other ∷ rank ∷ node.set)) h in let less = is.joined.falls rank other node.set in omega arith)
+  falls other h = grind (arith, common_steps, enough)
 
   low_before : (other : ℕ) → Member other (take at numbers) → other < length ranks
   low_before other m = is.low other (has-from_Member numbers other (Member-take other at numbers m))
@@ -164,14 +156,7 @@ module _ {R : Type 0} {stands : List ℕ → List ℕ → List ℕ → R → Typ
   none_first first = kept_is ∙ ap (λ n. named ranks (filter frequent (take n numbers))) first
 
   joined_below : (made : Siblings R) → made.coded ≡ base.coded → made.least ≡ base.least → IsJoined made.coded.now.items made.least (child node rank)
-  joined_below made coded least = subst (λ c. IsJoined c.now.items made.least (child node rank)) (sym coded) (subst (λ n. IsJoined base.coded.now.items n (child node rank)) (sym least) (record {
-    least_is = is.joined.least_is;
-    items_are = is.joined.items_are;
-    few = is.joined.few;
-    within = (let low = lower in let most = is.joined.within in omega arith);
-    falls = is.joined.falls;
-    works = is.joined.works;
-  }))
+  joined_below made coded least = grind (arith, common_steps, few, within, lower, falls)
 
   module _ {below : List (Sibling R)} (are : AreKept stands base.least number (take at base.list.items) below (baskets_in local) set) where
     abbrev chosen : List ℕ

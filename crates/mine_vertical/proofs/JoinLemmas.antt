@@ -1,5 +1,6 @@
 -- The joins of a class, and of all classes.
-use Rattle.std.proofs.Common.{◌≡◌, ◌≢◌, ℕ, zero, suc, ◌+◌, ◌<◌, Bool, true, false, ◌&&◌, List, [], ◌∷◌, ◌++◌, length, cond, refl, sym, ap, ◌∙◌, subst, inl, inr, arith, length-append, zero-add}
+use Rattle.std.proofs.Common.{◌≡◌, ℕ, zero, suc, ◌+◌, ◌<◌, Bool, true, false, ◌&&◌, List, [], ◌∷◌, ◌++◌, length, cond, refl, sym, ap, ◌∙◌, subst, inl, inr, arith, length-append, zero-add}
+use Rattle.std.proofs.lemmas.Grind.{common_steps}
 use Rattle.std.specs.List.{filter, range_with_len, sum_by}
 use Rattle.std.proofs.lemmas.Bool.{cases_Bool, true≢false}
 use Rattle.std.proofs.lemmas.List.{append-nil}
@@ -31,11 +32,7 @@ many-append : (p : List ℕ → Bool) (xs ys : List (List ℕ)) → many p (xs +
 many-append p xs ys = ap length (filter-append p xs ys) ∙ length-append (filter p xs) (filter p ys)
 
 many-cons : (p : List ℕ → Bool) (x : List ℕ) (xs : List (List ℕ)) → many p (x ∷ xs) ≡ one_if (p x) + many p xs
-many-cons p x xs = at (p x)
-  where
-    at : (b : Bool) → length (cond b (x ∷ filter p xs) (filter p xs)) ≡ one_if b + length (filter p xs)
-    at true = omega arith
-    at false = omega arith
+many-cons p x xs = grind (arith, common_steps)
 
 -- the joins of a set's least rank with the lower ranks with which the others are frequent
 abbrev pub set_joins : (List ℕ → Bool) → List ℕ → ℕ
@@ -54,9 +51,7 @@ module _ (baskets : List Weighted) (minimum : Minimum) where
   joins below set = many (is_join baskets minimum) (sets_below every below set)
 
   joins_more : (rank : ℕ) (set : List ℕ) → joins (suc rank) set ≡ joins rank set + (one_if (is_join baskets minimum (rank ∷ set)) + joins rank (rank ∷ set))
-  joins_more rank set =
-      many-append (is_join baskets minimum) (sets_below every rank set) ((rank ∷ set) ∷ sets_below every rank (rank ∷ set))
-      ∙ ap (λ n. joins rank set + n) (many-cons (is_join baskets minimum) (rank ∷ set) (sets_below every rank (rank ∷ set)))
+  joins_more rank set = grind (arith, common_steps)
 
   falls : (rank : ℕ) (set : List ℕ) → frequent set ≡ false → frequent (rank ∷ set) ≡ false
   falls rank set rare = elim (cases_Bool (frequent (rank ∷ set))) [
@@ -67,11 +62,7 @@ module _ (baskets : List Weighted) (minimum : Minimum) where
   -- none extends a set that is not frequent
   none : (below first : ℕ) (others : List ℕ) → frequent (first ∷ others) ≡ false → joins below (first ∷ others) ≡ 0
   none zero first others rare = refl
-  none (suc rank) first others rare =
-      let one = none rank first others rare in
-      let two = none rank rank (first ∷ others) (falls rank (first ∷ others) rare) in
-      let made : one_if (is_join baskets minimum (rank ∷ first ∷ others)) ≡ 0 = ap (λ b. one_if (b && frequent (rank ∷ others))) rare in
-      let all = joins_more rank (first ∷ others) in omega arith
+  none (suc rank) first others rare = grind (arith, common_steps, none rank first others rare, none rank rank (first ∷ others) (falls rank (first ∷ others) rare))
 
   kept_more : (rank : ℕ) (set : List ℕ) → length (kept_below frequent (suc rank) set) ≡ length (kept_below frequent rank set) + one_if (frequent (rank ∷ set))
   kept_more rank set = ap length (kept_step frequent rank set) ∙ length-append (kept_below frequent rank set) (cond (frequent (rank ∷ set)) (rank ∷ []) []) ∙ ap (λ n. length (kept_below frequent rank set) + n) (at (frequent (rank ∷ set)))

@@ -1,5 +1,6 @@
 -- Rising numbers, and the ranks that they name.
-use Rattle.std.proofs.Common.{◌≡◌, ℕ, zero, suc, Bool, true, false, List, [], ◌∷◌, get_or, length, map, take, cond, refl, sym, ap, ◌∙◌, inl, inr}
+use Rattle.std.proofs.Common.{◌≡◌, ℕ, zero, suc, Bool, List, [], ◌∷◌, get_or, length, map, take, refl, sym, inl, inr, arith}
+use Rattle.std.proofs.lemmas.Grind.{common_steps}
 use Rattle.std.specs.List.{filter, range_with_len}
 use Rattle.std.proofs.lemmas.List.FromFn.{fill_by_all}
 use Rattle.basket_sets.specs.Itemset.{IsRising}
@@ -20,11 +21,7 @@ take_rises (suc n) (x ∷ xs) up = cons_rises x (take n xs) (λ y m. first_below
 
 pub filter-map : {X Y : Type 0} (test : Y → Bool) (f : X → Y) (xs : List X) → filter test (map f xs) ≡ map f (filter (λ x. test (f x)) xs)
 filter-map test f [] = refl
-filter-map test f (x ∷ xs) = ap (λ l. cond (test (f x)) (f x ∷ l) l) (filter-map test f xs) ∙ at (test (f x))
-  where
-    at : (b : Bool) → cond b (f x ∷ map f (filter (λ y. test (f y)) xs)) (map f (filter (λ y. test (f y)) xs)) ≡ map f (cond b (x ∷ filter (λ y. test (f y)) xs) (filter (λ y. test (f y)) xs))
-    at true = refl
-    at false = refl
+filter-map test f (x ∷ xs) = grind (arith, common_steps, filter-map test f xs)
 
 -- each number of a range names its rank
 pub named_range : (ranks : List ℕ) → named ranks (range_with_len 0 (length ranks)) ≡ ranks

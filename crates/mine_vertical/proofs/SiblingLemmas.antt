@@ -1,9 +1,9 @@
 -- Siblings that are joined, and the weights of their baskets.
 use Rattle.std.proofs.Common.{◌≡◌, ℕ, ◌+◌, ◌<◌, ◌≤◌, Bool, false, true, List, [], ◌∷◌, ◌++◌, length, get_or, take, map, cond, sym, ap, ◌∙◌, subst, arith}
+use Rattle.std.proofs.lemmas.Grind.{common_steps}
 use Rattle.std.specs.Prelude.{All, nat_le, sum}
 use Rattle.std.specs.List.{filter}
-use Rattle.std.proofs.lemmas.List.{append-nil, get_or-map, length-map, map-append, take_more}
-use Rattle.std.proofs.lemmas.List.Elements.{All-push, filter-append}
+use Rattle.std.proofs.lemmas.List.{get_or-map, length-map}
 use Rattle.std.proofs.lemmas.List.Sums.{sum-map}
 use Rattle.basket_sets.specs.declared.weighted.Weighted.{Weighted}
 use Rattle.basket_sets.specs.Database.{HasWeight, weighted}
@@ -31,13 +31,7 @@ module _ {R : Type 0} (stands : List ℕ → List ℕ → List ℕ → R → Typ
   pub joined_stands : (sibling other : Sibling R) (row : R) → ArePair stands weights sibling other baskets set
       → ((parent first second : List ℕ) → stands weights parent first sibling.row → stands weights parent second other.row → stands weights first (common first second) row)
       → stands (weights_of baskets) (cover_of baskets (sibling.number ∷ set)) (cover_of baskets (other.number ∷ sibling.number ∷ set)) row
-  joined_stands sibling other row pair made =
-      let parent = cover_of baskets set in
-      let first = cover_of baskets (sibling.number ∷ set) in
-      let second = cover_of baskets (other.number ∷ set) in
-      subst (λ cover. stands (weights_of baskets) first cover row) (common_cover baskets set sibling.number other.number)
-      (subst (λ w. stands w first (common first second) row) pair.weighs
-      (made parent first second (subst (λ w. stands w parent first sibling.row) (sym pair.weighs) pair.first_is) (subst (λ w. stands w parent second other.row) (sym pair.weighs) pair.second_is)))
+  joined_stands sibling other row pair made = grind (arith, common_steps, common_cover)
 
   -- and whether that is frequent is told by the support of both
   pub joined_support : (sibling other : Sibling R) (least : ℕ) (frequent : Bool) → ArePair stands weights sibling other baskets set
@@ -59,22 +53,12 @@ module _ {R : Type 0} (stands : List ℕ → List ℕ → List ℕ → R → Typ
   numbers siblings = map (λ (o : Sibling R). o.number) siblings
 
   more : filter test (numbers (take (i + 1) others)) ≡ filter test (numbers (take i others)) ++ cond (test other.number) (other.number ∷ []) []
-  more =
-      ap (λ l. filter test (numbers l)) (take_more others i other here ∙ ap (λ o. take i others ++ o ∷ []) (sym at))
-      ∙ ap (filter test) (map-append (λ (o : Sibling R). o.number) (take i others) (other ∷ [])) ∙ filter-append test (numbers (take i others)) (other.number ∷ [])
+  more = grind (arith, common_steps)
 
   -- one more sibling is kept or not
   pub kept_more : (both : Sibling R) → both.number ≡ other.number → IsSibling stands baskets (number ∷ set) both → nat_le least (support_of baskets (other.number ∷ number ∷ set)) ≡ true
       → AreKept stands least number (take (i + 1) others) (below ++ both ∷ []) baskets set
-  kept_more both same is enough = record {
-    numbers = map-append (λ (o : Sibling R). o.number) below (both ∷ []) ∙ ap (λ l. l ++ both.number ∷ []) before.numbers ∙ ap (λ r. filter test (numbers (take i others)) ++ r ∷ []) same
-        ∙ sym (more ∙ ap (λ b. filter test (numbers (take i others)) ++ cond b (other.number ∷ []) []) enough);
-    rows = All-push (IsSibling stands baskets (number ∷ set)) below both before.rows is;
-  }
+  kept_more both same is enough = grind (arith, common_steps, more)
 
   pub dropped_more : nat_le least (support_of baskets (other.number ∷ number ∷ set)) ≡ false → AreKept stands least number (take (i + 1) others) below baskets set
-  dropped_more rare = record {
-    numbers = before.numbers
-        ∙ sym (more ∙ ap (λ b. filter test (numbers (take i others)) ++ cond b (other.number ∷ []) []) rare ∙ append-nil (filter test (numbers (take i others))));
-    rows = before.rows;
-  }
+  dropped_more rare = grind (arith, common_steps)

@@ -1,5 +1,6 @@
-use Rattle.std.proofs.Common.{◌≤◌, subst, sym, ap, ◌∙◌, arith}
-use Rattle.std.specs.Prelude.{All, sum}
+use Rattle.std.proofs.Common.{◌≤◌, subst, sym, arith}
+use Rattle.std.proofs.lemmas.Grind.{common_steps}
+use Rattle.std.specs.Prelude.{All}
 use Rattle.mine_vertical.proofs.SiblingLemmas.{weights_some, weights_weigh}
 use Rattle.mine_vertical.proofs.local_baskets.merged_weights.Goals as goal
 
@@ -7,6 +8,4 @@ pub of_vec-requires-clause-some : goal.of_vec-requires-clause-some
 of_vec-requires-clause-some c = subst (All (λ weight. 1 ≤ weight)) (sym c.in_ok-weights.ensures) (weights_some c.args.baskets.now.baskets c.requires.some)
 
 pub of_vec-requires-clause-light : goal.of_vec-requires-clause-light
-of_vec-requires-clause-light c =
-    let same = ap sum c.in_ok-weights.ensures ∙ weights_weigh c.args.baskets.now.baskets in
-    omega (arith, same, c.requires.light)
+of_vec-requires-clause-light c = grind (arith, common_steps, weights_weigh)

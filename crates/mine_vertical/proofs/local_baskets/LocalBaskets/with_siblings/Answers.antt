@@ -1,4 +1,5 @@
 use Rattle.std.proofs.Common.{◌≡◌, ℕ, suc, ◌+◌, ◌++◌, ◌∷◌, [], map, subst, sym, ap, ◌∙◌, arith}
+use Rattle.std.proofs.lemmas.Grind.{common_steps}
 use Rattle.std.specs.Prelude.{All}
 use Rattle.std.specs.List.{range_with_len}
 use Rattle.std.specs.declared.vec.Vec.{Vec}
@@ -19,10 +20,7 @@ next_number number =
     ap (range_with_len 0) next ∙ range_more 0 number ∙ ap (λ n. range_with_len 0 number ++ n ∷ []) last
 
 pub first-requires-clause-rises : goal.first-requires-clause-rises
-first-requires-clause-rises g c =
-    let baskets = c.args.baskets.baskets in
-    let cover = c.deref.ensures.value ∙ ap (λ (v : Vec _ Global). v.items) c.index-cover.ensures ∙ c.in_ok-covers.ensures.at c.loop-number.number c.index-cover.result.now (omega (arith, c.loop-number-test.true, c.ranks-count.ensures)) in
-    (subst (IsCover (weights_of baskets)) (sym cover) (cover_covers baskets (c.loop-number.number ∷ []))).rises
+first-requires-clause-rises g c = grind (arith, common_steps, cover_covers)
 
 pub first-requires-clause-below : goal.first-requires-clause-below
 first-requires-clause-below g c =

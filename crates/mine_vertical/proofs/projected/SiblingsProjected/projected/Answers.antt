@@ -1,4 +1,5 @@
 use Rattle.std.proofs.Common.{set, take, subst, sym, ap, refl, arith}
+use Rattle.std.proofs.lemmas.Grind.{common_steps}
 use Rattle.mine_vertical.specs.declared.local_baskets.LocalBaskets.{LocalBaskets}
 use Rattle.mine_vertical.specs.Projected.{AreAtRest}
 use Rattle.mine_vertical.proofs.ExtensionLemmas.{anew_is, below_is, few, low, none_below, none_first, rises, work_is}
@@ -80,9 +81,7 @@ returns-clause-little g c =
     omega (arith, c.in_ok-kept.ensures.joins, few is c.args.at c.requires.inside)
 
 pub returns-clause-inner : goal.returns-clause-inner
-returns-clause-inner g c =
-    let served = rw c.in-Some.is at c.in_ok-anew.ensures.served in
-    (keeps_same g.R.Row.at_rest c.in-Some.anew c.reprojected.new.room c.take_back-2.new.self c.take_back-2.ensures).own served
+returns-clause-inner g c = grind (arith, common_steps, keeps_same)
 
 pub returns-clause-lent : goal.returns-clause-lent
 returns-clause-lent g c =
