@@ -1,5 +1,6 @@
 -- Rising lists with an item between others.
 use Rattle.std.proofs.Common.{◌≡◌, ℕ, ◌+◌, ◌<◌, List, [], ◌∷◌, ◌++◌, length, get_or, take, drop, refl, sym, ap, ◌∙◌, subst, inl, inr, arith}
+use Rattle.std.proofs.lemmas.Grind.{common_steps}
 use Rattle.std.proofs.lemmas.List.{append-nil, map-append, take-append-drop, take_more}
 use Rattle.basket_lists.specs.Packed.{items_at}
 use Rattle.basket_sets.specs.Itemset.{IsRising, with_item}
@@ -13,8 +14,7 @@ with_first first (item ∷ items) below = let less = below item (inl refl) in
     with_item_by (λ l. l ≡ first ∷ item ∷ items) first item items (λ h. refl) (λ same. absurd (omega arith)) (λ more. absurd (omega arith))
 
 pub with_later : (item first : ℕ) (items : List ℕ) → first < item → with_item item (first ∷ items) ≡ first ∷ with_item item items
-with_later item first items more =
-    with_item_by (λ l. l ≡ first ∷ with_item item items) item first items (λ less. absurd (omega arith)) (λ same. absurd (omega arith)) (λ after. refl)
+with_later item first items more = grind (arith, common_steps)
 
 -- an item between those below it and those above
 pub with_between : (item : ℕ) (before after : List ℕ) → ((other : ℕ) → Member other before → other < item) → ((other : ℕ) → Member other after → item < other)
@@ -57,15 +57,11 @@ item_less items index other up less below = rising_at items index other up less 
 
 pub items_below : (items indexes : List ℕ) (index : ℕ) → IsRising items → index < length items → ((other : ℕ) → Member other indexes → other < index)
     → (item : ℕ) → Member item (items_at items indexes) → item < get_or items index 0
-items_below items indexes index up below less item m =
-    let at = Member-from_map (λ p. get_or items p 0) item indexes m in
-    subst (λ x. x < get_or items index 0) at.2 (item_less items at.0 index up (less at.0 at.1) below)
+items_below items indexes index up below less item m = let at = Member-from_map (λ p. get_or items p 0) item indexes m in grind (arith, common_steps, item_less)
 
 pub items_above : (items indexes : List ℕ) (index : ℕ) → IsRising items → ((other : ℕ) → Member other indexes → other < length items) → ((other : ℕ) → Member other indexes → index < other)
     → (item : ℕ) → Member item (items_at items indexes) → get_or items index 0 < item
-items_above items indexes index up below more item m =
-    let at = Member-from_map (λ p. get_or items p 0) item indexes m in
-    subst (λ x. get_or items index 0 < x) at.2 (item_less items index at.0 up (more at.0 at.1) (below at.0 at.1))
+items_above items indexes index up below more item m = let at = Member-from_map (λ p. get_or items p 0) item indexes m in grind (arith, common_steps, item_less)
 
 -- with an item at an index between others
 pub items_between : (items before after : List ℕ) (index : ℕ) → IsRising items → index < length items → ((other : ℕ) → Member other after → other < length items)

@@ -1,8 +1,9 @@
 -- Lists of words, some of which stand for sets that are kept elsewhere.
-use Rattle.std.proofs.Common.{◌≡◌, ℕ, ◌+◌, ◌-◌, ◌^◌, ◌<◌, false, List, [], ◌∷◌, ◌++◌, length, map, get_or, take, drop, cond, ltb, sym, ap, ◌∙◌, subst, inl, inr, arith}
+use Rattle.std.proofs.Common.{◌≡◌, ℕ, ◌+◌, ◌-◌, ◌^◌, ◌<◌, List, [], ◌∷◌, ◌++◌, length, map, get_or, take, drop, cond, sym, ap, ◌∙◌, subst, arith}
+use Rattle.std.proofs.lemmas.Grind.{common_steps}
 use Rattle.std.specs.Prelude.{All}
-use Rattle.std.proofs.lemmas.Bool.{cases_lt, false_from_ne_true, lt-ltb, ltb-true}
-use Rattle.std.proofs.lemmas.List.{get_or-map, get_or_append_left, length-append, map-append, take-append-le, take_all}
+use Rattle.std.proofs.lemmas.Bool.{lt-ltb}
+use Rattle.std.proofs.lemmas.List.{get_or-map, length-append, map-append, take-append-le, take_all}
 use Rattle.std.proofs.lemmas.List.Elements.{recursion_from_All}
 use Rattle.std.specs.List.Sorted.{IsPermutation}
 use Rattle.std.proofs.lemmas.List.Sorted.{All-permutation, IsPermutation-map, length_permutation}
@@ -21,10 +22,7 @@ pub kept_here : (coding : Coding) (plain : List Counted) (packed : Packed) → p
 kept_here coding plain packed less = ap (λ b. cond b (unpacked coding packed) (get_or plain (packed.word - 2 ^ 127) (record { set = []; count = 0 }))) (lt-ltb packed.word (2 ^ 127) less)
 
 pub kept_elsewhere : (coding : Coding) (plain : List Counted) (packed : Packed) (index : ℕ) → packed.word ≡ 2 ^ 127 + index → kept coding plain packed ≡ get_or plain index (record { set = []; count = 0 })
-kept_elsewhere coding plain packed index is =
-    let more : ltb packed.word (2 ^ 127) ≡ false = false_from_ne_true _ (λ h. let less = ltb-true packed.word (2 ^ 127) h in omega (arith, is, less)) in
-    ap (λ b. cond b (unpacked coding packed) (get_or plain (packed.word - 2 ^ 127) (record { set = []; count = 0 }))) more
-    ∙ ap (λ n. get_or plain n (record { set = []; count = 0 })) (let e : packed.word - 2 ^ 127 ≡ index = omega (arith, is) in e)
+kept_elsewhere coding plain packed index is = grind (arith, common_steps)
 
 -- a set of a word rises
 pub packed_rises : (coding : Coding) (packed : Packed) → IsCoding coding → IsPacked coding packed → IsRising (unpacked coding packed).set
@@ -44,14 +42,7 @@ module _ (coding : Coding) (plain more : List Counted) where
   IsKept-more packed is = record { small = is.small; here = is.here; elsewhere = λ above. omega (arith, is.elsewhere above, length-append plain more) }
 
   pub kept_more : (packed : Packed) → IsKept coding plain packed → kept coding (plain ++ more) packed ≡ kept coding plain packed
-  kept_more packed is = elim (cases_lt packed.word (2 ^ 127)) [
-    | inl less ↦ kept_here coding (plain ++ more) packed less ∙ sym (kept_here coding plain packed less)
-    | inr above ↦
-        (let index = packed.word - 2 ^ 127 in
-        let same : packed.word ≡ 2 ^ 127 + index = omega (arith, above) in
-        kept_elsewhere coding (plain ++ more) packed index same ∙ get_or_append_left plain more (record { set = []; count = 0 }) index (is.elsewhere above)
-        ∙ sym (kept_elsewhere coding plain packed index same))
-  ]
+  kept_more packed is = grind (arith, common_steps)
 
   pub words_kept : (words : List Packed) → All (IsKept coding plain) words → All (IsKept coding (plain ++ more)) words
   words_kept words all k d inside = IsKept-more (get_or words k d) (all k d inside)
@@ -64,17 +55,10 @@ module _ (coding : Coding) (plain more : List Counted) where
 module _ (coding : Coding) (plain : List Counted) (words : List Packed) (one : Counted) (word : Packed) (all : All (IsKept coding plain) words)
     (at : word.word ≡ 2 ^ 127 + length plain) (few : length plain < 2 ^ 63) where
   pub word_pushed : IsKept coding (plain ++ one ∷ []) word
-  word_pushed = record {
-    small = omega (arith, at, few);
-    here = λ less. absurd (omega (arith, at, less));
-    elsewhere = λ above. omega (arith, at, length-append plain (one ∷ []));
-  }
+  word_pushed = grind (arith, common_steps)
 
   pub sets_pushed : map (kept coding (plain ++ one ∷ [])) (words ++ word ∷ []) ≡ map (kept coding plain) words ++ one ∷ []
-  sets_pushed =
-      map-append (kept coding (plain ++ one ∷ [])) words (word ∷ [])
-      ∙ ap (λ l. l ++ kept coding (plain ++ one ∷ []) word ∷ []) (sets_kept coding plain (one ∷ []) words all)
-      ∙ ap (λ c. map (kept coding plain) words ++ c ∷ []) (kept_elsewhere coding (plain ++ one ∷ []) word (length plain) at ∙ get_or-append_seam plain one [] (record { set = []; count = 0 }))
+  sets_pushed = grind (arith, common_steps, map-append, sets_kept, kept_elsewhere, get_or-append_seam)
 
 -- ---- the set at an index
 
@@ -89,9 +73,7 @@ module _ (coding : Coding) (plain : List Counted) (words : List Packed) (index :
 
 module _ (coding : Coding) (plain : List Counted) (words moved : List Packed) (size : ℕ) (whole : size ≡ length words) (is : IsPermutation words moved) where
   written : take size (moved ++ drop (length moved) words) ≡ moved
-  written =
-      let same : size ≡ length moved = whole ∙ sym (length_permutation words moved is) in
-      take-append-le size moved (drop (length moved) words) (omega (arith, same)) ∙ take_all size moved (omega (arith, same))
+  written = grind (arith, common_steps, length_permutation, take-append-le, take_all)
 
   pub words_moved : All (IsKept coding plain) words → All (IsKept coding plain) (take size (moved ++ drop (length moved) words))
   words_moved all = subst (All (IsKept coding plain)) (sym written) (All-permutation (IsKept coding plain) words moved is all)

@@ -1,5 +1,6 @@
 -- Sets with one index more or less.
 use Rattle.std.proofs.Common.{◌≡◌, ℕ, zero, suc, ◌+◌, ◌-◌, ◌*◌, ◌/◌, ◌%◌, ◌^◌, ◌<◌, ◌≤◌, List, [], ◌∷◌, ◌++◌, true, length, get_or, refl, sym, ap, ◌∙◌, subst, inl, inr, arith, append_assoc, lt_of_lt_of_le, lt_trans, mod-lt, pow_mono}
+use Rattle.std.proofs.lemmas.Grind.{common_steps}
 use Rattle.std.proofs.lemmas.Nat.{mod_low, mul-add-lt, pow-add, pow_pos, shr_below, shr-shr, shr_high}
 use Rattle.std.proofs.lemmas.List.{get_or-map, length-map}
 use Rattle.basket_lists.specs.declared.packed.Packed.{Packed}
@@ -25,17 +26,11 @@ digits_joined bits first last high number size is =
     ∙ ap (λ l. digits bits first high ++ l) (digits_same bits last all number (mod_low high (last * bits) (number % 2 ^ (last * bits)) small))
 
 joined_below : (bits first last high number : ℕ) → high < 2 ^ (first * bits) → high * 2 ^ (last * bits) + number % 2 ^ (last * bits) < 2 ^ ((first + last) * bits)
-joined_below bits first last high number below =
-    let product : 2 ^ (last * bits) * 2 ^ (first * bits) ≡ 2 ^ ((first + last) * bits) =
-    sym (pow-add 2 (last * bits) (first * bits)) ∙ ap (λ k. 2 ^ k) (let e : last * bits + first * bits ≡ (first + last) * bits = omega arith in e) in
-    subst (λ p. high * 2 ^ (last * bits) + number % 2 ^ (last * bits) < p) product
-    (mul-add-lt high (2 ^ (last * bits)) (number % 2 ^ (last * bits)) (2 ^ (first * bits)) below (mod-lt number (pow_pos (last * bits))))
+joined_below bits first last high number below = grind (arith, common_steps, pow-add, mul-add-lt, pow_pos)
 
 -- the first digits of a number
 first_below : (bits first last size number : ℕ) → size ≡ first + last → number < 2 ^ (size * bits) → number / 2 ^ (last * bits) < 2 ^ (first * bits)
-first_below bits first last size number is below =
-    shr_below number (first * bits) (last * bits)
-    (subst (λ k. number < 2 ^ k) (ap (λ n. n * bits) is ∙ (let e : (first + last) * bits ≡ first * bits + last * bits = omega arith in e)) below)
+first_below bits first last size number is below = grind (arith, common_steps, shr_below)
 
 -- ---- one index more
 
@@ -79,16 +74,12 @@ shorter_below bits size number above less below =
     let rest : number / 2 ^ (above * bits) / 2 ^ bits < 2 ^ ((size - 1 - above) * bits) =
     shr_below (number / 2 ^ (above * bits)) ((size - 1 - above) * bits) bits
     (subst (λ k. number / 2 ^ (above * bits) < 2 ^ k) (let e : suc (size - 1 - above) * bits ≡ (size - 1 - above) * bits + bits = omega arith in e) high) in
-    subst (λ n. shorter_number bits number (above * bits) < 2 ^ (n * bits)) (let e : size - 1 - above + above ≡ size - 1 = omega (arith, less) in e)
-    (joined_below bits (size - 1 - above) above (number / 2 ^ (above * bits) / 2 ^ bits) number rest)
+    grind (arith, common_steps, joined_below)
 
 -- the digits of a number around one of them
 digits_around : (bits size number above : ℕ) → above < size
     → digits bits size number ≡ digits bits (size - 1 - above) (number / 2 ^ (above * bits) / 2 ^ bits) ++ (number / 2 ^ (above * bits) % 2 ^ bits) ∷ digits bits above number
-digits_around bits size number above less =
-    let high = number / 2 ^ (above * bits) in
-    digits_split bits (suc (size - 1 - above)) above size number (omega (arith, less))
-    ∙ append_assoc (digits bits (size - 1 - above) (high / 2 ^ bits)) (high % 2 ^ bits ∷ []) (digits bits above number)
+digits_around bits size number above less = grind (arith, common_steps, digits_split bits (suc (size - 1 - above)) above size number (omega (arith, less)))
 
 -- ---- the digits one after another
 

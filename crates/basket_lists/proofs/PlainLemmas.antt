@@ -1,9 +1,10 @@
 -- Sets whose items are concatenated.
-use Rattle.std.proofs.Common.{◌≡◌, ℕ, ◌+◌, ◌≤◌, List, [], ◌∷◌, ◌++◌, length, drop, get_or, refl, sym, ap, ◌∙◌, subst, arith, Result, Ok, Err, OnErr}
+use Rattle.std.proofs.Common.{◌≡◌, ℕ, ◌+◌, ◌≤◌, List, [], ◌∷◌, ◌++◌, length, drop, get_or, refl, sym, ap, ◌∙◌, arith, Result, OnErr}
+use Rattle.std.proofs.lemmas.Grind.{common_steps}
 use Rattle.std.specs.Prelude.{All}
 use Rattle.std.specs.List.{slice_range}
 use Rattle.std.proofs.lemmas.List.{take-append-le, drop_at, length-append, map-append}
-use Rattle.std.proofs.lemmas.List.Elements.{All-push, recursion_from_All}
+use Rattle.std.proofs.lemmas.List.Elements.{recursion_from_All}
 use Rattle.std.proofs.lemmas.Slice.{between_is, between_to_end}
 use Rattle.basket_lists.specs.declared.set_span.SetSpan.{SetSpan}
 use Rattle.basket_lists.specs.Plain.{IsSpanOfSet, spanned, spanned_sets}
@@ -21,10 +22,7 @@ range_at_end items more = between_to_end (items ++ more) (length items) (length 
 
 -- the spans keep their sets
 span_kept : (items more : List ℕ) (span : SetSpan) → IsSpanOfSet items span → IsSpanOfSet (items ++ more) span
-span_kept items more span is = record {
-  within = record { ordered = is.within.ordered; within = omega (arith, is.within.within, length-append items more) };
-  rises = subst IsRising (sym (range-append items more span.start span.end is.within.within)) is.rises;
-}
+span_kept items more span is = grind (arith, common_steps)
 
 pub spans_kept : (items more : List ℕ) (spans : List SetSpan) → All (IsSpanOfSet items) spans → All (IsSpanOfSet (items ++ more)) spans
 spans_kept items more spans all k d inside = span_kept items more (get_or spans k d) (all k d inside)
@@ -48,20 +46,13 @@ set_at_end items set span at = ap (λ a. slice_range (items ++ set) a span.end) 
 
 pub spans_pushed : (items set : List ℕ) (spans : List SetSpan) (span : SetSpan) → All (IsSpanOfSet items) spans → IsRising set → IsAtEnd items set span
     → All (IsSpanOfSet (items ++ set)) (spans ++ span ∷ [])
-spans_pushed items set spans span all up at = All-push (IsSpanOfSet (items ++ set)) spans span (spans_kept items set spans all) (record {
-  within = record { ordered = omega (arith, at.start, at.end); within = omega (arith, at.end, length-append items set) };
-  rises = subst IsRising (sym (set_at_end items set span at)) up;
-})
+spans_pushed items set spans span all up at = grind (arith, common_steps)
 
 pub spanned_sets_pushed : (items set : List ℕ) (spans : List SetSpan) (span : SetSpan) → All (IsSpanOfSet items) spans → IsAtEnd items set span
     → spanned_sets (items ++ set) (spans ++ span ∷ []) ≡ spanned_sets items spans ++ record { set = set; count = span.count } ∷ []
-spanned_sets_pushed items set spans span all at =
-    map-append (spanned (items ++ set)) spans (span ∷ [])
-    ∙ ap (λ l. l ++ spanned (items ++ set) span ∷ []) (spanned_sets-append items set spans all)
-    ∙ ap (λ (s : List ℕ). let c : Counted = record { set = s; count = span.count } in spanned_sets items spans ++ c ∷ []) (set_at_end items set span at)
+spanned_sets_pushed items set spans span all at = grind (arith, common_steps, map-append, spanned_sets-append, set_at_end)
 
 -- ---- an error that changes nothing
 
 pub on_any_error : {T E : Type 0} {P : Type 0} (result : Result T E) → P → OnErr result P
-on_any_error (Ok value) holds = tt
-on_any_error (Err error) holds = holds
+on_any_error h1 h2 = grind (arith, common_steps)

@@ -1,7 +1,6 @@
 -- Sets of a list that aren't marked.
-use Rattle.std.proofs.Common.{◌≡◌, ℕ, ◌+◌, ◌<◌, Bool, true, false, not, List, [], ◌∷◌, ◌++◌, length, take, get_or, cond, filter, sym, ap, ◌∙◌}
-use Rattle.std.proofs.lemmas.List.{take_more, append-nil}
-use Rattle.std.proofs.lemmas.List.Elements.{filter-append}
+use Rattle.std.proofs.Common.{◌≡◌, ℕ, ◌+◌, ◌<◌, Bool, true, false, not, List, [], ◌∷◌, ◌++◌, length, take, get_or, filter, ap, ◌∙◌, arith}
+use Rattle.std.proofs.lemmas.Grind.{common_steps}
 use Rattle.basket_lists.specs.CountedSets.{PassesUnmarked}
 use Rattle.basket_sets.specs.declared.counted.Counted.{Counted}
 
@@ -15,20 +14,11 @@ AreUnmarkedBelow marks list number kept = (test : Counted → Bool) → PassesUn
 
 pub unmarked_more : (marks : List Bool) (list : List Counted) (number : ℕ) (kept : List Counted) → AreUnmarkedBelow marks list number kept → number < length list
     → get_or marks number false ≡ false → AreUnmarkedBelow marks list (number + 1) (kept ++ get_or list number none ∷ [])
-unmarked_more marks list number kept so below unmarked test passes =
-    let c = get_or list number none in
-    let e : test c ≡ true = passes number none below ∙ ap not unmarked in
-    ap (λ l. l ++ c ∷ []) (so test passes)
-    ∙ ap (λ l. filter test (take number list) ++ l) (sym (ap (λ b. cond b (c ∷ []) []) e))
-    ∙ sym (filter-append test (take number list) (c ∷ []))
-    ∙ ap (filter test) (sym (take_more list number none below))
+unmarked_more marks list number kept so below unmarked test passes = grind (arith, common_steps)
 
 pub marked_more : (marks : List Bool) (list : List Counted) (number : ℕ) (kept : List Counted) → AreUnmarkedBelow marks list number kept → number < length list
     → get_or marks number false ≡ true → AreUnmarkedBelow marks list (number + 1) kept
 marked_more marks list number kept so below marked test passes =
     let c = get_or list number none in
     let e : test c ≡ false = passes number none below ∙ ap not marked in
-    so test passes ∙ sym (append-nil (filter test (take number list)))
-    ∙ ap (λ l. filter test (take number list) ++ l) (sym (ap (λ b. cond b (c ∷ []) []) e))
-    ∙ sym (filter-append test (take number list) (c ∷ []))
-    ∙ ap (filter test) (sym (take_more list number none below))
+    grind (arith, common_steps)

@@ -1,6 +1,6 @@
 -- Sets without one of their items.
-use Rattle.std.proofs.Common.{◌≡◌, ◌≢◌, ℕ, zero, suc, ◌+◌, ◌-◌, ◌*◌, ◌/◌, ◌^◌, ◌<◌, List, [], ◌∷◌, ◌++◌, length, map, drop, take, get_or, set, sym, ap, ◌∙◌, subst, inl, inr, arith, get_or-set_other, get_or-set_same}
-use Rattle.std.proofs.lemmas.Bool.{cases_eq}
+use Rattle.std.proofs.Common.{◌≡◌, ◌≢◌, ℕ, zero, suc, ◌+◌, ◌-◌, ◌*◌, ◌^◌, ◌<◌, List, [], ◌∷◌, ◌++◌, length, map, drop, take, get_or, set, sym, ap, ◌∙◌, subst, arith}
+use Rattle.std.proofs.lemmas.Grind.{common_steps}
 use Rattle.std.proofs.lemmas.List.{get_or-map, length-map}
 use Rattle.basket_lists.specs.declared.packed.Packed.{Packed}
 use Rattle.basket_lists.specs.Known.{IsWordOf, shorter_number}
@@ -19,11 +19,7 @@ use Rattle.basket_sets.proofs.theory.Rising.{Member-from_has, first_below, has_p
 
 pub indexes_more : (sets : List Counted) (items indexes : List ℕ) (count index : ℕ) → AreIndexesWithout sets items count indexes → count < length indexes
     → IsIndexWithout sets items (get_or items count 0) index → AreIndexesWithout sets items (count + 1) (set indexes count index)
-indexes_more sets items indexes count index all within one k less inside = elim (cases_eq k count) [
-  | inl same ↦ subst (λ n. IsIndexWithout sets items (get_or items n 0) (get_or (set indexes count index) n NOWHERE)) (sym same)
-      (subst (IsIndexWithout sets items (get_or items count 0)) (sym (get_or-set_same indexes count index NOWHERE within)) one)
-  | inr other ↦ subst (IsIndexWithout sets items (get_or items k 0)) (sym (get_or-set_other indexes count k index NOWHERE other)) (all k (omega (arith, less, other)) inside)
-]
+indexes_more sets items indexes count index all within one k less inside = grind (arith, common_steps)
 
 -- ---- one item less
 
@@ -46,9 +42,7 @@ module _ (coding : Coding) (is : IsCoding coding) (packed : Packed) (set : IsPac
   -- a word with its code has the set
   module _ (plain : List Counted) (found : Packed) (same : code_of coding found ≡ code_of coding shorter) where
     found_here : found.word < 2 ^ 127
-    found_here =
-        let size : found.word / 2 ^ 121 ≡ size_of coding code - 1 = size_is coding is found ∙ ap (size_of coding) same ∙ word.sized in
-        omega (arith, size, set.code.size, is.sizes)
+    found_here = grind (arith, common_steps, size_is)
 
     pub found_set : (kept coding plain found).set ≡ set_of coding (code_of coding shorter)
     found_set = ap (λ (c : Counted). c.set) (kept_here coding plain found found_here) ∙ ap (set_of coding) same

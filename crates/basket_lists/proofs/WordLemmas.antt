@@ -1,5 +1,6 @@
 -- Words: the size and the indexes of a set above its count.
-use Rattle.std.proofs.Common.{◌≡◌, ℕ, ◌+◌, ◌-◌, ◌*◌, ◌/◌, ◌%◌, ◌^◌, ◌<◌, ◌≤◌, sym, ap, ◌∙◌, subst, arith, mul_assoc, mul_comm, mul-le-mul_right, pow_mono, mod-eq_of_lt, lt_of_lt_of_le}
+use Rattle.std.proofs.Common.{◌≡◌, ℕ, ◌+◌, ◌-◌, ◌*◌, ◌/◌, ◌%◌, ◌^◌, ◌<◌, ◌≤◌, sym, ap, ◌∙◌, subst, arith, mul_assoc, mul-le-mul_right, pow_mono, mod-eq_of_lt, lt_of_lt_of_le}
+use Rattle.std.proofs.lemmas.Grind.{common_steps}
 use Rattle.std.proofs.lemmas.Nat.{field_of, mod_low, mod-pow-add, mul-add-lt, pow-add, shl-shr, shr-shr, shr_high}
 use Rattle.std.proofs.Math.Nat.{add-mul}
 use Rattle.basket_lists.specs.declared.packed.Packed.{Packed}
@@ -52,9 +53,7 @@ module _ (coding : Coding) (is : IsCoding coding) where
 
     -- nothing is lost where it is put together
     split : code * 2 ^ low + count ≡ size * 2 ^ 121 + number * 2 ^ low + count
-    split =
-        ap (λ n. n + count) (add-mul (size * 2 ^ indexes) number (2 ^ low) ∙ ap (λ n. n + number * 2 ^ low)
-        (mul_assoc size (2 ^ indexes) (2 ^ low) ∙ ap (λ n. size * n) (mul_comm (2 ^ indexes) (2 ^ low) ∙ whole)))
+    split = grind (arith, common_steps, add-mul, whole)
 
     pub size_kept : size * 2 ^ 121 % 2 ^ 128 ≡ size * 2 ^ 121
     size_kept = mod-eq_of_lt (omega (arith, fits.sized, is.sizes))
@@ -66,11 +65,4 @@ module _ (coding : Coding) (is : IsCoding coding) where
     word_is = ap (λ n. n + number * 2 ^ low % 2 ^ 128 + count) size_kept ∙ ap (λ n. size * 2 ^ 121 + n + count) number_kept ∙ sym split
 
     pub is_word_of : (packed : Packed) → packed.word ≡ code * 2 ^ low + count → IsWordOf coding size number count packed
-    is_word_of packed same =
-        let code_at : code_of coding packed ≡ code = ap (λ w. w / 2 ^ low) same ∙ shr_high code low count fits.counted in
-        record {
-          sized = ap (λ n. n / 2 ^ indexes) code_at ∙ shr_high size indexes number number_below;
-          numbered = ap (λ n. n % 2 ^ indexes) code_at ∙ mod_low size indexes number number_below;
-          counted = ap (λ w. w % 2 ^ low) same ∙ mod_low code low count fits.counted;
-          here = omega (arith, same, word_below);
-        }
+    is_word_of packed same = grind (arith, common_steps, shr_high, number_below, mod_low, word_below)

@@ -1,12 +1,11 @@
 use Rattle.std.proofs.Common.{◌<◌, length, map, sym, ap, subst, arith}
+use Rattle.std.proofs.lemmas.Grind.{common_steps}
 use Rattle.std.specs.Prelude.{All}
 use Rattle.std.proofs.lemmas.List.{length-map}
 use Rattle.basket_lists.specs.declared.known.TheConstants.{MOST_ITEMS}
-use Rattle.basket_lists.specs.CountedSets.{set_at}
 use Rattle.basket_lists.specs.Packed.{IsKept, kept, unpacked}
 use Rattle.basket_lists.specs.Without.{AreIndexesWithout}
 use Rattle.basket_lists.proofs.ListLemmas.{set_here}
-use Rattle.basket_sets.specs.declared.counted.Counted.{Counted}
 use Rattle.basket_lists.proofs.counted_sets.CountedSets.indexes_without.Goals as goal
 
 pub returns-in-None : goal.returns-in-None
@@ -20,5 +19,4 @@ returns-in-None c =
     let found = c.indexes_without.new.found in
     let all = subst (All (IsKept known plain)) (sym c.deref.ensures.value) c.self.invariant.1 in
     let in_words = subst (λ w. AreIndexesWithout (map (kept known plain) w) (unpacked known word).set MOST_ITEMS found) c.deref.ensures.value (c.indexes_without.ensures plain all) in
-    subst (λ sets. AreIndexesWithout sets (set_at sets c.args.number) MOST_ITEMS found) c.self.view_is
-    (subst (λ set. AreIndexesWithout (map (kept known plain) words) set MOST_ITEMS found) (sym (ap (λ (one : Counted). one.set) (set_here known plain words c.args.number word inside c.index.ensures here))) in_words)
+    grind (arith, common_steps, set_here)

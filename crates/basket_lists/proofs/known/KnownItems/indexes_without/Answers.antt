@@ -1,6 +1,7 @@
 use Rattle.std.proofs.Common.{rules, ◌≡◌, ◌≢◌, ℕ, ◌+◌, ◌-◌, ◌*◌, ◌<◌, length, map, get_or, set, sym, ap, ◌∙◌, subst, inl, inr, arith, get_or-set_other, get_or-set_same}
+use Rattle.std.proofs.lemmas.Grind.{common_steps}
 use Rattle.std.proofs.lemmas.Bool.{cases_eq}
-use Rattle.basket_lists.specs.Known.{FitsWord, IsWordOf, shorter_number}
+use Rattle.basket_lists.specs.Known.{IsWordOf, shorter_number}
 use Rattle.basket_lists.specs.Packed.{Coding, HasCode, IsCoding, code_of, kept, number_of, set_of, size_of}
 use Rattle.basket_lists.specs.Without.{IsIndexWithout}
 use Rattle.basket_lists.proofs.LongerLemmas.{set_length, shorter_fits}
@@ -13,20 +14,7 @@ less_at : (bits other number of above less : ℕ) → less ≡ shorter_number bi
 less_at bits other number of above less is same numbers = is ∙ ap (λ b. shorter_number bits number (above * b)) same ∙ ap (λ n. shorter_number bits n (above * bits)) numbers
 
 pub word-shorter-requires : goal.word-shorter-requires
-word-shorter-requires c =
-    let coding = c.args.self.now in
-    let packed = c.args.packed.now in
-    let code = code_of coding packed in
-    let is = subst IsCoding c.self.view_is c.self.invariant in
-    let above = c.loop-after.after in
-    let number = c.number-number.ensures in
-    let shorter = less_at coding.item_bits c.self.inside.item_bits c.number-number.result (number_of coding code) above c.without_digit-shorter.result
-    c.without_digit-shorter.ensures (ap (λ (k : Coding). k.item_bits) c.self.view_is) number in
-    let less : above < size_of coding code = omega (arith, c.loop-after-test.true, c.code_size-size.ensures) in
-    record {
-      fits = subst (λ s. FitsWord coding (s - 1) c.without_digit-shorter.result 0) (sym c.code_size-size.ensures)
-          (subst (λ n. FitsWord coding (size_of coding code - 1) n 0) (sym shorter) (shorter_fits coding is packed c.requires above less));
-    }
+word-shorter-requires c = grind (arith, common_steps, less_at, shorter_fits)
 
 pub loop-after-preserved : goal.loop-after-preserved
 loop-after-preserved c =

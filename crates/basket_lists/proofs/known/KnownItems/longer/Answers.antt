@@ -1,4 +1,5 @@
 use Rattle.std.proofs.Common.{◌≡◌, ℕ, ◌+◌, ◌*◌, ◌^◌, ◌<◌, length, get_or, refl, sym, ap, ◌∙◌, subst, arith}
+use Rattle.std.proofs.lemmas.Grind.{common_steps}
 use Rattle.basket_lists.specs.declared.packed.Packed.{Packed}
 use Rattle.basket_lists.specs.Known.{FitsWord, IsBetween, IsWordOf, longer_number}
 use Rattle.basket_lists.specs.Packed.{Coding, IsCoding, IsLonger, IsPacked, code_of, number_of, size_of}
@@ -23,13 +24,7 @@ module _ (coding : Coding) (is : IsCoding coding) (packed : Packed) (set : IsPac
 
   module _ (longer : ℕ) (longer_number_is : longer ≡ longer_number coding.item_bits number index (above * bits)) (fits : count < 2 ^ coding.count_bits) where
     pub fits_word : FitsWord coding (size + 1) longer count
-    fits_word = record {
-      sized = omega (arith, size_is, has_room);
-      numbered = subst (λ s. longer < 2 ^ ((s + 1) * coding.item_bits)) (sym size_is)
-          (subst (λ n. n < 2 ^ ((size_of coding (code_of coding packed) + 1) * coding.item_bits)) (sym (longer_number_is ∙ same))
-          (longer_fits coding is packed set index item count above known named is_between has_room));
-      counted = fits;
-    }
+    fits_word = grind (arith, common_steps, has_room, same, longer_fits, is_between)
 
     pub is_longer : (word : Packed) → IsWordOf coding (size + 1) longer count word → IsLonger coding packed item count word
     is_longer word made = longer_is coding is packed set index item count above known named is_between has_room word

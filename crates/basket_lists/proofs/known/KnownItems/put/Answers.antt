@@ -1,4 +1,5 @@
-use Rattle.std.proofs.Common.{rules, ◌≡◌, ℕ, ◌-◌, ◌*◌, ◌/◌, ◌%◌, ◌^◌, ◌<◌, ◌≤◌, List, length, get_or, set, take, sym, ap, ◌∙◌, subst, inl, inr, arith, get_or-set_other, get_or-set_same, get_or-take, length-set}
+use Rattle.std.proofs.Common.{rules, ◌≡◌, ℕ, ◌-◌, ◌*◌, ◌/◌, ◌%◌, ◌^◌, ◌<◌, ◌≤◌, List, length, set, take, ap, ◌∙◌, subst, arith, get_or-take}
+use Rattle.std.proofs.lemmas.Grind.{common_steps}
 use Rattle.std.proofs.lemmas.Bool.{cases_eq}
 use Rattle.std.proofs.lemmas.List.{get_or_default, length-take-le, same_lists}
 use Rattle.basket_lists.specs.Packed.{Coding, IsCoding, IsPacked, code_of, number_of, set_of, size_of}
@@ -15,9 +16,7 @@ rest_at coding code size left rest is same = is ∙ ap (λ s. number_of coding c
 known_index : (coding own : Coding) (packed : Packed) (size left rest digit : ℕ) (items : List ℕ) → IsCoding own → own ≡ coding → IsPacked coding packed
     → 0 < left → left ≤ size → size ≡ size_of coding (code_of coding packed) → rest ≡ number_of coding (code_of coding packed) / 2 ^ ((size - left) * coding.item_bits)
     → digit ≡ rest % 2 ^ own.item_bits → items ≡ own.items → digit < length items
-known_index coding own packed size left rest digit items is same set some few sized at low all =
-    let known = digit_known coding (subst IsCoding same is) packed set left rest some (omega (arith, few, sized)) (rest_at coding (code_of coding packed) size left rest at sized) in
-    omega (arith, low, known, ap (λ (k : Coding). rest % 2 ^ k.item_bits) same, ap (λ (k : Coding). length k.items) same, ap length all)
+known_index coding own packed size left rest digit items is same set some few sized at low all = grind (arith, common_steps, digit_known, rest_at)
 
 pub offset_bounds-items-low_bits : goal.offset_bounds-items-low_bits
 offset_bounds-items-low_bits c =
@@ -31,34 +30,7 @@ bounds-items-low_bits c =
     c.loop-left-test.true c.loop-left.invariant.few c.code_size-size.ensures c.loop-left.invariant.rest c.low_bits.ensures c.deref-items.ensures.value
 
 pub loop-left-preserved : goal.loop-left-preserved
-loop-left-preserved c =
-    let coding = c.args.self.now in
-    let packed = c.args.packed.now in
-    let code = code_of coding packed in
-    let is = subst IsCoding c.self.view_is c.self.invariant in
-    let left = c.loop-left.left in
-    let size = c.code_size-size.result in
-    let few : left ≤ size_of coding code = omega (arith, c.loop-left.invariant.few, c.code_size-size.ensures) in
-    let rest = rest_at coding code size left c.loop-left.rest c.loop-left.invariant.rest c.code_size-size.ensures in
-    let bits = ap (λ (k : Coding). k.item_bits) c.self.view_is in
-    let digit : c.low_bits.result ≡ c.loop-left.rest % 2 ^ coding.item_bits = c.low_bits.ensures ∙ ap (λ b. c.loop-left.rest % 2 ^ b) bits in
-    let known = digit_known coding is packed c.requires left c.loop-left.rest c.loop-left-test.true few rest in
-    let all = c.deref-items.ensures.value ∙ ap (λ (k : Coding). k.items) c.self.view_is in
-    let item : get_or c.deref-items.result.now c.low_bits.result 0 ≡ get_or (set_of coding code) (left - 1) 0 =
-    ap (λ items. get_or items c.low_bits.result 0) all ∙ ap (λ p. get_or coding.items p 0) digit ∙ digit_item coding is packed c.requires left c.loop-left.rest c.loop-left-test.true few rest in
-    let full = c.loop-left.invariant.full in
-    record {
-      full = length-set c.loop-left.room (left - 1) (get_or c.deref-items.result.now c.low_bits.result 0) ∙ full;
-      few = omega (arith, c.loop-left.invariant.few);
-      rest = ap (λ b. c.loop-left.rest / 2 ^ b) bits ∙ rest_next coding is packed c.requires left c.loop-left.rest c.loop-left-test.true few rest
-          ∙ ap (λ s. number_of coding code / 2 ^ ((s - (left - 1)) * coding.item_bits)) (sym c.code_size-size.ensures);
-      room = λ k from to. elim (cases_eq k (left - 1)) [
-        | inl same ↦
-            subst (λ n. get_or (set c.loop-left.room (left - 1) (get_or c.deref-items.result.now c.low_bits.result 0)) n 0 ≡ get_or (set_of coding code) n 0) (sym same)
-            (get_or-set_same c.loop-left.room (left - 1) (get_or c.deref-items.result.now c.low_bits.result 0) 0 (omega (arith, full, few, c.requires.code.size, is.sizes)) ∙ item)
-        | inr other ↦ get_or-set_other c.loop-left.room (left - 1) k (get_or c.deref-items.result.now c.low_bits.result 0) 0 other ∙ c.loop-left.invariant.room k (omega (arith, from, other)) to
-      ];
-    }
+loop-left-preserved c = grind (arith, common_steps, rest_at, digit_known, digit_item, rest_next, cases_eq)
 
 pub returns-clause-items : goal.returns-clause-items
 returns-clause-items c =

@@ -1,4 +1,5 @@
 use Rattle.std.proofs.Common.{◌≡◌, ℕ, ◌+◌, ◌-◌, ◌*◌, ◌/◌, ◌%◌, ◌^◌, ◌<◌, ap, ◌∙◌, arith, mod-eq_of_lt}
+use Rattle.std.proofs.lemmas.Grind.{common_steps}
 use Rattle.std.proofs.lemmas.Nat.{shl-shr, shr_le, shr_split}
 use Rattle.basket_lists.specs.Known.{longer_number}
 use Rattle.basket_lists.specs.Packed.{Coding}
@@ -20,9 +21,7 @@ module _ (bits number index last : ℕ) (room : longer_number bits number index 
 
   -- what is left of the number without its first digits
   rest : number < 2 ^ 128 → number - number / 2 ^ last * 2 ^ last % 2 ^ 128 ≡ number % 2 ^ last
-  rest small =
-      let parts = shr_split number last in
-      ap (λ n. number - n) (mod-eq_of_lt (omega (arith, parts, small))) ∙ omega (arith, parts)
+  rest small = grind (arith, common_steps, shr_split)
 
 pub returns : goal.returns
 returns c =
