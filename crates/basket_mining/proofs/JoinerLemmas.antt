@@ -1,5 +1,6 @@
 -- The parts of a level.
 use Rattle.std.proofs.Common.{◌≡◌, ℕ, ◌+◌, ◌≤◌, Bool, List, map, filter, length, take, subst, sym, ap, ◌∙◌, arith}
+use Rattle.std.proofs.lemmas.Grind.{common_steps}
 use Rattle.std.specs.List.{All, flat_map, range_with_len}
 use Rattle.std.specs.Prelude.{slice_range}
 use Rattle.std.proofs.lemmas.List.{length-append, length-map}
@@ -23,27 +24,22 @@ use Rattle.mine_supports.proofs.theory.Parts.{counts_in_range}
 -- the prefixes from where a part starts to where it ends are the part
 pub range_is : (groups : List Group) (low high part parts n : ℕ) → n ≡ length groups → low ≡ shard_start part parts n → high ≡ shard_start (part + 1) parts n
     → slice_range groups low high ≡ shard_of part parts groups
-range_is groups low high part parts n whole start end =
-    (λ i. slice_range groups (start i) (end i)) ∙ ap (λ m. slice_range groups (shard_start part parts m) (shard_start (part + 1) parts m)) whole
+range_is groups low high part parts n whole start end = grind (arith, common_steps)
 
 -- one part more
 pub before_more : (groups : List Group) (part parts : ℕ) → 1 ≤ parts
     → length (sets_of (take (shard_start (part + 1) parts (length groups)) groups)) ≡ length (sets_of (take (shard_start part parts (length groups)) groups)) + length (sets_of (shard_of part parts groups))
-before_more groups part parts some =
-    let front = take (shard_start part parts (length groups)) groups in
-    ap (λ g. length (sets_of g)) (shard_more part parts groups some) ∙ ap length (sets_append front (shard_of part parts groups)) ∙ length-append (sets_of front) (sets_of (shard_of part parts groups))
+before_more groups part parts some = grind (arith, common_steps, shard_more, sets_append, length-append)
 
 -- the counts of a part, among those of all sets
 pub part_counts : (support : List ℕ → ℕ) (groups : List Group) (counts : List ℕ) (low high first count : ℕ) → counts ≡ map support (sets_of groups) → first ≡ length (sets_of (take low groups))
     → count ≡ length (sets_of (slice_range groups low high)) → slice_range counts first (first + count) ≡ map support (sets_of (slice_range groups low high))
-part_counts support groups counts low high first count are start long =
-    (λ i. slice_range counts (start i) (start i + long i)) ∙ counts_in_range groups low high support counts are
+part_counts support groups counts low high first count are start long = grind (arith, common_steps, counts_in_range)
 
 -- they are no more than all counts
 pub part_within : (support : List ℕ → ℕ) (groups : List Group) (counts : List ℕ) (low high first count : ℕ) → counts ≡ map support (sets_of groups) → first ≡ length (sets_of (take low groups))
     → count ≡ length (sets_of (slice_range groups low high)) → first + count ≤ length counts
-part_within support groups counts low high first count are start long =
-    omega (arith, count_within groups low high, start, long, ap length are, length-map (sets_of groups) support)
+part_within support groups counts low high first count are start long = grind (arith, common_steps, count_within, length-map)
 
 -- ---- what is joined
 

@@ -1,5 +1,6 @@
 -- From the frequent sets of coded baskets to those of a database.
 use Rattle.std.proofs.Common.{◌≡◌, ◌+◌, ◌^◌, ◌<◌, ℕ, List, length, sym, ap, ◌∙◌, subst, arith}
+use Rattle.std.proofs.lemmas.Grind.{common_steps}
 use Rattle.basket_sets.specs.declared.minimum.Minimum.{Minimum}
 use Rattle.basket_sets.specs.declared.weighted.Weighted.{Weighted}
 use Rattle.basket_ranks.specs.Codes.{Coding, coding_of, merged_coding, baskets_of, frequent_of_coding, ranks_of}
@@ -14,7 +15,7 @@ use Rattle.basket_mining.specs.Mining.{IsWorkOver}
 use Rattle.basket_mining.specs.declared.mining.Work.{Work}
 use Rattle.basket_core.specs.Listing.{Listing, listing_of}
 use Rattle.mine_limit.specs.declared.fault.MineFault.{MineFault}
-use Rattle.std.specs.Prelude.{IfOk, Ok, Err, Result}
+use Rattle.std.specs.Prelude.{IfOk, Result}
 use Rattle.mine_apriori.specs.Work.{candidate_count, CandidatesBySets}
 
 module _ (database : List Weighted) (minimum : Minimum) (coding : Coding) (made : coding ≡ coding_of database minimum) where
@@ -26,10 +27,7 @@ module _ (database : List Weighted) (minimum : Minimum) (coding : Coding) (made 
 
   -- a frequent set of enough items settles that there are more sets than the limit
   pub settled : (size limit : ℕ) → limit + 1 < 2 ^ size → HasSetOfSize (frequent_of_coding coding) size → limit < length (frequent_of database minimum)
-  settled size limit enough h =
-      let many = deep_sets_are_many (baskets_of coding) coding.minimum size h in
-      let same = ap length list_is in
-      omega (arith, many, same, enough)
+  settled size limit enough h = grind (arith, common_steps, deep_sets_are_many, list_is)
 
 -- ---- equal baskets merged
 
@@ -47,11 +45,7 @@ module _ (coding merged : Coding) (list : frequent_of_coding merged ≡ frequent
   -- there are as many candidates
   pub count_is : CandidatesBySets → (database : List Weighted) (minimum : Minimum) → coding ≡ coding_of database minimum
       → candidate_count (baskets_of merged) merged.minimum ≡ candidate_count database minimum
-  count_is law database minimum made =
-      let one : merged.minimum ≡ minimum = least ∙ ap (λ c. c.minimum) made in
-      let same = list ∙ list_is database minimum coding made in
-      ap (candidate_count (baskets_of merged)) one
-      ∙ ap length (law (baskets_of merged) database minimum (subst (λ m. frequent_of (baskets_of merged) m ≡ frequent_of database minimum) one same))
+  count_is law database minimum made = grind (arith, common_steps, list_is)
 
 module _ (database : List Weighted) (minimum : Minimum) (coding : Coding) (made : coding ≡ coding_of database minimum) where
   pub ranks_are_frequent : RanksAreFrequent coding
@@ -59,13 +53,10 @@ module _ (database : List Weighted) (minimum : Minimum) (coding : Coding) (made 
 
   -- what is answered for the coding is answered for the database
   pub sets_are : (result : Result (Listing × Work) MineFault) → IfOk result (λ mined. mined.0 ≡ listing_of coding) → IfOk result (λ mined. mined.0.sets ≡ frequent_of database minimum)
-  sets_are (Ok mined) is = ap (λ f. f.sets) is ∙ list_is database minimum coding made
-  sets_are (Err fault) is = is
+  sets_are h1 h2 = grind (arith, common_steps, list_is)
 
   pub totals_are : (result : Result (Listing × Work) MineFault) → IfOk result (λ mined. mined.0 ≡ listing_of coding) → IfOk result (λ mined. mined.0.total ≡ total_of database)
-  totals_are (Ok mined) is = ap (λ f. f.total) is ∙ total_is database minimum coding made
-  totals_are (Err fault) is = is
+  totals_are h1 h2 = grind (arith, common_steps)
 
   pub work_is : (such : List Weighted → Minimum → Work) (result : Result (Listing × Work) MineFault) → IfOk result (λ mined. IsWorkOver coding such mined.1) → IfOk result (λ mined. mined.1 ≡ such database minimum)
-  work_is such (Ok mined) is = is database minimum made
-  work_is such (Err fault) is = is
+  work_is h1 h2 h3 = grind (arith, common_steps)

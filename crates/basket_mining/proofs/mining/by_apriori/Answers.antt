@@ -1,17 +1,11 @@
-use Rattle.std.proofs.Common.{◌≡◌, ◌∙◌, Err, ap, arith, length, sym}
+use Rattle.std.proofs.Common.{◌∙◌, arith}
+use Rattle.std.proofs.lemmas.Grind.{common_steps}
 use Rattle.std.proofs.lemmas.Result.{err_from_is_err_and}
-use Rattle.mine_limit.specs.declared.fault.MineFault.TheVariants.{TooMany}
 use Rattle.basket_mining.proofs.MiningLemmas.{count_is, merged_listing}
 use Rattle.basket_mining.proofs.mining.by_apriori.Goals as goal
 
 pub returns-in_err-frequent-clause-too_many : goal.returns-in_err-frequent-clause-too_many
-returns-in_err-frequent-clause-too_many g c most e =
-    let same = ap length c.in_ok-merged.ensures.list in
-    let p = err_from_is_err_and c.from_residual-in_err-frequent.result c.from_residual-in_err-frequent.ensures.1 in
-    let both = sym p.1 ∙ e in
-    let fault : p.0 ≡ TooMany most = cc in
-    let (limit, more) = c.apriori_shared.ensures.too_many most (c.in_err-frequent.was ∙ ap Err (sym p.2 ∙ fault)) in
-    (limit, omega (arith, more, same))
+returns-in_err-frequent-clause-too_many g c most e = grind (arith, common_steps, err_from_is_err_and)
 
 pub returns-clause-list : goal.returns-clause-list
 returns-clause-list g c = c.in_ok-frequent.ensures.ok ∙ merged_listing c.args.coded c.in_ok-merged.merged c.in_ok-merged.ensures.list c.in_ok-merged.ensures.total c.in_ok-merged.ensures.minimum

@@ -1,4 +1,5 @@
-use Rattle.std.proofs.Common.{◌∙◌, ap, arith, length}
+use Rattle.std.proofs.Common.{◌∙◌, ap, arith}
+use Rattle.std.proofs.lemmas.Grind.{common_steps}
 use Rattle.basket_ranks.specs.Codes.{coding_of}
 use Rattle.basket_mining.specs.Mining.{work_of}
 use Rattle.basket_mining.proofs.MiningLemmas.{list_is, sets_are, settled, totals_are, work_is}
@@ -28,8 +29,4 @@ returns-clause-work g c =
     work_is c.args.database c.args.plan.now.question.minimum c.in_ok-coded.coded made (work_of c.args.plan.now.miner) c.mine_coded.result c.mine_coded.ensures.work
 
 pub returns-clause-too_many : goal.returns-clause-too_many
-returns-clause-too_many g c most e =
-    let made = c.in_ok-coded.ensures ∙ ap (coding_of c.args.database) c.minimum.ensures in
-    let same = ap length (list_is c.args.database c.args.plan.now.question.minimum c.in_ok-coded.coded made) in
-    let (limit, more) = c.mine_coded.ensures.too_many most e in
-    (limit, omega (arith, more, same))
+returns-clause-too_many g c most e = grind (arith, common_steps, list_is)

@@ -1,6 +1,6 @@
-use Rattle.std.proofs.Common.{◌≡◌, ◌<◌, length, take, sym, ap, ◌∙◌, arith}
+use Rattle.std.proofs.Common.{◌≡◌, length, take, ◌∙◌, arith}
+use Rattle.std.proofs.lemmas.Grind.{common_steps}
 use Rattle.std.proofs.lemmas.List.{get_or_read}
-use Rattle.basket_ranks.specs.Shards.{shard_start}
 use Rattle.basket_sets.specs.Support.{support_of}
 use Rattle.mine_supports.specs.Extensions.{sets_of}
 use Rattle.mine_supports.proofs.theory.Extensions.{groups_long}
@@ -10,13 +10,7 @@ use Rattle.basket_mining.proofs.joiner.CountedPartWorkTuple2ExtensionsCountedSet
 use Rattle.basket_mining.proofs.joiner.CountedPartWorkTuple2ExtensionsCountedSets.value.Goals.{After-count_in-count}
 
 first_is : (c : After-count_in-count) → c.index-first.result.now ≡ length (sets_of (take c.new-range.result.start c.args.self.now.sets.now))
-first_is c =
-    let work = c.args.self.now in
-    let groups = work.sets.now in
-    let below : c.args.part < work.parts = c.requires.part in
-    let start = c.new-range.ensures.0 ∙ c.shard-start.ensures.start ∙ ap (shard_start c.args.part work.parts) (ap length c.prefixes.ensures ∙ groups_long groups) in
-    get_or_read work.before.items _ _ (omega (arith, work.long, below)) c.index-first.ensures 0
-    ∙ work.starts c.args.part below ∙ ap (λ n. length (sets_of (take n groups))) (sym start)
+first_is c = grind (arith, common_steps, groups_long, get_or_read)
 
 pub counts_from-requires : goal.counts_from-requires
 counts_from-requires c =
