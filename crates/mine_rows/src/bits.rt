@@ -6,6 +6,7 @@ ghost use Rattle.mine_rows.specs.Bits.{MOST_WORDS, shared_bits, shared_in_chunks
 use std::simd::prelude::*;
 
 /// The bits that chunks of words share, counted by lanes.
+#[tactic(auto, using(std::proofs::lemmas::Grind::common_steps, crate::proofs::BitLemmas::chunks_step, crate::proofs::BitLemmas::lanes_share, std::proofs::lemmas::Simd::adds_fit, crate::proofs::BitLemmas::lane_ones))]
 fn shared_by_lanes(first: &[[u64; 4]], second: &[[u64; 4]]) -> u64
     requires same { length first.now ≡ length second.now }
     requires wide { All (λ words. length words ≡ 4) first.now × All (λ words. length words ≡ 4) second.now }
@@ -21,6 +22,7 @@ fn shared_by_lanes(first: &[[u64; 4]], second: &[[u64; 4]]) -> u64
 }
 
 /// The bits that words share, counted word by word.
+#[tactic(auto, using(std::proofs::lemmas::Grind::common_steps, crate::proofs::BitLemmas::shared_most, crate::proofs::BitLemmas::shared_step))]
 fn shared_by_words(first: &[u64], second: &[u64]) -> u64
     requires same { length first.now ≡ length second.now }
     requires few { length first.now ≤ MOST_WORDS }
@@ -35,6 +37,7 @@ fn shared_by_words(first: &[u64], second: &[u64]) -> u64
 }
 
 /// At how many bits two rows of words both have a one.
+#[tactic(auto, using(std::proofs::lemmas::Grind::common_steps, crate::proofs::BitLemmas::chunks_wide))]
 pub fn and_count(a: &[u64], b: &[u64]) -> u64
     requires same { length a.now ≡ length b.now }
     requires few { length a.now ≤ MOST_WORDS }
@@ -49,6 +52,7 @@ pub fn and_count(a: &[u64], b: &[u64]) -> u64
 }
 
 /// Writes the bits that two rows of words share, and returns how many they are.
+#[tactic(auto, using(std::proofs::lemmas::Grind::common_steps, crate::proofs::BitLemmas::shared_most, crate::proofs::BitLemmas::shared_step))]
 pub fn put_shared(words: &mut [u64], x: &[u64], y: &[u64]) -> u64
     requires long { length words.old ≡ length x.now }
     requires same { length x.now ≡ length y.now }

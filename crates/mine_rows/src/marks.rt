@@ -76,6 +76,7 @@ impl Marks {
     /// Keeps those of some tids that are marked, replacing other tids. Returns their weight, or none
     /// if that is more than the most: then not all tids were looked at.
     #[inline(always)]
+    #[tactic(auto, using(std::proofs::lemmas::Grind::common_steps, std::proofs::lemmas::List::take_all))]
     pub fn keep(
         &self,
         tids: &[u32],

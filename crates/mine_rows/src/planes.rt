@@ -15,6 +15,7 @@ use std::alloc::{AllocError, Global};
 const WEIGHT_BITS: u32 = 40;
 
 /// The plane of a bit.
+#[tactic(auto, using(std::proofs::lemmas::Grind::common_steps, crate::proofs::WordLemmas::words_same, crate::proofs::PlaneLemmas::plane_end))]
 fn plane_of(alloc: Global, weights: &[u64], bit: u32) -> Result<Plane, AllocError>
     requires few { length weights.now ≤ MOST_TIDS }
     requires narrow { bit < 64 }
@@ -31,6 +32,7 @@ fn plane_of(alloc: Global, weights: &[u64], bit: u32) -> Result<Plane, AllocErro
 }
 
 /// The bits that some weight has.
+#[tactic(auto, using(std::proofs::lemmas::Grind::common_steps, crate::proofs::PlaneLemmas::either_bit, std::proofs::lemmas::List::Folds::list_any_more))]
 fn bits_in(weights: &[u64]) -> u64
     ensures { (bit : ℕ) → has_bit bit result ≡ list_any (has_bit bit) weights.now }
 {

@@ -47,6 +47,7 @@ impl Row for TidList {
         marks.mark(&self.tids, weights);
     }
 
+    #[tactic(auto, using(std::proofs::lemmas::Grind::common_steps))]
     fn unmark(&self, marks: &mut Marks, _weights: &Weights) {
         marks.clear(&self.tids);
     }

@@ -95,6 +95,7 @@ impl Weights {
     }
 
     /// What holds of all weights: they are few, none is 0, and no cover is heavy.
+    #[tactic(auto, using(std::proofs::lemmas::Grind::common_steps, crate::proofs::CoverLemmas::cover_light))]
     pub fn bounds(&self)
         ensures few { length self.now ≤ MOST_TIDS }
         ensures some { All (λ weight. 1 ≤ weight) self.now }
@@ -105,6 +106,7 @@ impl Weights {
     }
 
     /// The weight of some tids together.
+    #[tactic(auto, using(std::proofs::lemmas::Grind::common_steps, crate::proofs::CoverLemmas::cover_at, std::proofs::lemmas::List::get_or_default, std::proofs::lemmas::List::Sums::sum_by_more_le, crate::proofs::CoverLemmas::cover_light))]
     pub fn weight(&self, tids: &[u32]) -> u64
         requires rises { IsRising tids.now }
         requires below { AllBelow (length self.now) tids.now }
@@ -126,6 +128,7 @@ impl Weights {
     }
 
     /// The weight of the tids of a row of bits, if the row has this many ones.
+    #[tactic(auto, using(std::proofs::lemmas::Grind::common_steps, crate::proofs::PlaneLemmas::ones_weigh))]
     pub(crate) fn weight_of_bits(&self, words: &RowWords, ones: u64, planes: &[Plane]) -> u64
         requires planes { ArePlanes self.now (are_ones self.now) planes.now }
         requires cover { (cover : List ℕ) × IsCover self.now cover × (words.now.items ≡ words_of (length self.now) cover) × (ones ≡ length cover) }

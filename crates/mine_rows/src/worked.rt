@@ -9,6 +9,7 @@ use crate::weights::Weights;
 use std::alloc::{AllocError, Global};
 
 /// Words that share bits: 5 and 3 with 6 and 1, and words of ones with themselves.
+#[tactic(auto, using(std::proofs::lemmas::Grind::common_steps, crate::proofs::WorkedLemmas::ones_shared))]
 pub fn words_share_bits()
     ensures two { shared_bits (5 ∷ 3 ∷ []) (6 ∷ 1 ∷ []) ≡ 2 }
     ensures ones { (count : ℕ) → shared_bits (replicate count 18446744073709551615) (replicate count 18446744073709551615) ≡ count * 64 }
@@ -31,6 +32,7 @@ pub fn differences_of_covers()
 
 /// Over the weights 1, 2 and 3 the cover of all tids counts 6, and that of the first and the last
 /// tid 4, by each kind of row.
+#[tactic(auto, using(std::proofs::lemmas::Grind::common_steps, crate::proofs::WorkedLemmas::all_rise, crate::proofs::WorkedLemmas::ends_rise))]
 pub fn covers_of_three_weights<R: Row>(alloc: Global) -> Result<(u64, u64), AllocError>
     ensures { IfOk result (λ counts. (counts.0 ≡ 6) × (counts.1 ≡ 4)) }
 {

@@ -1,10 +1,6 @@
 use Rattle.std.proofs.Common.{arith}
-use Rattle.std.proofs.lemmas.Grind.{common_steps}
-use Rattle.mine_rows.proofs.BitLemmas.{chunks_wide, parts_share, shared_most}
+use Rattle.mine_rows.proofs.BitLemmas.{parts_share, shared_most}
 use Rattle.mine_rows.proofs.bits.and_count.Goals as goal
-
-pub shared_by_lanes-requires-clause-wide : goal.shared_by_lanes-requires-clause-wide
-shared_by_lanes-requires-clause-wide c = grind (arith, common_steps, chunks_wide)
 
 pub shared_by_lanes-requires-clause-few : goal.shared_by_lanes-requires-clause-few
 shared_by_lanes-requires-clause-few c =

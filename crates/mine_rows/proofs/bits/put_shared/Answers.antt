@@ -1,12 +1,8 @@
 use Rattle.std.proofs.Common.{◌++◌, ◌∷◌, [], get_or, sym, ap, ◌∙◌, arith}
-use Rattle.std.proofs.lemmas.Grind.{common_steps}
 use Rattle.std.specs.Prelude.{bit_and}
 use Rattle.std.proofs.lemmas.List.{length-set, take_more_set}
-use Rattle.mine_rows.proofs.BitLemmas.{both_more, shared_most, shared_step}
+use Rattle.mine_rows.proofs.BitLemmas.{both_more, shared_step}
 use Rattle.mine_rows.proofs.bits.put_shared.Goals as goal
-
-pub overflow_add-ones : goal.overflow_add-ones
-overflow_add-ones c = grind (arith, common_steps, shared_most, shared_step)
 
 pub loop-at-preserved : goal.loop-at-preserved
 loop-at-preserved c =

@@ -1,13 +1,9 @@
 use Rattle.std.proofs.Common.{◌+◌, drop, get_or, sym, ap, ◌∙◌, [], arith}
-use Rattle.std.proofs.lemmas.Grind.{common_steps}
 use Rattle.std.specs.Int.{w64}
-use Rattle.std.proofs.lemmas.Simd.{adds_fit, fold-sum, length-zip2, sum-zip2, sum_fits}
+use Rattle.std.proofs.lemmas.Simd.{fold-sum, length-zip2, sum-zip2, sum_fits}
 use Rattle.mine_rows.specs.Bits.{shared_in_chunks}
 use Rattle.mine_rows.proofs.BitLemmas.{chunks_end, chunks_step, lane_ones, lanes_long, lanes_share}
 use Rattle.mine_rows.proofs.bits.shared_by_lanes.Goals as goal
-
-pub overflow_add-lanes : goal.overflow_add-lanes
-overflow_add-lanes c = grind (arith, common_steps, chunks_step, lanes_share, adds_fit, lane_ones)
 
 pub loop-at-preserved : goal.loop-at-preserved
 loop-at-preserved c =

@@ -1,9 +1,8 @@
 use Rattle.std.proofs.Common.{ℕ, ◌+◌, ◌&&◌, ◌/◌, ◌%◌, ◌^◌, length, get_or, sym, ap, ◌∙◌, arith, false, ltb}
-use Rattle.std.proofs.lemmas.Grind.{common_steps}
 use Rattle.std.proofs.lemmas.Bool.{eq-eqb, le-ltb, ne_eqb}
 use Rattle.mine_rows.specs.Bits.{word_count, words_from}
 use Rattle.mine_rows.specs.Planes.{has_bit}
-use Rattle.mine_rows.proofs.PlaneLemmas.{tid_apart, tid_in, tid_out, plane_end, word_is_there}
+use Rattle.mine_rows.proofs.PlaneLemmas.{tid_apart, tid_in, tid_out, word_is_there}
 use Rattle.mine_rows.proofs.WordLemmas.{length-words, words_none, words_same}
 use Rattle.mine_rows.proofs.planes.plane_of.Goals as goal
 use Rattle.mine_rows.proofs.planes.plane_of.Goals.{then-weight-bit-eq1, else-weight-bit-eq1}
@@ -42,6 +41,3 @@ loop-tid-preserved c =
           (ap (λ v. v.items) w.words-is ∙ c.loop-tid.invariant
           ∙ sym (words_same after before 0 n (λ t low. tid_out has i (ne_eqb (get_or weights i 0 / 2 ^ bit % 2) 1 w.if-weight-bit-eq1.false) t)))
     ]
-
-pub returns-clause-words : goal.returns-clause-words
-returns-clause-words c = grind (arith, common_steps, words_same, plane_end)

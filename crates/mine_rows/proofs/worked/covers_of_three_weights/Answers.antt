@@ -1,13 +1,6 @@
 use Rattle.std.proofs.Common.{[], ◌∷◌, ap, ◌∙◌}
 use Rattle.mine_rows.specs.Cover.{all_tids, cover_weight}
-use Rattle.mine_rows.proofs.WorkedLemmas.{all_rise, ends_rise}
 use Rattle.mine_rows.proofs.worked.covers_of_three_weights.Goals as goal
-
-pub first-requires-clause-rises : goal.first-requires-clause-rises
-first-requires-clause-rises g c = all_rise
-
-pub first-requires-2-clause-rises : goal.first-requires-2-clause-rises
-first-requires-2-clause-rises g c = ends_rise
 
 pub returns : goal.returns
 returns g c =

@@ -1,8 +1,7 @@
 use Rattle.std.proofs.Common.{ℕ, ◌+◌, get_or, ltb, take, ap, ◌∙◌, arith, ◌≡◌}
-use Rattle.std.proofs.lemmas.Grind.{common_steps}
 use mir.Val.{bool_byte}
 use Rattle.std.proofs.Math.ListN.{set}
-use Rattle.std.proofs.lemmas.List.{get_or_default, length-set, take_all}
+use Rattle.std.proofs.lemmas.List.{get_or_default, length-set}
 use Rattle.std.proofs.lemmas.List.Sums.{sum_by_more, sum_by_more_le}
 use Rattle.basket_sets.proofs.theory.Rising.{has_place}
 use Rattle.mine_rows.proofs.MarkLemmas.{most_one, put_down}
@@ -56,6 +55,3 @@ returns-then-sum-most-clause-more c =
     let below = c.requires.below tid (has_place tids i here) in
     let read = c.index-weight.ensures ∙ get_or_default items tid c.index-weight.result.now 0 below in
     omega (arith, read, sum_by_more_le (λ p. get_or items p 0) tids i 0 here, c.if-sum-most.true, c.loop-tid.invariant.sum)
-
-pub returns-clause-sum : goal.returns-clause-sum
-returns-clause-sum c = grind (arith, common_steps, take_all)

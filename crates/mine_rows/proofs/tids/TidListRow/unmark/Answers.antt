@@ -1,12 +1,8 @@
-use Rattle.std.proofs.Common.{◌&&◌, false, not, ap, ◌∙◌, arith}
-use Rattle.std.proofs.lemmas.Grind.{common_steps}
+use Rattle.std.proofs.Common.{◌&&◌, false, not, ap, ◌∙◌}
 use Rattle.basket_sets.specs.Itemset.{has}
 use Rattle.std.proofs.Math.Bool.{not-and_self}
 use Rattle.mine_rows.proofs.MarkLemmas.{same_marks}
 use Rattle.mine_rows.proofs.tids.TidListRow.unmark.Goals as goal
-
-pub clear-requires : goal.clear-requires
-clear-requires c = let (parent, cover, is) = c.requires.row in grind (arith, common_steps)
 
 pub returns : goal.returns
 returns c =

@@ -1,16 +1,10 @@
 use Rattle.std.proofs.Common.{◌+◌, get_or, take, sym, ap, ◌∙◌, arith}
 use Rattle.std.proofs.lemmas.Grind.{common_steps}
 use Rattle.std.proofs.lemmas.List.{get_or_default}
-use Rattle.std.proofs.lemmas.List.Sums.{sum_by_more, sum_by_more_le, sum_by-take-le}
+use Rattle.std.proofs.lemmas.List.Sums.{sum_by_more, sum_by-take-le}
 use Rattle.mine_rows.specs.Cover.{cover_weight}
 use Rattle.mine_rows.proofs.CoverLemmas.{cover_at, cover_light}
 use Rattle.mine_rows.proofs.weights.Weights.weight.Goals as goal
-
-pub index-requires : goal.index-requires
-index-requires c = grind (arith, common_steps, cover_at)
-
-pub overflow_add-weight : goal.overflow_add-weight
-overflow_add-weight c = grind (arith, common_steps, cover_at, get_or_default, sum_by_more_le, cover_light)
 
 pub loop-tid-preserved : goal.loop-tid-preserved
 loop-tid-preserved c =

@@ -1,11 +1,7 @@
-use Rattle.std.proofs.Common.{subst, ◌∙◌, arith}
-use Rattle.std.proofs.lemmas.Grind.{common_steps}
+use Rattle.std.proofs.Common.{subst, ◌∙◌}
 use Rattle.mine_rows.specs.Weights.{KeepsWeights}
-use Rattle.mine_rows.proofs.PlaneLemmas.{kept_few, kept_light, kept_narrow, kept_weigh, kept_wide, ones_weigh}
+use Rattle.mine_rows.proofs.PlaneLemmas.{kept_few, kept_light, kept_narrow, kept_weigh, kept_wide}
 use Rattle.mine_rows.proofs.weights.Weights.weight_of_bits.Goals as goal
-
-pub returns-then-self : goal.returns-then-self
-returns-then-self c = λ cover is words ones. grind (arith, common_steps, ones_weigh)
 
 pub weight_by_planes-requires : goal.weight_by_planes-requires
 weight_by_planes-requires c =
