@@ -1,7 +1,7 @@
 -- Bytes that are written.
-use Rattle.std.proofs.Common.{◌≡◌, ℕ, ◌+◌, Bool, false, List, ◌++◌, Option, Some, None, Result, Ok, Err, length, take, refl, sym, subst, ◌∙◌, arith}
+use Rattle.std.proofs.Common.{◌≡◌, ℕ, ◌+◌, Bool, false, List, ◌++◌, Option, Result, Ok, Err, length, take, refl, sym, subst, ◌∙◌, arith}
+use Rattle.std.proofs.lemmas.Grind.{common_steps}
 use Rattle.std.specs.Prelude.{◌↔◌, IsOk, OnErr, OnOk}
-use Rattle.std.proofs.Math.Seq.{take-length}
 use Rattle.std.proofs.lemmas.Bool.{false≢true}
 use Rattle.std.proofs.lemmas.List.{length-append}
 use Rattle.std.proofs.KnownBytes.{Appends-trans}
@@ -12,15 +12,11 @@ use Rattle.basket_report.proofs.TextLemmas.{take_past}
 
 -- what is kept afterwards is all of it
 kept : (before now after : Option (List ℕ)) (text : List ℕ) → Appends before now text → Keeps now after → Appends before after text
-kept None now after text all same = tt
-kept (Some x) None after text all same = absurd all
-kept (Some x) (Some y) None text all same = absurd same
-kept (Some x) (Some y) (Some z) text all same = same ∙ all
+kept h1 h2 h3 h4 h5 h6 = grind (arith, common_steps)
 
 -- where all is taken and then kept, so is a front
 pub front_on_err : (result : Result Unit Failed) (before now after : Option (List ℕ)) (text : List ℕ) → Appends before now text → Keeps now after → OnErr result (TakesPrefix before after text)
-front_on_err (Ok x) before now after text all same = tt
-front_on_err (Err fault) before now after text all same = (length text, omega arith, subst (Appends before after) (sym (take-length text)) (kept before now after text all same))
+front_on_err h1 h2 h3 h4 h5 h6 h7 = grind (arith, common_steps)
 
 -- bytes are written, as far as the writer goes
 pub more_written : (start before after : Option (List ℕ)) (was_failed was_flush failed flush : Bool) (text bytes : List ℕ) (result : Result Unit Failed) → was_failed ≡ false → IsWritten start before was_failed was_flush text

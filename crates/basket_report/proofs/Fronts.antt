@@ -1,5 +1,6 @@
 -- The front of some bytes, as it is written.
-use Rattle.std.proofs.Common.{◌≡◌, ◌≢◌, ◌≤◌, ◌+◌, ◌-◌, ◌&&◌, ℕ, List, [], ◌∷◌, ◌++◌, Option, Ok, false, length, take, drop, nat_lt, refl, ap, subst, ◌∙◌, arith, zero, suc}
+use Rattle.std.proofs.Common.{◌≡◌, ◌≢◌, ◌≤◌, ◌+◌, ◌-◌, ◌&&◌, ℕ, List, [], ◌∷◌, ◌++◌, Option, Ok, false, length, take, drop, nat_lt, refl, ap, ◌∙◌, arith, zero, suc}
+use Rattle.std.proofs.lemmas.Grind.{common_steps}
 use Rattle.std.proofs.lemmas.Bool.{ne_eqb}
 use Rattle.std.proofs.lemmas.List.{take_rest, length-take, length-drop}
 use Rattle.std.proofs.KnownBytes.{Appends-trans}
@@ -25,5 +26,4 @@ pub count_within : (bytes : List ℕ) (k n : ℕ) → k ≤ length bytes → n �
 count_within bytes k n within small = omega (arith, length-take (length bytes - k) (drop k bytes), length-drop k bytes)
 
 pub written_more : (a b c : Option (List ℕ)) (bytes : List ℕ) (k n : ℕ) → Appends a b (take k bytes) → Appends b c (take n (take (length bytes - k) (drop k bytes))) → Appends a c (take (k + n) bytes)
-written_more a b c bytes k n before now =
-    subst (Appends a c) (ap (λ l. take k bytes ++ take n l) (take_rest bytes k) ∙ front_more bytes k n) (Appends-trans a b c (take k bytes) (take n (take (length bytes - k) (drop k bytes))) before now)
+written_more a b c bytes k n before now = grind (arith, common_steps, take_rest, front_more, Appends-trans)

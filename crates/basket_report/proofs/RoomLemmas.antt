@@ -1,5 +1,6 @@
 -- Texts in a room, one after another.
-use Rattle.std.proofs.Common.{◌≡◌, ◌∙◌, ◌+◌, ◌≤◌, ◌++◌, ℕ, List, drop, length, take, ap, sym, arith, length-take-le, take_at}
+use Rattle.std.proofs.Common.{◌≡◌, ◌∙◌, ◌+◌, ◌≤◌, ◌++◌, ℕ, List, drop, length, take, ap, sym, arith, length-take-le}
+use Rattle.std.proofs.lemmas.Grind.{common_steps}
 use Rattle.std.proofs.lemmas.List.{take-take}
 use Rattle.std.proofs.lemmas.Simd.{length-put_chunk, take_more_put_chunk}
 use lib.Lanes.{put_chunk}
@@ -24,5 +25,4 @@ front_put room text start wide count long fits few =
 -- a vector whose bytes were lent, with a text put there
 pub put_back : (items old new text : List ℕ) (start end count : ℕ) → IsPut old new start text end → old ≡ items → length old ≡ count
     → take end (take count (new ++ drop (length new) items)) ≡ take start items ++ text
-put_back items old new text start end count put are long =
-    ap (take end) (take_at new (drop (length new) items) count (put.same ∙ long)) ∙ put.bytes ∙ ap (λ l. take start l ++ text) are
+put_back items old new text start end count put are long = grind (arith, common_steps)

@@ -1,10 +1,10 @@
 -- The lines of the rules of a listing, union after union.
 use Rattle.std.proofs.Common.{◌≡◌, ◌∙◌, suc, add-one, arith, ◌+◌, ◌<◌, ◌≤◌, ◌++◌, ℕ, List, [], ◌∷◌, get_or, length, take, refl, ap, subst, sym}
+use Rattle.std.proofs.lemmas.Grind.{common_steps}
 use Rattle.std.specs.Prelude.{Vec}
 use Rattle.std.specs.Global.{Global}
 use Rattle.std.specs.List.{flat_map}
-use Rattle.std.proofs.lemmas.List.{append-nil, append_assoc, get_or-map, take_all, take_more}
-use Rattle.std.proofs.lemmas.List.Concat.{flat_map-append}
+use Rattle.std.proofs.lemmas.List.{append-nil, get_or-map}
 use Rattle.basket_core.specs.Listing.{Listing}
 use Rattle.basket_sets.specs.declared.counted.Counted.{Counted}
 use Rattle.basket_ranks.specs.Shards.{shard_start}
@@ -17,7 +17,7 @@ use Rattle.basket_rules.proofs.theory.Consistency.{frequent_is_consistent}
 use Rattle.basket_rules.proofs.theory.Rules.{rules_of_baskets}
 use Rattle.mine_pieces.specs.Pieces.{HasEach}
 use Rattle.basket_report.specs.Bytes.{joined}
-use Rattle.basket_report.specs.Report.{rule_text, rules_report_of}
+use Rattle.basket_report.specs.Report.{rules_report_of}
 use Rattle.basket_report.specs.Rules.{ReportsRules, ReportsUnions, first_rules}
 use Rattle.basket_report.specs.Style.{Wording}
 
@@ -38,15 +38,10 @@ module _ (wording : Wording) (listing : Listing) (confidence : ℕ × ℕ) where
       let before = flat_map f (take number listing.sets) in
       let set = get_or listing.sets number none in
       let here : more ≡ f set = new consistent ∙ ap (rules_among_with listing confidence) (get_or-map (λ (c : Counted). c.set) listing.sets number none [] below) in
-      sym (append_assoc (first_rules wording listing confidence from) text (rules_report_of wording more))
-      ∙ (λ i. so consistent i ++ rules_report_of wording (here i))
-      ∙ sym (flat_map-append (rule_text wording) before (f set))
-      ∙ ap (λ rules. rules_report_of wording (before ++ rules)) (sym (append-nil (f set)))
-      ∙ ap (rules_report_of wording) (sym (flat_map-append f (take number listing.sets) (set ∷ [])) ∙ ap (flat_map f) (sym (take_more listing.sets number none below)))
+      grind (arith, common_steps)
 
   both : (from middle to : ℕ) (front rest : List ℕ) → Reports from middle front → Reports middle to rest → Reports from to (front ++ rest)
-  both from middle to front rest before after consistent =
-      sym (append_assoc (first_rules wording listing confidence from) front rest) ∙ ap (λ text. text ++ rest) (before consistent) ∙ after consistent
+  both from middle to front rest before after consistent = grind (arith, common_steps)
 
   -- the texts between cuts
   cut_texts : (cut : ℕ → ℕ) (texts : List (Vec ℕ Global)) → ((i : ℕ) (text : Vec ℕ Global) → i < length texts → Reports (cut i) (cut (suc i)) (get_or texts i text).items)
@@ -57,8 +52,7 @@ module _ (wording : Wording) (listing : Listing) (confidence : ℕ × ℕ) where
       (cut_texts (λ i. cut (suc i)) texts (λ i other below. each (suc i) other (omega (arith, below))))
 
   all_rules : (number : ℕ) (text : List ℕ) → length listing.sets ≤ number → Reports 0 number text → IsConsistent listing.sets → text ≡ rules_report_of wording (rules_among listing confidence)
-  all_rules number text whole so consistent =
-      so consistent ∙ ap (λ sets. rules_report_of wording (flat_map (λ (c : Counted). rules_among_with listing confidence c.set) sets)) (take_all number listing.sets whole)
+  all_rules number text whole so consistent = grind (arith, common_steps)
 
   -- the texts of all parts, one after another
   pub part_texts : (parts : ℕ) (texts : List (Vec ℕ Global)) → 1 ≤ parts

@@ -1,7 +1,6 @@
 -- The lines of sets, one after another.
-use Rattle.std.proofs.Common.{◌≡◌, ℕ, ◌+◌, ◌<◌, List, [], ◌∷◌, ◌++◌, length, get_or, take, sym, ap, ◌∙◌}
-use Rattle.std.proofs.lemmas.List.{append-nil, take_more}
-use Rattle.std.proofs.lemmas.List.Concat.{flat_map-append}
+use Rattle.std.proofs.Common.{◌≡◌, ℕ, ◌+◌, ◌<◌, List, [], ◌++◌, length, get_or, take, arith}
+use Rattle.std.proofs.lemmas.Grind.{common_steps}
 use Rattle.basket_sets.specs.declared.counted.Counted.{Counted}
 use Rattle.basket_report.specs.Report.{report_of, set_of, set_text}
 use Rattle.basket_report.specs.Style.{Wording}
@@ -12,8 +11,4 @@ none = record { set = []; count = 0 }
 -- the text of one set more
 pub set_more : (wording : Wording) (sets : List Counted) (index : ℕ) (items : List ℕ) (count : ℕ) → index < length sets → items ≡ (get_or sets index none).set → count ≡ (get_or sets index none).count
     → report_of wording (take index sets) ++ set_text wording (set_of items count) ≡ report_of wording (take (index + 1) sets)
-set_more wording sets index items count inside are is =
-    let before = report_of wording (take index sets) in
-    let here : set_of items count ≡ get_or sets index none = λ i. record { set = are i; count = is i } in
-    ap (λ one. before ++ set_text wording one) here ∙ ap (λ text. before ++ text) (sym (append-nil (set_text wording (get_or sets index none))))
-    ∙ sym (flat_map-append (set_text wording) (take index sets) (get_or sets index none ∷ [])) ∙ ap (report_of wording) (sym (take_more sets index none inside))
+set_more wording sets index items count inside are is = grind (arith, common_steps)

@@ -1,7 +1,7 @@
 -- Texts at the front of a room, and items with a space after each.
-use Rattle.std.proofs.Common.{◌≡◌, ◌∙◌, ◌+◌, ◌≤◌, ◌++◌, ◌∷◌, [], ℕ, List, codes, decimal, drop, length, take, take-add, ap, sym, arith, suc}
-use Rattle.std.proofs.Math.Seq.{take-append_seam}
-use Rattle.std.proofs.lemmas.List.{append_assoc, take-take}
+use Rattle.std.proofs.Common.{◌≡◌, ◌∙◌, ◌+◌, ◌≤◌, ◌++◌, ◌∷◌, [], ℕ, List, codes, decimal, drop, length, take, take-add, ap, arith, suc}
+use Rattle.std.proofs.lemmas.Grind.{common_steps}
+use Rattle.std.proofs.lemmas.List.{append_assoc}
 use Rattle.std.proofs.lemmas.List.Concat.{flat_map-append}
 use Rattle.basket_report.specs.Lines.{items_text}
 
@@ -13,8 +13,7 @@ take_past (x ∷ xs) ys n = let e : suc (length xs) + n ≡ suc (length xs + n) 
 -- a text that was made somewhere stands at the front of the room that is copied from there
 pub front_is : (scratch text rest : List ℕ) (start room count : ℕ) → drop start scratch ≡ text ++ rest → length text ≡ count → count ≤ room
     → take count (take room (drop start scratch)) ≡ text
-front_is scratch text rest start room count made long few =
-    take-take count room (drop start scratch) few ∙ ap (take count) made ∙ ap (λ n. take n (text ++ rest)) (sym long) ∙ take-append_seam text rest
+front_is scratch text rest start room count made long few = grind (arith, common_steps)
 
 -- so many items more
 pub items_further : (items : List ℕ) (index count : ℕ) → items_text (take (index + count) items) ≡ items_text (take index items) ++ items_text (take count (drop index items))

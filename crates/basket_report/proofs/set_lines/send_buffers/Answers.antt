@@ -1,5 +1,5 @@
 use Rattle.std.proofs.Common.{◌≡◌, ◌++◌, take, sym, ap, ◌∙◌, subst, arith}
-use Rattle.basket_report.specs.Bytes.{IsWritten}
+use Rattle.std.proofs.lemmas.Grind.{common_steps}
 use Rattle.basket_report.specs.Report.{report_of}
 use Rattle.basket_report.specs.LineBuffer.{HasLines}
 use Rattle.basket_report.specs.Style.{Numbered}
@@ -15,10 +15,4 @@ loop-buffer-preserved g c =
     let lines : report_of Numbered (take l.next sets) ++ c.text.result.now ≡ report_of Numbered (take c.to-next.result sets) =
     ap (λ n. report_of Numbered (take n sets) ++ c.text.result.now) (sym from) ∙ ap (λ t. report_of Numbered (take buffer.from sets) ++ t) c.text.ensures
     ∙ has.lines ∙ ap (λ n. report_of Numbered (take n sets)) (sym c.to-next.ensures) in
-    record {
-      after = omega (arith, l.invariant.after, from, has.ordered, c.to-next.ensures);
-      within = omega (arith, has.within, c.to-next.ensures);
-      way = λ start way.
-          subst (IsWritten start (g.W.Sink.taken c.send_bytes.new.writer) (g.W.Sink.has_failed c.send_bytes.new.writer) (g.W.Sink.ends_in_flush c.send_bytes.new.writer)) lines
-          (c.send_bytes.ensures start (report_of Numbered (take l.next sets)) (l.invariant.way start way));
-    }
+    grind (arith, common_steps)

@@ -1,19 +1,13 @@
-use Rattle.std.proofs.Common.{◌<◌, length, take, ap, ◌∙◌, subst, arith}
+use Rattle.std.proofs.Common.{take, ap, ◌∙◌, arith}
+use Rattle.std.proofs.lemmas.Grind.{common_steps}
 use Rattle.std.proofs.lemmas.List.{take_all}
 use Rattle.std.proofs.lemmas.Result.{IfOk-weaker}
-use Rattle.basket_report.specs.Report.{HasSoFar, report_of}
+use Rattle.basket_report.specs.Report.{report_of}
 use Rattle.basket_report.specs.Style.{wording_of}
-use Rattle.basket_report.proofs.SetLemmas.{set_more}
 use Rattle.basket_report.proofs.sets.sets_report.Goals as goal
 
 pub loop-index-preserved : goal.loop-index-preserved
-loop-index-preserved c =
-    let wording = wording_of c.args.style in
-    let sets = c.args.sets.now in
-    let index = c.loop-index.index in
-    let inside : index < length sets = omega (arith, c.loop-index-test.true, c.len-index-end.ensures) in
-    let more = set_more wording sets index c.items.result.now c.count.result inside c.items.ensures.items c.count.ensures in
-    subst (HasSoFar c.put_set.new.self wording) more (c.in_ok-put_set.ensures wording (report_of wording (take index sets)) c.loop-index.invariant)
+loop-index-preserved c = grind (arith, common_steps)
 
 pub returns : goal.returns
 returns c =

@@ -1,4 +1,5 @@
 use Rattle.std.proofs.Common.{rules, ◌≡◌, ◌≤◌, ◌<◌, ◌+◌, ◌-◌, ◌/◌, ◌^◌, ◌++◌, ◌∷◌, ℕ, List, decimal, drop, length, take, ap, sym, ◌∙◌, arith}
+use Rattle.std.proofs.lemmas.Grind.{common_steps}
 use Rattle.std.specs.Prelude.{replicate}
 use Rattle.std.proofs.Math.ListN.{length-set}
 use Rattle.std.proofs.Math.Nat.{div-le_self}
@@ -18,21 +19,13 @@ divided : (n most divisor : ℕ) → n ≡ most / divisor → most < 2 ^ 64 → 
 divided n most divisor is fits = let small : most / divisor ≤ most = div-le_self most divisor in short n (omega (arith, is, small, fits))
 
 pub write_digits-slash-requires : goal.write_digits-slash-requires
-write_digits-slash-requires c =
-    let s = divided c.denominator.result c.from-2.result (common_divisor c.from.result c.from-2.result) (c.denominator.ensures.value ∙ ap (λ r. r.denominator) c.reduced-fraction.ensures.value) (omega (arith, c.from-2.ensures)) in
-    (omega arith, omega arith)
+write_digits-slash-requires c = grind (arith, common_steps, divided)
 
 pub overflow_sub-slash : goal.overflow_sub-slash
-overflow_sub-slash c =
-    let s = divided c.denominator.result c.from-2.result (common_divisor c.from.result c.from-2.result) (c.denominator.ensures.value ∙ ap (λ r. r.denominator) c.reduced-fraction.ensures.value) (omega (arith, c.from-2.ensures)) in
-    omega (arith, c.write_digits-slash.ensures.start)
+overflow_sub-slash c = grind (arith, common_steps, divided)
 
 pub write_digits-start-requires : goal.write_digits-start-requires
-write_digits-start-requires c =
-    let s = divided c.denominator.result c.from-2.result (common_divisor c.from.result c.from-2.result) (c.denominator.ensures.value ∙ ap (λ r. r.denominator) c.reduced-fraction.ensures.value) (omega (arith, c.from-2.ensures)) in
-    let t = divided c.numerator.result c.from.result (common_divisor c.from.result c.from-2.result) (c.numerator.ensures ∙ ap (λ r. r.numerator) c.reduced-fraction.ensures.value) (omega (arith, c.from.ensures)) in
-    let start = c.write_digits-slash.ensures.start in
-    (omega (arith, s, t, start), omega (arith, s, t, start, length-set {A = ℕ}))
+write_digits-start-requires c = grind (arith, common_steps, divided, length-set)
 
 pub invariant_of-result : goal.invariant_of-result
 invariant_of-result c =
