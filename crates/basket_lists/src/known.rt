@@ -82,6 +82,7 @@ fn bits_of(number: u64) -> u32
 }
 
 /// The lowest bits of a number.
+#[tactic(auto, using(std::proofs::lemmas::Grind::common_steps, std::proofs::lemmas::Nat::one_shl, std::proofs::lemmas::Nat::and_mask))]
 fn low_bits(number: u128, bits: u32) -> u128
     requires { bits < 128 }
     ensures { result ≡ number % 2 ^ bits }
@@ -158,6 +159,7 @@ impl KnownItems {
     }
 
     /// How many items the code of a packed set has.
+    #[tactic(auto, using(std::proofs::lemmas::Grind::common_steps, crate::proofs::WordLemmas::size_is))]
     fn code_size(&self, packed: &Packed) -> u32
         ensures { result ≡ size_of self.now (code_of self.now packed.now) }
     {
@@ -199,6 +201,7 @@ impl KnownItems {
 
     /// Writes the items of a packed set, which rise, to the beginning of the room, and returns how
     /// many they are.
+    #[tactic(auto, using(std::proofs::lemmas::Grind::common_steps, crate::proofs::LongerLemmas::digit_known, crate::proofs::LongerLemmas::digit_item, crate::proofs::LongerLemmas::rest_next, std::proofs::lemmas::Bool::cases_eq))]
     pub fn put(&self, packed: &Packed, room: &mut [u32; MOST_ITEMS]) -> usize
         requires { IsPacked self.now packed.now }
         ensures items { take result room.new ≡ (unpacked self.now packed.now).set }

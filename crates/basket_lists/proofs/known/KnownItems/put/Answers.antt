@@ -1,10 +1,9 @@
 use Rattle.std.proofs.Common.{rules, ◌≡◌, ℕ, ◌-◌, ◌*◌, ◌/◌, ◌%◌, ◌^◌, ◌<◌, ◌≤◌, List, length, set, take, ap, ◌∙◌, subst, arith, get_or-take}
 use Rattle.std.proofs.lemmas.Grind.{common_steps}
-use Rattle.std.proofs.lemmas.Bool.{cases_eq}
 use Rattle.std.proofs.lemmas.List.{get_or_default, length-take-le, same_lists}
 use Rattle.basket_lists.specs.Packed.{Coding, IsCoding, IsPacked, code_of, number_of, set_of, size_of}
 use Rattle.basket_lists.specs.declared.packed.Packed.{Packed}
-use Rattle.basket_lists.proofs.LongerLemmas.{digit_item, digit_known, rest_next, set_length}
+use Rattle.basket_lists.proofs.LongerLemmas.{digit_known, set_length}
 use Rattle.basket_lists.proofs.known.KnownItems.put.Goals as goal
 
 -- the number of the indexes of the items that are left
@@ -28,9 +27,6 @@ pub bounds-items-low_bits : goal.bounds-items-low_bits
 bounds-items-low_bits c =
     known_index c.args.self.now _ c.args.packed.now c.code_size-size.result c.loop-left.left c.loop-left.rest c.low_bits.result c.deref-items.result.now c.self.invariant c.self.view_is c.requires
     c.loop-left-test.true c.loop-left.invariant.few c.code_size-size.ensures c.loop-left.invariant.rest c.low_bits.ensures c.deref-items.ensures.value
-
-pub loop-left-preserved : goal.loop-left-preserved
-loop-left-preserved c = grind (arith, common_steps, rest_at, digit_known, digit_item, rest_next, cases_eq)
 
 pub returns-clause-items : goal.returns-clause-items
 returns-clause-items c =
