@@ -52,6 +52,7 @@ impl<R: Row> Sibling<R> {
     }
 
     /// The support of the set with its number.
+    #[tactic(auto, using(std::proofs::lemmas::Grind::common_steps, crate::proofs::CoverLemmas::cover_weighs))]
     pub fn count(&self) -> u64
         ensures { (baskets : List Basket) (set : List ℕ) → IsSibling R.stands baskets set self.now
             → result ≡ support_of baskets (self.now.number ∷ set) }

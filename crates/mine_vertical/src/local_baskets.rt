@@ -33,6 +33,7 @@ pub struct LocalBaskets {
 
 /// The weights of merged baskets; before, there were this many. More than 4,294,967,295 baskets
 /// count as out of memory.
+#[tactic(auto, using(std::proofs::lemmas::Grind::common_steps, crate::proofs::SiblingLemmas::weights_some, crate::proofs::SiblingLemmas::weights_weigh))]
 fn merged_weights(
     alloc: Global,
     baskets: &ListBaskets,
@@ -68,6 +69,7 @@ impl LocalBaskets {
 
     /// Merged baskets of the numbers of ranks, of which there were this many before, and a sibling
     /// over them for each number.
+    #[tactic(auto, using(std::proofs::lemmas::Grind::common_steps, crate::proofs::CoverLemmas::cover_covers))]
     pub fn with_siblings<R: Row>(
         alloc: Global,
         ranks: Vec<u32>,

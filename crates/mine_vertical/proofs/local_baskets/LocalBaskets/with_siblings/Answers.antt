@@ -1,5 +1,4 @@
 use Rattle.std.proofs.Common.{◌≡◌, ℕ, suc, ◌+◌, ◌++◌, ◌∷◌, [], map, subst, sym, ap, ◌∙◌, arith}
-use Rattle.std.proofs.lemmas.Grind.{common_steps}
 use Rattle.std.specs.Prelude.{All}
 use Rattle.std.specs.List.{range_with_len}
 use Rattle.std.specs.declared.vec.Vec.{Vec}
@@ -18,9 +17,6 @@ next_number number =
     let next : number + 1 ≡ suc number = omega arith in
     let last : 0 + number ≡ number = omega arith in
     ap (range_with_len 0) next ∙ range_more 0 number ∙ ap (λ n. range_with_len 0 number ++ n ∷ []) last
-
-pub first-requires-clause-rises : goal.first-requires-clause-rises
-first-requires-clause-rises g c = grind (arith, common_steps, cover_covers)
 
 pub first-requires-clause-below : goal.first-requires-clause-below
 first-requires-clause-below g c =
