@@ -6,6 +6,7 @@ ghost use Rattle.basket_report.specs.Bytes.{IsWritten, TakesPrefix, joined};
 use basket_core::{Failed, Sink};
 
 /// Writes bytes, unless the writer has failed.
+#[tactic(auto, using(std::proofs::lemmas::Grind::common_steps, crate::proofs::BytesLemmas::more_written))]
 pub fn send_bytes<W: Sink>(writer: &mut W, bytes: &[u8])
     ensures { (start : Option (List ℕ)) (text : List ℕ)
         → IsWritten start (W.taken writer.old) (W.has_failed writer.old) (W.ends_in_flush writer.old) text
@@ -17,6 +18,7 @@ pub fn send_bytes<W: Sink>(writer: &mut W, bytes: &[u8])
 }
 
 /// Writes all bytes. If the sink fails, it has taken a prefix of them.
+#[tactic(auto, using(std::proofs::lemmas::Grind::common_steps, crate::proofs::Fronts::some_taken, crate::proofs::Fronts::count_within, crate::proofs::Fronts::written_more))]
 pub fn write_bytes<W: Sink>(writer: &mut W, bytes: &[u8]) -> Result<(), Failed>
     requires { W.has_failed writer.old ≡ false }
     ensures ok { OnOk result (Appends (W.taken writer.old) (W.taken writer.new) bytes.now) }

@@ -65,6 +65,7 @@ impl<'a> Report<'a> {
     }
 
     /// Adds the rules with the set at the index as their union.
+    #[tactic(auto, using(std::proofs::lemmas::Grind::common_steps))]
     pub fn put_rules(
         &mut self,
         frequent: &Frequent,

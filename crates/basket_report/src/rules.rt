@@ -57,6 +57,7 @@ impl<'a> PartWork<Vec<u8>> for Unions<'a> {
         Ok(SetIndex::new(alloc, self.places))
     }
 
+    #[tactic(auto, using(std::proofs::lemmas::Grind::common_steps, crate::proofs::RuleLemmas::more_rules))]
     fn value(
         &self,
         alloc: Global,

@@ -10,6 +10,7 @@ use basket_core::{CountedSets, MOST_ITEMS};
 use std::alloc::{AllocError, Global};
 
 /// The report of the sets with their counts.
+#[tactic(auto, using(std::proofs::lemmas::Grind::common_steps))]
 pub fn sets_report(
     alloc: Global,
     sets: &CountedSets,

@@ -1,13 +1,9 @@
 use Rattle.std.proofs.Common.{take, ap, ◌∙◌, arith}
-use Rattle.std.proofs.lemmas.Grind.{common_steps}
 use Rattle.std.proofs.lemmas.List.{take_all}
 use Rattle.std.proofs.lemmas.Result.{IfOk-weaker}
 use Rattle.basket_report.specs.Report.{report_of}
 use Rattle.basket_report.specs.Style.{wording_of}
 use Rattle.basket_report.proofs.sets.sets_report.Goals as goal
-
-pub loop-index-preserved : goal.loop-index-preserved
-loop-index-preserved c = grind (arith, common_steps)
 
 pub returns : goal.returns
 returns c =
