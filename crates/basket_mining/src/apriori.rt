@@ -20,6 +20,7 @@ use std::thread::Threads;
 
 /// The frequent pairs of ranks. The workers count each pair of ranks if these are few, and
 /// otherwise only the pairs that occur, rank by rank.
+#[tactic(auto, using(std::proofs::lemmas::Grind::common_steps))]
 fn pairs<R: Threads + Sync, G: Gate + Sync>(
     rt: &R,
     alloc: Global,
@@ -40,6 +41,7 @@ fn pairs<R: Threads + Sync, G: Gate + Sync>(
 /// (Agrawal and Srikant 1994), found by this many workers: the pairs over parts of the ranks, the
 /// supports of the candidates of each level over parts of the baskets, and the frequent sets and
 /// the next candidates over parts of the prefixes.
+#[tactic(auto, using(std::proofs::lemmas::Grind::common_steps))]
 pub fn apriori_shared<R: Threads + Sync, G: Gate + Sync>(
     rt: &R,
     alloc: Global,

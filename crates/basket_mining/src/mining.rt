@@ -163,6 +163,7 @@ fn coded<R: Threads + Sync, G: Gate + Sync>(
 }
 
 /// The list of the frequent sets by Apriori, and how many candidates it counted.
+#[tactic(auto, using(std::proofs::lemmas::Grind::common_steps, std::proofs::lemmas::Result::err_from_is_err_and, crate::proofs::MiningLemmas::merged_listing))]
 fn by_apriori<R: Threads + Sync, G: Gate + Sync>(
     rt: &R,
     alloc: Global,
