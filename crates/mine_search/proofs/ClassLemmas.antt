@@ -1,5 +1,6 @@
 -- What a search for a class begins with.
-use Rattle.std.proofs.Common.{◌≡◌, ℕ, ◌<◌, Option, true, List, [], ◌∷◌, ◌++◌, get_or, length, map, sym, ap, ◌∙◌, arith}
+use Rattle.std.proofs.Common.{◌≡◌, ℕ, ◌<◌, Option, true, List, [], ◌∷◌, ◌++◌, get_or, length, map, ap, ◌∙◌, arith}
+use Rattle.std.proofs.lemmas.Grind.{common_steps}
 use Rattle.std.proofs.lemmas.Bool.{le-leb}
 use Rattle.basket_lists.specs.CountedSets.{set_at}
 use Rattle.basket_lists.proofs.theory.Places.{set_added}
@@ -19,17 +20,7 @@ pub record IsFirst (over : Supports) (rank : ℕ) (sets : List Counted) : Type 0
 module _ {coding : Coding} {over : Supports} (is : IsOver coding over) (rank : ℕ) where
   pub first_is : {before after : List Counted} {set : List ℕ} {item support : ℕ} → rank < length coding.items → before ≡ [] → after ≡ before ++ record { set = set; count = support } ∷ []
       → set ≡ rising (item ∷ []) → item ≡ get_or coding.items rank 0 → support ≡ over.support (rank ∷ []) → IsFirst over rank after
-  first_is {before} {after} {set} {item} {support} inside none adds set_is item_is support_is =
-      let named = set_is ∙ (λ i. rising ((item_is ∙ ap (λ l. get_or l rank 0) (sym is.items)) i ∷ [])) in
-      record {
-        first = adds ∙ ap (λ l. l ++ record { set = set; count = support } ∷ []) none ∙ (λ k. record { set = named k; count = support_is k } ∷ []);
-        inner = record {
-          falls = λ one other others. omega (arith, support_with coding.baskets one other others, is.supports (other ∷ one ∷ others), is.supports (other ∷ others));
-          of_set = set_added before after (record { set = set; count = support }) 0 (sym (ap length none)) adds ∙ named;
-          few = (let most = is.known.few in let same = ap length is.items in omega arith);
-          within = (let same = ap length is.items in omega arith);
-        };
-      }
+  first_is {before} {after} {set} {item} {support} inside none adds set_is item_is support_is = grind (arith, common_steps, support_with, set_added)
 
   -- with what is found below it, that is the class
   pub all_found : {before after : Reached} → IsFirst over rank before.sets → FindsAll before after (of_rank over rank) → after.sets ≡ map (found_at over) (class_sets over rank)

@@ -1,16 +1,16 @@
 -- What is found below a node so far, and the nodes that extend it.
-use Rattle.std.proofs.Common.{◌≡◌, ℕ, ◌+◌, ◌<◌, ◌≤◌, Bool, true, false, not, List, [], ◌∷◌, ◌++◌, length, get_or, take, map, refl, sym, ap, ◌∙◌, subst, arith, length-append, append_assoc}
-use Rattle.std.specs.Prelude.{Err, OnOk, Result}
+use Rattle.std.proofs.Common.{◌≡◌, ℕ, ◌+◌, ◌<◌, ◌≤◌, Bool, true, false, not, List, [], ◌∷◌, ◌++◌, length, get_or, take, map, refl, sym, ap, ◌∙◌, subst, arith, length-append}
+use Rattle.std.proofs.lemmas.Grind.{common_steps}
+use Rattle.std.specs.Prelude.{Err, Result}
 use Rattle.mine_limit.specs.declared.fault.MineFault.{MineFault}
 use Rattle.mine_limit.specs.declared.fault.MineFault.TheVariants.{TooMany}
 use Rattle.std.specs.List.{flat_map, sum_by}
 use Rattle.std.proofs.lemmas.Bool.{le-leb, leb-true}
-use Rattle.std.proofs.lemmas.List.{append-nil, length-map, length-take-le, map-append, take_all, take_more}
+use Rattle.std.proofs.lemmas.List.{append-nil, length-map, length-take-le, take_all}
 use Rattle.std.proofs.lemmas.List.Concat.{length-flat_map}
 use Rattle.std.proofs.lemmas.List.Filters.{length-filter_both}
 use Rattle.std.proofs.lemmas.List.Folds.{length-flat_map-take}
-use Rattle.std.proofs.lemmas.List.Sums.{sum_by-take-le, sum_by_more}
-use Rattle.std.proofs.lemmas.Grind.{flat_map-append}
+use Rattle.std.proofs.lemmas.List.Sums.{sum_by-take-le}
 use Rattle.basket_sets.specs.declared.counted.Counted.{Counted}
 use Rattle.basket_lists.specs.CountedSets.{set_at}
 use Rattle.basket_lists.proofs.theory.Places.{set_added, set_kept}
@@ -24,32 +24,17 @@ use Rattle.mine_search.proofs.theory.Walk.{branch, branch_work, kept_before, kep
 -- a set that is added, with so much work
 pub adds_one : (one : Counted) (work : ℕ) (before after : Reached) → after.sets ≡ before.sets ++ one ∷ [] → after.work ≡ before.work + work → after.told ≡ before.told + 1 → after.is_over ≡ false
     → work < 4294967296 → GoesOn before → Adds (one ∷ []) work before after
-adds_one one work before after sets worked told over few going = record {
-  sets = sets;
-  worked = worked;
-  told = told;
-  going = record { going = over; few = omega (arith, worked, few, going.few, ap length sets, length-append before.sets (one ∷ [])) };
-}
+adds_one one work before after sets worked told over few going = grind (arith, common_steps)
 
 -- a search that fails
 pub fails : {P A : Type 0} (gives : P → Node → Type 0) (base : P) (set : List ℕ) (before after : Reached) (result : Result A MineFault) (fault : MineFault) → result ≡ Err fault
     → ((node : Node) → IsOf gives base set node → ((limit : ℕ) → fault ≡ TooMany limit → AreTooMany limit before after node) × TellsAtMost before after node)
     → after.limit ≡ before.limit → IsDone gives base set before after result
-fails gives base set before after result fault is at limit = record {
-  found = subst (λ r. OnOk r ((node : Node) → IsOf gives base set node → FindsAll before after node)) (sym is) tt;
-  too_many = λ n e node of. (at node of).0 n (let both = sym is ∙ e in cc);
-  at_most = λ node of. (at node of).1;
-  limit = limit;
-}
+fails gives base set before after result fault is at limit = grind (arith, common_steps)
 
 -- sets that were found one after another
 pub adds_both : {first second : List Counted} {one two : ℕ} {before mid after : Reached} → Adds first one before mid → Adds second two mid after → Adds (first ++ second) (one + two) before after
-adds_both {first} {second} {one} {two} {before} {mid} {after} p q = record {
-  sets = q.sets ∙ ap (λ l. l ++ second) p.sets ∙ append_assoc before.sets first second;
-  worked = omega (arith, p.worked, q.worked);
-  told = omega (arith, p.told, q.told, length-append first second);
-  going = q.going;
-}
+adds_both {first} {second} {one} {two} {before} {mid} {after} p q = grind (arith, common_steps)
 
 module _ (node : Node) where
   abbrev test : List ℕ → Bool
@@ -68,23 +53,10 @@ module _ (node : Node) where
 
   -- at last it is all
   pub part_is_all : (i : ℕ) (before now : Reached) → length (kept node) ≤ i → FindsPart i before now → FindsAll before now node
-  part_is_all i before now last part =
-      let all = take_all i (kept node) last in
-      let sets = ap found_by all ∙ sym (sets_are_branches test node.below node.set) in
-      let work = ap (sum_by (branch_work test node.over.work node.set)) all ∙ sym (work_is_branches test node.over.work node.below node.set) in
-      record {
-        sets = part.sets ∙ ap (λ l. before.sets ++ map (found_at node.over) l) sets;
-        worked = part.worked ∙ ap (λ n. before.work + n) work;
-        told = part.told ∙ ap (λ l. before.told + length (map (found_at node.over) l)) sets;
-        going = part.going;
-      }
+  part_is_all i before now last part = grind (arith, common_steps, take_all, sets_are_branches, branch_work, work_is_branches)
 
   pub part_at_most : (i : ℕ) (before now : Reached) → FindsPart i before now → TellsAtMost before now node
-  part_at_most i before now part =
-      let whole = ap length (sets_are_branches test node.below node.set) ∙ length-flat_map (branch test node.set) (kept node) in
-      let some = length-flat_map (branch test node.set) (take i (kept node)) in
-      let less = sum_by-take-le (λ rank. length (branch test node.set rank)) (kept node) i in
-      omega (arith, whole, some, less, part.told, length-map (found_by (take i (kept node))) (found_at node.over))
+  part_at_most i before now part = grind (arith, common_steps, sets_are_branches, length-flat_map, branch, sum_by-take-le, length-map)
 
 -- one of the ranks that extend a node's set, at an index
 pub record IsTurn (set : List ℕ) (node : Node) (i rank : ℕ) : Type 0 where
@@ -94,11 +66,7 @@ pub record IsTurn (set : List ℕ) (node : Node) (i rank : ℕ) : Type 0 where
 
 pub turn_at : {P : Type 0} {gives : P → Node → Type 0} {base : P} {set : List ℕ} {node : Node} (ranks : P → List ℕ) → ((base : P) (node : Node) → gives base node → ranks base ≡ kept node)
     → IsOf gives base set node → (i : ℕ) → i < length (ranks base) → IsTurn set node i (get_or (ranks base) i 0)
-turn_at {P} {gives} {base} {set} {node} ranks law of i inside = record {
-  is = of.is;
-  here = subst (λ l. i < length l) (law base node of.given) inside;
-  rank_is = ap (λ l. get_or l i 0) (law base node of.given);
-}
+turn_at {P} {gives} {base} {set} {node} ranks law of i inside = grind (arith, common_steps)
 
 module _ {set : List ℕ} {node : Node} {i rank : ℕ} (turn : IsTurn set node i rank) where
   abbrev passes : List ℕ → Bool
@@ -131,28 +99,13 @@ module _ {set : List ℕ} {node : Node} {i rank : ℕ} (turn : IsTurn set node i
   -- the part with its set and those below it
   pub turn_adds : (one : Counted) (before now with_one after : Reached) → one ≡ found_at node.over (rank ∷ node.set) → FindsPart node i before now → Adds (one ∷ []) (node.over.work (rank ∷ node.set)) now with_one
       → FindsAll with_one after (child node rank) → FindsPart node (i + 1) before after
-  turn_adds one before now with_one after is_one part adds below =
-      let found = found_at node.over in
-      let sum = adds_both part (adds_both adds below) in
-      let all = ap (found_by node) (take_more (kept node) i 0 inside) ∙ flat_map-append (branch passes node.set) (take i (kept node)) (get_or (kept node) i 0 ∷ [])
-      ∙ ap (λ l. found_by node (take i (kept node)) ++ l) (ap (λ r. flat_map (branch passes node.set) (r ∷ [])) (sym rank_is) ∙ append-nil (branch passes node.set rank)) in
-      let sets : map found (found_by node (take i (kept node))) ++ (one ∷ map found (sets_at (child node rank))) ≡ map found (found_by node (take (i + 1) (kept node))) =
-      ap (λ x. map found (found_by node (take i (kept node))) ++ (x ∷ map found (sets_at (child node rank)))) is_one
-      ∙ sym (ap (map found) all ∙ map-append found (found_by node (take i (kept node))) (branch passes node.set rank)) in
-      let more = sum_by_more (branch_work passes node.over.work node.set) (kept node) i 0 inside in
-      record {
-        sets = sum.sets ∙ ap (λ l. before.sets ++ l) sets;
-        worked = omega (arith, sum.worked, more, ap (branch_work passes node.over.work node.set) rank_is);
-        told = sum.told ∙ ap (λ l. before.told + length l) sets;
-        going = sum.going;
-      }
+  turn_adds one before now with_one after is_one part adds below = grind (arith, common_steps)
 
   -- ---- the node that extends this one
 
   -- what is frequent with two ranks is frequent with one
   falls : (other : ℕ) → passes (other ∷ rank ∷ node.set) ≡ true → passes (other ∷ node.set) ≡ true
-  falls other h = le-leb node.over.least (node.over.support (other ∷ node.set))
-      (let less = is.falls rank other node.set in let enough = leb-true node.over.least (node.over.support (other ∷ rank ∷ node.set)) h in omega arith)
+  falls other h = grind (arith, common_steps, le-leb, leb-true)
 
   -- it has fewer ranks
   pub fewer : length (kept (child node rank)) < length (kept node)
@@ -172,18 +125,7 @@ module _ {set : List ℕ} {node : Node} {i rank : ℕ} (turn : IsTurn set node i
       → index < length before.sets → set ≡ set_at before.sets index → item ≡ get_or node.over.items rank 0 → count ≡ node.over.support (rank ∷ node.set) → FindsPart node i before now
       → longer ≡ length now.sets → with_one ≡ now.sets ++ record { set = with_item item (set_at now.sets index); count = count } ∷ []
       → IsExtended (record { set = with_item item (set_at now.sets index); count = count }) (set_at with_one longer)
-  extended {longer} {item} {count} {before} {now} {with_one} index here of_set is_item is_count part at adds =
-      let named = ap (with_item item) (set_kept before.sets (map (found_at node.over) (found_by node (take i (kept node)))) now.sets index here part.sets ∙ sym of_set) ∙ ap (λ x. with_item x set) is_item in
-      let items_are = named ∙ ap (with_item (get_or node.over.items rank 0)) is.of_set in
-      record {
-        found = λ k. record { set = items_are k; count = is_count k };
-        inner = record {
-          falls = is.falls;
-          of_set = set_added now.sets with_one (record { set = with_item item (set_at now.sets index); count = count }) longer at adds ∙ items_are;
-          few = is.few;
-          within = (let low = lower in let most = is.within in omega arith);
-        };
-      }
+  extended {longer} {item} {count} {before} {now} {with_one} index here of_set is_item is_count part at adds = grind (arith, common_steps, set_kept, falls, set_added, lower)
 
 -- nothing is found below a node without ranks
 pub finds_none : (node : Node) → kept node ≡ [] → (now : Reached) → GoesOn now → FindsAll now now node

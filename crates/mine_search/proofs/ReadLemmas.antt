@@ -1,6 +1,6 @@
 -- Sets that are read off a single branch, one rank after another.
 use Rattle.std.proofs.Common.{◌≡◌, ℕ, ◌+◌, ◌-◌, ◌<◌, ◌≤◌, Bool, true, false, List, [], ◌∷◌, ◌++◌, length, map, get_or, drop, take, sym, ap, ◌∙◌, subst, arith, length-append, append_assoc}
-use Rattle.std.proofs.Math.Seq.{drop-append_seam, take-append_seam}
+use Rattle.std.proofs.lemmas.Grind.{common_steps}
 use Rattle.std.proofs.lemmas.List.{get_or-drop, length-drop, length-map, map-append, take_more}
 use Rattle.std.proofs.lemmas.List.Sums.{sum_by-take-le, sum_by_more}
 use Rattle.std.proofs.lemmas.Simd.{map-map}
@@ -13,7 +13,7 @@ use Rattle.basket_sets.proofs.theory.Rising.{Member-from_has, has_place, nil_ris
 use Rattle.mine_search.specs.Node.{Node, child, is_met, kept, sets_at}
 use Rattle.mine_search.specs.Search.{FindsAll, GoesOn, Reached, found_at}
 use Rattle.mine_search.specs.Straight.{IsStraight, between, chosen}
-use Rattle.mine_search.specs.Walk.{kept_below, sets_below}
+use Rattle.mine_search.specs.Walk.{sets_below}
 use Rattle.mine_search.proofs.NodeLemmas.{FindsPart, IsTurn, found_by, lower}
 use Rattle.mine_search.proofs.StraightLemmas.{choices, choose}
 use Rattle.mine_search.proofs.theory.Walk.{branch_work, kept_before, kept_passes, sets_are_branches, work_is_branches}
@@ -38,20 +38,14 @@ module _ {set : List ℕ} {node : Node} {i rank : ℕ} (turn : IsTurn set node i
 
   -- nothing is counted for the rank
   free : branch_work test node.over.work node.set rank ≡ 0
-  free =
-      let whole = work_is_branches test node.over.work node.below node.set in
-      let less = sum_by-take-le (branch_work test node.over.work node.set) (kept node) (i + 1) in
-      let more = sum_by_more (branch_work test node.over.work node.set) (kept node) i 0 turn.here in
-      omega (arith, whole, less, more, straight.free, ap (branch_work test node.over.work node.set) turn.rank_is)
+  free = grind (arith, common_steps, work_is_branches, sum_by-take-le, branch_work, sum_by_more)
 
   pub free_one : node.over.work (rank ∷ node.set) ≡ 0
   free_one = omega (arith, free)
 
   -- the sets of the lower ranks stand there already
   stand : found_by node (take i (kept node)) ≡ sets_below test rank node.set
-  stand =
-      ap (found_by node) (kept_before test node.below node.set i turn.here ∙ ap (λ r. kept_below test r node.set) (sym turn.rank_is))
-      ∙ sym (sets_are_branches test rank node.set)
+  stand = grind (arith, common_steps, found_by, kept_before, sets_are_branches)
 
   kept_rank : test (rank ∷ node.set) ≡ true
   kept_rank = kept_passes test node.below node.set rank (subst (λ r. Member r (kept node)) (sym turn.rank_is) (Member-from_has (kept node) (get_or (kept node) i 0) (has_place (kept node) i turn.here)))
@@ -62,8 +56,7 @@ module _ {set : List ℕ} {node : Node} {i rank : ℕ} (turn : IsTurn set node i
       ∙ ap (map (choose straight turn.is.falls rank (lower turn) kept_rank)) (sym stand)
 
   pub as_many : length (found_by node (take i (kept node))) ≡ length (sets_at (child node rank))
-  as_many =
-      sym (length-map (found_by node (take i (kept node))) (choose straight turn.is.falls rank (lower turn) kept_rank)) ∙ sym (ap length below_are) ∙ length-map (sets_at (child node rank)) (found_at node.over)
+  as_many = grind (arith, common_steps, length-map, found_by, choose, lower, kept_rank, below_are)
 
   module _ {before now : Reached} (part : FindsPart node i before now) {start end : ℕ} (start_is : start ≡ length before.sets) (end_is : end ≡ length now.sets) where
     abbrev found : List Counted
@@ -76,10 +69,7 @@ module _ {set : List ℕ} {node : Node} {i rank : ℕ} (turn : IsTurn set node i
     order = omega (arith, start_is, end_is, ap length part.sets, length-append before.sets found)
 
     between_are : (one : Counted) (sets : List Counted) → sets ≡ now.sets ++ one ∷ [] → between start end sets ≡ found
-    between_are one sets are =
-        let long : end - start ≡ length found = omega (arith, start_is, end_is, ap length part.sets, length-append before.sets found) in
-        let whole = are ∙ ap (λ l. l ++ one ∷ []) part.sets ∙ append_assoc before.sets found (one ∷ []) in
-        (λ k. take (long k) (drop (start_is k) (whole k))) ∙ ap (take (length found)) (drop-append_seam before.sets (found ++ one ∷ [])) ∙ take-append_seam found (one ∷ [])
+    between_are one sets are = grind (arith, common_steps)
 
     -- so all sets below the rank are added by choosing them
     pub read_more : {with_one after : Reached} {item support : ℕ} (one : Counted) → item ≡ get_or node.over.items rank 0 → support ≡ node.over.support (rank ∷ node.set) → with_one.sets ≡ now.sets ++ one ∷ [] → GoesOn with_one
@@ -90,9 +80,4 @@ module _ {set : List ℕ} {node : Node} {i rank : ℕ} (turn : IsTurn set node i
         (λ k. map (chosen (item_is k) (support_is k)) (between_are one with_one.sets sets k))
         ∙ map-map (chosen (get_or node.over.items rank 0) (node.over.support (rank ∷ node.set))) (found_at node.over) (found_by node (take i (kept node)))
         ∙ sym below_are in
-        record {
-          sets = adds ∙ ap (λ l. with_one.sets ++ l) all;
-          worked = omega (arith, work, free);
-          told = omega (arith, told, bounds, length-map (sets_at (child node rank)) (found_at node.over));
-          going = record { going = over; few = omega (arith, work, going.few, ap length adds, length-append with_one.sets (map (chosen item support) (between start end with_one.sets))) };
-        }
+        grind (arith, common_steps, free, bounds, length-map)

@@ -1,5 +1,6 @@
 -- What is read off a single branch.
 use Rattle.std.proofs.Common.{◌≡◌, ℕ, zero, suc, ◌<◌, ◌≤◌, Bool, true, false, List, [], ◌∷◌, ◌++◌, map, get_or, cond, refl, sym, ap, ◌∙◌, subst, inl, inr, arith, append_assoc}
+use Rattle.std.proofs.lemmas.Grind.{common_steps}
 use Rattle.std.specs.Prelude.{nat_le}
 use Rattle.std.proofs.lemmas.Bool.{cases_Bool, le-leb, leb-true, true≢false}
 use Rattle.std.proofs.lemmas.List.{map-append}
@@ -29,9 +30,7 @@ moved [] r rest = refl
 moved (x ∷ front) r rest = ap (with_item x) (moved front r rest) ∙ swapped x r (front ++ rest)
 
 decoded_with : (items front : List ℕ) (rank : ℕ) (set : List ℕ) → decoded items (front ++ rank ∷ set) ≡ with_item (get_or items rank 0) (decoded items (front ++ set))
-decoded_with items front rank set =
-    ap rising (map-append (λ r. get_or items r 0) front (rank ∷ set)) ∙ moved (map (λ r. get_or items r 0) front) (get_or items rank 0) (map (λ r. get_or items r 0) set)
-    ∙ ap (λ l. with_item (get_or items rank 0) (rising l)) (sym (map-append (λ r. get_or items r 0) front set))
+decoded_with items front rank set = grind (arith, common_steps, map-append, moved)
 
 module _ {node : Node} (straight : IsStraight node) (falls : (rank other : ℕ) (others : List ℕ) → node.over.support (other ∷ rank ∷ others) ≤ node.over.support (other ∷ others)) where
   abbrev test : List ℕ → Bool

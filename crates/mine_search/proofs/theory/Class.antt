@@ -1,5 +1,6 @@
 -- The class of a rank, as a search lists it.
 use Rattle.std.proofs.Common.{◌≡◌, ℕ, ◌≤◌, true, List, [], ◌∷◌, ◌++◌, length, leb, map, refl, sym, ap, ◌∙◌, subst, inl, inr, arith}
+use Rattle.std.proofs.lemmas.Grind.{common_steps}
 use Rattle.std.specs.Cmp.Lexicographic.{pointwise}
 use Rattle.std.specs.List.{Contains, IsDistinct}
 use Rattle.std.specs.Prelude.{nat_eq}
@@ -39,8 +40,7 @@ module _ {coding : Coding} {over : Supports} (is : IsOver coding over) (rank : �
   support_less set subset has = let one = is.supports set in let two = is.supports subset in let less = support_falls coding.baskets set subset has in omega arith
 
   falls : (a b : List ℕ) → is_met over (a ++ b) ≡ true → is_met over b ≡ true
-  falls a b h = le-leb over.least (over.support b)
-      (let enough = leb-true over.least (over.support (a ++ b)) h in let less = support_less (a ++ b) b (contains_each (a ++ b) b (λ z m. Member-append_right z a b m)) in omega arith)
+  falls a b h = grind (arith, common_steps, le-leb, leb-true, support_less, contains_each, Member-append_right)
 
   sets_of : map (λ (c : Counted). c.set) (map counted_set sets) ≡ sets
   sets_of = map-map (λ (c : Counted). c.set) counted_set sets ∙ map_same sets

@@ -1,5 +1,6 @@
 -- What a search finds: each set that passes the test, once.
 use Rattle.std.proofs.Common.{◌≡◌, ℕ, zero, suc, ◌<◌, Bool, true, false, List, [], ◌∷◌, ◌++◌, length, cond, refl, sym, ap, ◌∙◌, subst, inl, inr, arith, append_assoc, length-append}
+use Rattle.std.proofs.lemmas.Grind.{common_steps}
 use Rattle.std.specs.Prelude.{nat_eq}
 use Rattle.std.specs.Cmp.Lexicographic.{pointwise}
 use Rattle.std.specs.List.{IsDistinct}
@@ -113,10 +114,7 @@ module _ (test : List ℕ → Bool) where
   -- each once
   apart_from : (below : ℕ) (set : List ℕ) → IsDistinct (pointwise nat_eq) (sets_below test below set) → IsDistinct (pointwise nat_eq) (set ∷ sets_below test below set)
   unfolding IsDistinct
-  apart_from below set distinct = (
-    All-from_Member (λ y. pointwise nat_eq set y ≡ false) (sets_below test below set) (λ y m. apart set y (λ e. let more = longer below set y m in let same = ap length e in omega arith)),
-    distinct,
-  )
+  apart_from below set distinct = grind (arith, common_steps, All-from_Member, apart, longer)
 
   pub sets_distinct : (below : ℕ) (set : List ℕ) → IsDistinct (pointwise nat_eq) (sets_below test below set)
   unfolding IsDistinct
