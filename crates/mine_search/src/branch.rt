@@ -40,6 +40,7 @@ pub fn read_off<P: Projected, T: Tally>(
 }
 
 /// Adds each set between two indexes once more, with one more item and with another count.
+#[tactic(auto, using(std::proofs::lemmas::Grind::common_steps, crate::proofs::ReadLemmas::chosen_more))]
 fn choose<S: Drop, T: Tally>(
     alloc: Global,
     bounds: (usize, usize),
