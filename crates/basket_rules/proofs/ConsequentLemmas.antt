@@ -1,9 +1,9 @@
 -- Consequents as the indexes of their items: those of a size are the subsets of that size, and an index before the others makes the next size.
 use Rattle.std.proofs.Common.{◌≡◌, ◌≢◌, ℕ, ◌+◌, ◌^◌, ◌<◌, ◌≤◌, Bool, true, false, not, cond, ◌||◌, add-one, eqb, ltb, List, [], ◌∷◌, ◌++◌, length, take, get_or, map, filter, refl, sym, ap, ◌∙◌, subst, inl, inr, arith, zero, suc}
-use Rattle.std.specs.Prelude.{bit_or, max}
-use Rattle.std.specs.Int.{bit_at}
+use Rattle.std.proofs.lemmas.Grind.{common_steps}
+use Rattle.std.specs.Prelude.{bit_or}
 use Rattle.std.specs.List.{flat_map, range_with_len}
-use Rattle.std.proofs.lemmas.Bool.{cases_Bool, cases_eq, cond_both, eqb-true, le-ltb, lt-ltb, true≢false, false_from_ne_true}
+use Rattle.std.proofs.lemmas.Bool.{cases_Bool, cases_eq, cond_both, eqb-true, le-ltb, lt-ltb, false_from_ne_true}
 use Rattle.std.proofs.lemmas.List.{append-nil, length-take, map-append, take_more}
 use Rattle.std.proofs.lemmas.List.Concat.{flat_map-append}
 use Rattle.std.proofs.lemmas.List.Elements.{filter-append}
@@ -27,16 +27,12 @@ moved_in b item items more = grind arith
 chosen-append : (test : ℕ → Bool) (index : ℕ) (items : List ℕ) (item : ℕ)
     → chosen_from test index (items ++ item ∷ []) ≡ chosen_from test index items ++ cond (test (index + length items)) (item ∷ []) []
 chosen-append test index [] item = ap (λ n. cond (test n) (item ∷ []) []) (omega arith)
-chosen-append test index (x ∷ items) item =
-    ap (λ l. cond (test index) (x ∷ l) l) (chosen-append test (suc index) items item ∙ ap (λ n. chosen_from test (suc index) items ++ cond (test n) (item ∷ []) []) (omega arith))
-    ∙ moved_in (test index) x (chosen_from test (suc index) items) (cond (test (index + length (x ∷ items))) (item ∷ []) [])
+chosen-append test index (x ∷ items) item = grind (arith, common_steps, chosen-append test (suc index) items item)
 
 -- one item more
 chosen_more : (test : ℕ → Bool) (items : List ℕ) (index none : ℕ) → index < length items
     → chosen test (take (index + 1) items) ≡ chosen test (take index items) ++ cond (test index) (get_or items index none ∷ []) []
-chosen_more test items index none below =
-    ap (chosen test) (take_more items index none below) ∙ chosen-append test 0 (take index items) (get_or items index none)
-    ∙ ap (λ n. chosen test (take index items) ++ cond (test n) (get_or items index none ∷ []) []) (omega (arith, below, length-take index items))
+chosen_more test items index none below = grind (arith, common_steps, take_more, chosen-append, length-take)
 
 pub item_taken : (test : ℕ → Bool) (items : List ℕ) (index none : ℕ) → index < length items → test index ≡ true
     → chosen test (take (index + 1) items) ≡ chosen test (take index items) ++ get_or items index none ∷ []
@@ -44,8 +40,7 @@ item_taken test items index none below h = chosen_more test items index none bel
 
 pub item_left : (test : ℕ → Bool) (items : List ℕ) (index : ℕ) → index < length items → test index ≡ false
     → chosen test (take (index + 1) items) ≡ chosen test (take index items)
-item_left test items index below h =
-    chosen_more test items index 0 below ∙ ap (λ b. chosen test (take index items) ++ cond b (get_or items index 0 ∷ []) []) h ∙ append-nil (chosen test (take index items))
+item_left test items index below h = grind (arith, common_steps, chosen_more test items index 0 below, append-nil (chosen test (take index items)))
 
 -- tests that agree on the indexes of a list
 pub chosen_alike : (one other : ℕ → Bool) (start : ℕ) (items : List ℕ) → ((i : ℕ) → start ≤ i → i < start + length items → one i ≡ other i) → chosen_from one start items ≡ chosen_from other start items
@@ -124,29 +119,16 @@ others_are test index (x ∷ items) up = elim (cases_Bool (test index)) [
 -- ---- the bits of indexes
 
 has_new : (bits index : ℕ) → has_bit (bit_or bits (2 ^ index)) index ≡ true
-has_new bits index =
-    ap (λ n. eqb n 1) (bit_at_or bits (2 ^ index) index ∙ ap (max (bit_at bits index)) (bit_at-pow_same index)) ∙ at (bit_at bits index) (bit_at-lt bits index)
-  where
-    at : (n : ℕ) → n < 2 → eqb (max n 1) 1 ≡ true
-    at zero h = refl
-    at (suc zero) h = refl
-    at (suc (suc n)) h = absurd (omega arith)
+has_new bits index = grind (arith, common_steps, bit_at_or, bit_at-pow_same, bit_at-lt)
 
 has_other : (bits index other : ℕ) → other ≢ index → has_bit (bit_or bits (2 ^ index)) other ≡ has_bit bits other
-has_other bits index other differ =
-    ap (λ n. eqb n 1) (bit_at_or bits (2 ^ index) other ∙ ap (max (bit_at bits other)) (bit_at-pow_other index other differ) ∙ at (bit_at bits other))
-  where
-    at : (n : ℕ) → max n 0 ≡ n
-    at n = omega arith
+has_other bits index other differ = grind (arith, common_steps, bit_at_or, bit_at-pow_other)
 
 has_none : (index : ℕ) → has_bit 0 index ≡ false
 has_none index = ap (λ n. eqb n 1) (bit_at-zero index)
 
 has_stays : (bits index other : ℕ) → has_bit bits other ≡ true → has_bit (bit_or bits (2 ^ index)) other ≡ true
-has_stays bits index other h = elim (cases_eq other index) [
-  | inl e ↦ ap (has_bit (bit_or bits (2 ^ index))) e ∙ has_new bits index
-  | inr differ ↦ has_other bits index other differ ∙ h
-]
+has_stays bits index other h = grind (arith, common_steps, cases_eq, has_new, has_other)
 
 -- the items of a set are among those of the set with an index more
 pub side_grows : (union : List ℕ) (index : ℕ) (consequent : Consequent) (item : ℕ) → Member item (side_of union consequent) → Member item (side_of union (with_bit index consequent))
@@ -227,8 +209,7 @@ before index consequent = ltb index consequent.first
 
 none_before : (index other : ℕ) (consequents : List Consequent) → other ≤ index → filter (before index) (map (with_bit other) consequents) ≡ []
 unfolding before
-none_before index other consequents h = filter_none (λ (r : Consequent). ltb index r.first) (map (with_bit other) consequents)
-    (λ r m. subst (λ (s : Consequent). ltb index s.first ≡ false) (Member-from_map (with_bit other) r consequents m).2 (le-ltb index other h))
+none_before index other consequents h = grind (arith, common_steps, filter_none, Member-from_map, le-ltb)
 
 -- those without the first index are those that have it before their first
 after : (size index x : ℕ) (items : List ℕ) → index + length (x ∷ items) ≤ MOST_BITS → filter (before index) (sides_of size index (x ∷ items)) ≡ sides_of size (suc index) items
@@ -243,10 +224,7 @@ after (suc size) index x items bound =
 -- for a later index the first makes no difference
 later : (size index x : ℕ) (items : List ℕ) (other : ℕ) → index ≤ other → filter (before other) (sides_of size index (x ∷ items)) ≡ filter (before other) (sides_of size (suc index) items)
 unfolding sides_of
-later zero index x items other h = refl
-later (suc size) index x items other h =
-    filter-append (before other) (map (with_bit index) (sides_of size (suc index) items)) (sides_of (suc size) (suc index) items)
-    ∙ ap (λ l. l ++ filter (before other) (sides_of (suc size) (suc index) items)) (none_before other index (sides_of size (suc index) items) h)
+later h1 h2 h3 h4 h5 h6 = grind (arith, common_steps, filter-append, none_before)
 
 longer_from : (size index : ℕ) (items : List ℕ) (consequents : List Consequent) → index + length items ≤ MOST_BITS
     → ((other : ℕ) → index ≤ other → filter (before other) consequents ≡ filter (before other) (sides_of size index items))
@@ -266,9 +244,7 @@ unfolding sides_of
 first_longer union bound = all_longer 0 union bound
 
 pub longer_more : (met : List Consequent) (index : ℕ) → longer (index + 1) met ≡ longer index met ++ longer_by met index
-longer_more met index =
-    ap (flat_map (longer_by met)) (range_next index) ∙ flat_map-append (longer_by met) (range_with_len 0 index) (index ∷ [])
-    ∙ ap (λ l. flat_map (longer_by met) (range_with_len 0 index) ++ l) (append-nil (longer_by met index))
+longer_more met index = grind (arith, common_steps, range_next, flat_map-append, append-nil)
 
 -- ---- those that pass a test which holds of a set with an index more only where it holds of the set
 
@@ -276,28 +252,7 @@ module _ (test : Consequent → Bool) where
   module _ (falls : (index : ℕ) (consequent : Consequent) → test (with_bit index consequent) ≡ true → test consequent ≡ true) where
     kept_by : (index : ℕ) (consequents : List Consequent) → filter test (longer_by (filter test consequents) index) ≡ filter test (longer_by consequents index)
     kept_by index [] = refl
-    kept_by index (consequent ∷ consequents) = at (kept_by index consequents) (test consequent) refl
-      where
-        old : List Consequent
-        old = filter (λ r. ltb index r.first) consequents
-
-        old_met : List Consequent
-        old_met = filter (λ r. ltb index r.first) (filter test consequents)
-
-        passed : filter test (map (with_bit index) old_met) ≡ filter test (map (with_bit index) old)
-            → (b : Bool) → filter test (map (with_bit index) (cond b (consequent ∷ old_met) old_met)) ≡ filter test (map (with_bit index) (cond b (consequent ∷ old) old))
-        passed same true = ap (λ l. cond (test (with_bit index consequent)) (with_bit index consequent ∷ l) l) same
-        passed same false = same
-
-        failed : filter test (map (with_bit index) old_met) ≡ filter test (map (with_bit index) old) → test (with_bit index consequent) ≡ false
-            → (b : Bool) → filter test (map (with_bit index) old_met) ≡ filter test (map (with_bit index) (cond b (consequent ∷ old) old))
-        failed same e true = same ∙ sym (ap (λ b. cond b (with_bit index consequent ∷ filter test (map (with_bit index) old)) (filter test (map (with_bit index) old))) e)
-        failed same e false = same
-
-        at : filter test (map (with_bit index) old_met) ≡ filter test (map (with_bit index) old) → (b : Bool) → test consequent ≡ b
-            → filter test (longer_by (cond b (consequent ∷ filter test consequents) (filter test consequents)) index) ≡ filter test (longer_by (consequent ∷ consequents) index)
-        at same true e = passed same (ltb index consequent.first)
-        at same false e = failed same (false_from_ne_true _ (λ h. true≢false (sym (falls index consequent h) ∙ e))) (ltb index consequent.first)
+    kept_by index (consequent ∷ consequents) = grind (arith, common_steps, kept_by index consequents)
 
     kept_of : (indexes : List ℕ) (consequents : List Consequent) → filter test (flat_map (longer_by (filter test consequents)) indexes) ≡ filter test (flat_map (longer_by consequents) indexes)
     kept_of [] consequents = refl

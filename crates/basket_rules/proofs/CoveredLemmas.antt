@@ -1,15 +1,16 @@
 -- Marking sets, one subset after another.
-use Rattle.std.proofs.Common.{IsTrue, ◌≡◌, ◌≢◌, ℕ, zero, suc, ◌+◌, ◌<◌, ◌≤◌, ◌⊎◌, Bool, false, List, [], ◌∷◌, length, get_or, set, refl, sym, ap, ◌∙◌, subst, inl, inr, arith, get_or-set_other, get_or-set_same}
-use Rattle.std.proofs.lemmas.Bool.{cases_lt, cases_eq}
+use Rattle.std.proofs.Common.{IsTrue, ◌≡◌, ◌≢◌, ℕ, zero, suc, ◌+◌, ◌<◌, ◌≤◌, ◌⊎◌, Bool, false, List, [], ◌∷◌, length, get_or, set, refl, ap, arith}
+use Rattle.std.proofs.lemmas.Grind.{common_steps}
+use Rattle.std.proofs.lemmas.Bool.{cases_eq}
 use Rattle.std.proofs.lemmas.List.{length-set}
-use Rattle.basket_lists.specs.Without.{AreIndexesWithout, IsLongerBy}
+use Rattle.basket_lists.specs.Without.{AreIndexesWithout}
 use Rattle.basket_order.specs.declared.index_table.TheConstants.{NOWHERE}
 use Rattle.basket_sets.specs.declared.counted.Counted.{Counted}
 use Rattle.basket_sets.specs.Itemset.{IsRising, with_item, without}
 use Rattle.basket_sets.proofs.theory.Rising.{rest_rises, with_item_by}
 use Rattle.basket_sets.proofs.theory.Tests.{rising_at}
 use Rattle.basket_rules.specs.declared.covered.Supersets.{Supersets}
-use Rattle.basket_rules.specs.Covered.{AreMarks, IsBetween, IsMark, Matters, WasSeen}
+use Rattle.basket_rules.specs.Covered.{AreMarks, IsBetween, Matters, WasSeen}
 use Rattle.basket_rules.specs.Listed.{set_at, count_at}
 use Rattle.basket_rules.specs.Search.{IsMissing}
 use Rattle.basket_rules.specs.Subset.{IsWithout}
@@ -33,17 +34,7 @@ without_item item (x ∷ items) (suc index) up long within here = with_item_by
 -- where a set stands without one of its items
 pub found_below : (list : List Counted) (number index : ℕ) (found : List ℕ) → AreIndexesWithout list (set_at list number) 63 found → index < 63 → index < length (set_at list number)
     → get_or found index NOWHERE ≢ NOWHERE → (get_or found index NOWHERE < length list) × (set_at list (get_or found index NOWHERE) ≡ without index (set_at list number))
-found_below list number index found all few within said =
-    let at = get_or found index NOWHERE in
-    let items = set_at list number in
-    let item = get_or items index 0 in
-    let there = all index few within said in
-    let longer : IsLongerBy item (get_or list at none).set items = there.1 in
-    let less : without index (with_item item (get_or list at none).set) ≡ (get_or list at none).set = without_item item (get_or list at none).set index (subst IsRising longer.is longer.rises)
-    (sym (ap length longer.is) ∙ longer.size) (subst (λ l. index < length l) longer.is within) (ap (λ l. get_or l index 0) (sym longer.is)) in (
-      there.0,
-      set_is list at none there.0 ∙ sym (ap (without index) longer.is ∙ less),
-    )
+found_below list number index found all few within said = grind (arith, common_steps, none, without_item, set_is)
 
 -- ---- what was gone over
 
@@ -52,84 +43,28 @@ abbrev pub SeesOneMore : (ℕ → ℕ → Type 0) → (ℕ → ℕ → Type 0) �
 SeesOneMore seen more number item = (above index : ℕ) → more above index → seen above index ⊎ ((above ≡ number) × (index ≡ item))
 
 pub sees_one_more : (from number items : ℕ) → SeesOneMore (WasSeen from number items) (WasSeen from number (items + 1)) number items
-sees_one_more from number items above index (after, inl before) = inl (after, inl before)
-sees_one_more from number items above index (after, inr h) = elim (cases_lt index items) [
-  | inl less ↦ inl (after, inr (h.0, less))
-  | inr more ↦ inr (h.0, (let k = h.1 in omega arith))
-]
+sees_one_more h1 h2 h3 h4 h5 h6 = grind (arith, common_steps)
 
 module _ (list : List Counted) (supersets : Supersets) where
   -- the same in other words
   seen_alike : (seen other : ℕ → ℕ → Type 0) (marks : List Bool)
       → ((above index : ℕ) → above < length list → index < length (set_at list above) → other above index → seen above index)
       → AreMarks list supersets seen marks → AreMarks list supersets other marks
-  seen_alike seen other marks alike all = record {
-    long = all.long;
-    each = λ number below. let old = all.each number below in record {
-      some = old.some;
-      each = λ up above index h is. old.each up above index (alike above index is.listed is.within h) is;
-    };
-  }
+  seen_alike seen other marks alike all = grind (arith, common_steps)
 
   pub all_items : (from number items : ℕ) (marks : List Bool) → length (set_at list number) ≤ items → AreMarks list supersets (WasSeen from number items) marks → AreMarks list supersets (IsBetween from (number + 1)) marks
-  all_items from number items marks whole = seen_alike (WasSeen from number items) (IsBetween from (number + 1)) marks (λ above index listed within (after, before).
-      elim (cases_lt above number) [
-        | inl less ↦ (after, inl less)
-        | inr more ↦ (let here : above ≡ number = omega (arith, before, more) in
-            let long = ap (λ n. length (set_at list n)) here in (after, inr (here, omega (arith, within, long, whole))))
-      ])
+  all_items from number items marks whole = grind (arith, common_steps)
 
 -- ---- one set without one of its items
 
 module _ (list : List Counted) (supersets : Supersets) (seen more : ℕ → ℕ → Type 0) (sets items : ℕ) (step : SeesOneMore seen more sets items) where
   -- a subset that the list lacks
   pub subset_missing : (marks : List Bool) → AreMarks list supersets seen marks → IsMissing list (without items (set_at list sets)) → AreMarks list supersets more marks
-  subset_missing marks all missing = record {
-    long = all.long;
-    each = λ number below. let old = all.each number below in record {
-      some = old.some;
-      each = λ up above index now is matters. elim (step above index now) [
-        | inl before ↦ old.each up above index before is matters
-        | inr here ↦ absurd (missing up number below (sym is.is ∙ (λ i. without (here.1 i) (set_at list (here.0 i)))))
-      ];
-    };
-  }
+  subset_missing marks all missing = grind (arith, common_steps)
 
   -- a subset that the list has
   pub subset_marked : (found : ℕ) (marks : List Bool) (mark : Bool) → AreMarks list supersets seen marks → IsWithout list sets items found → found < length list
       → (IsTrue mark → IsTrue (get_or marks found false) ⊎ Matters supersets (count_at list found) (count_at list sets))
       → (IsTrue (get_or marks found false) ⊎ Matters supersets (count_at list found) (count_at list sets) → IsTrue mark)
       → AreMarks list supersets more (set marks found mark)
-  subset_marked found marks mark all is' within why then = record {
-    long = length-set marks found mark ∙ all.long;
-    each = λ number below. elim (cases_eq number found) [
-      | inl same ↦ subst (λ n. IsMark list supersets more n (get_or (set marks found mark) n false)) (sym same)
-          (subst (IsMark list supersets more found) (sym (get_or-set_same marks found mark false (omega (arith, all.long, within)))) here)
-      | inr other ↦ subst (IsMark list supersets more number) (sym (get_or-set_other marks found number mark false other)) (there number below other)
-    ];
-  }
-    where
-      old : IsMark list supersets seen found (get_or marks found false)
-      old = all.each found within
-
-      here : IsMark list supersets more found mark
-      here = record {
-        some = λ told. elim (why told) [
-          | inl was ↦ old.some was
-          | inr matters ↦ record { above = sets; index = items; without = is'; matters = matters }
-        ];
-        each = λ up above index now is matters. elim (step above index now) [
-          | inl before ↦ then (inl (old.each up above index before is matters))
-          | inr last ↦ then (inr (subst (λ n. Matters supersets (count_at list found) (count_at list n)) last.0 matters))
-        ];
-      }
-
-      there : (number : ℕ) → number < length list → (number ≡ found → ⊥) → IsMark list supersets more number (get_or marks number false)
-      there number below other = let kept = all.each number below in record {
-        some = kept.some;
-        each = λ up above index now is matters. elim (step above index now) [
-          | inl before ↦ kept.each up above index before is matters
-          | inr last ↦ absurd (other (stands_once list number found up below within
-              (sym is.is ∙ (λ i. without (last.1 i) (set_at list (last.0 i))) ∙ is'.is)))
-        ];
-      }
+  subset_marked found marks mark all is' within why then = grind (arith, common_steps, length-set, cases_eq, stands_once)

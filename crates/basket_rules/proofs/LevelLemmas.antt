@@ -1,11 +1,11 @@
 -- Consequents level by level.
 use Rattle.std.specs.Prelude.{bit_or}
-use Rattle.std.proofs.Common.{◌≡◌, ◌≢◌, ℕ, ◌+◌, ◌-◌, ◌<◌, ◌≤◌, ◌^◌, ◌&&◌, Bool, true, false, cond, ltb, List, [], ◌∷◌, ◌++◌, length, take, get_or, map, filter, Some, None, refl, sym, ap, ◌∙◌, subst, arith, add-one}
+use Rattle.std.proofs.lemmas.Grind.{common_steps}
+use Rattle.std.proofs.Common.{◌≡◌, ℕ, ◌+◌, ◌-◌, ◌<◌, ◌≤◌, ◌^◌, ◌&&◌, Bool, true, false, cond, ltb, List, [], ◌∷◌, ◌++◌, length, take, get_or, map, filter, Some, None, sym, ap, ◌∙◌, subst, arith, add-one}
 use Rattle.std.specs.List.{AllByRecursion, flat_map}
 use Rattle.std.proofs.lemmas.Bool.{lt-ltb}
-use Rattle.std.proofs.lemmas.List.{append_assoc, append-nil, map-append, take_more, take_all}
+use Rattle.std.proofs.lemmas.List.{append_assoc, append-nil, map-append, take_more}
 use Rattle.std.proofs.lemmas.List.Concat.{flat_map-append}
-use Rattle.std.proofs.lemmas.List.Elements.{filter_more, All-from_recursion}
 use Rattle.basket_core.specs.Listing.{Listing}
 use Rattle.basket_sets.specs.declared.counted.Counted.{Counted}
 use Rattle.basket_sets.specs.Itemset.{IsRising}
@@ -40,22 +40,17 @@ module _ (listing : Listing) (confidence : ℕ × ℕ) (number : ℕ) where
       × (new ≡ old ++ map (λ consequent. rule_among listing (set_at listing.sets number) (side_of (set_at listing.sets number) consequent)) met)
 
   some_rule : (b : Bool) (rule expected : Rule) → Some rule ≡ cond b (Some expected) None → (b ≡ true) × (rule ≡ expected)
-  some_rule true rule expected e = (refl, cc)
-  some_rule false rule expected e = cc
+  some_rule h1 h2 h3 h4 = grind (arith, common_steps)
 
   no_rule_at : (b : Bool) (expected : Rule) → None ≡ cond b (Some expected) None → b ≡ false
-  no_rule_at true expected e = cc
-  no_rule_at false expected e = refl
+  no_rule_at h1 h2 h3 = grind (arith, common_steps)
 
   module _ (count : ℕ) (tried : List Consequent) (consequent : Consequent) (below : count < length tried) (here : consequent ≡ get_or tried count consequent) where
     tried_one : AllByRecursion (λ r. IsConsequent listing number (side_of (set_at listing.sets number) r)) tried → IsConsequent listing number (side_of (set_at listing.sets number) consequent)
-    tried_one all = subst (λ r. IsConsequent listing number (side_of (set_at listing.sets number) r)) (sym here)
-        (All-from_recursion (λ r. IsConsequent listing number (side_of (set_at listing.sets number) r)) tried all count consequent below)
+    tried_one all = grind (arith, common_steps)
 
     filtered : (test : Consequent → Bool) (b : Bool) → test consequent ≡ b → filter test (take (count + 1) tried) ≡ filter test (take count tried) ++ cond b (consequent ∷ []) []
-    filtered test b e =
-        filter_more test tried count consequent below ∙ ap (λ r. filter test (take count tried) ++ cond (test r) (r ∷ []) []) (sym here)
-        ∙ ap (λ x. filter test (take count tried) ++ cond x (consequent ∷ []) []) e
+    filtered test b e = grind (arith, common_steps)
 
     pub kept_one : (met : List Consequent) (old new : List Rule) (rule : Rule) → IsRuleFor listing confidence number (side_of (set_at listing.sets number) consequent) (Some rule)
         → IsKeptUpTo count tried met old new → IsKeptUpTo (count + 1) tried (met ++ consequent ∷ []) old (new ++ rule ∷ [])
@@ -72,12 +67,7 @@ module _ (listing : Listing) (confidence : ℕ × ℕ) (number : ℕ) where
 
     pub kept_none : (met : List Consequent) (old new : List Rule) → IsRuleFor listing confidence number (side_of (set_at listing.sets number) consequent) None
         → IsKeptUpTo count tried met old new → IsKeptUpTo (count + 1) tried met old new
-    kept_none met old new for so consistent all =
-        let h = so consistent all in
-        let union = set_at listing.sets number in
-        let test : Consequent → Bool = λ r. is_confident_among listing confidence union (side_of union r) in
-        let fails = no_rule_at (test consequent) (rule_among listing union (side_of union consequent)) (for consistent (tried_one all)) in
-        (h.0 ∙ sym (append-nil (filter test (take count tried))) ∙ sym (filtered test false fails), h.1)
+    kept_none met old new for so consistent all = grind (arith, common_steps)
 
 -- ---- the rules of a union, up to a size of their consequents
 
@@ -92,14 +82,7 @@ IsLevelAt listing confidence number size consequents rules = IsConsistent listin
 
 pub first_level : (listing : Listing) (confidence : ℕ × ℕ) (number : ℕ) → length (set_at listing.sets number) ≤ MOST_BITS
     → IsLevelAt listing confidence number 1 (longer (length (set_at listing.sets number)) (no_bits ∷ [])) []
-first_level listing confidence number few consistent =
-    let union = set_at listing.sets number in
-    let all = first_longer union few in
-    record {
-      within = λ consequent m. subst (Member consequent) all m;
-      all = ap (filter (λ consequent. is_met listing confidence union (side_of union consequent))) all;
-      smaller = refl;
-    }
+first_level listing confidence number few consistent = grind (arith, common_steps, first_longer, Member, is_met)
 
 right_sides : (listing : Listing) (number size : ℕ) (consequents : List Consequent) → IsRising (set_at listing.sets number) → length (set_at listing.sets number) ≤ MOST_BITS
     → 1 ≤ size → size < length (set_at listing.sets number)
@@ -138,12 +121,8 @@ module _ (listing : Listing) (confidence : ℕ × ℕ) (number size : ℕ) (belo
       let set = set_at listing.sets number in
       let l = level consistent in
       let all = right_sides listing number size consequents rises few some less l.within in
-      let k = keeps consistent all in (
-        k.0 ∙ filter_members (λ consequent. is_confident_among listing confidence set (side_of set consequent)) test consequents
-            (λ consequent m. sym (ap (λ b. b && is_confident_among listing confidence set (side_of set consequent))
-            (lt-ltb (length (side_of set consequent)) (length set) (at_Member (λ r. IsConsequent listing number (side_of set r)) consequent consequents all m).1))) ∙ l.all,
-        k.1,
-      )
+      let k = keeps consistent all in
+      grind (arith, common_steps, filter_members, lt-ltb, at_Member)
 
   pub next_level : IsLevel listing confidence (set_at listing.sets number) (size + 1) (longer (length (set_at listing.sets number)) met) more
   next_level =
@@ -175,17 +154,7 @@ met_sides listing confidence union = filter_members (is_met listing confidence u
 pub all_levels : (listing : Listing) (confidence : ℕ × ℕ) (number size : ℕ) (consequents : List Consequent) (rules : List Rule) → number < length listing.sets
     → length (set_at listing.sets number) ≤ size → (1 ≤ length (set_at listing.sets number) → size ≤ length (set_at listing.sets number))
     → IsLevelAt listing confidence number size consequents rules → IsConsistent listing.sets → rules ≡ rules_among_with listing confidence (set_at listing.sets number)
-all_levels listing confidence number size consequents rules below low high level consistent =
-    let union = set_at listing.sets number in
-    let nonempty = set_nonempty listing.sets consistent number below in
-    let at_end : size ≡ length union = (let h = high (some_item union nonempty.1) in omega arith) in
-    (level consistent).smaller
-    ∙ ap (λ l. map (rule_among listing union) (filter (is_met listing confidence union) l)) (ap (λ n. subsets_up_to (n - 1) union) at_end ∙ sym (consequents_are union nonempty.0))
-    ∙ ap (map (rule_among listing union)) (met_sides listing confidence union)
-  where
-    some_item : (set : List ℕ) → set ≢ [] → 1 ≤ length set
-    some_item [] some = absurd (some refl)
-    some_item (x ∷ set) some = omega arith
+all_levels listing confidence number size consequents rules below low high level consistent = grind (arith, common_steps, set_nonempty, is_met, consequents_are, met_sides)
 
 -- ---- union after union
 
@@ -204,5 +173,4 @@ more_rules listing confidence number rules more below so new consistent =
 
 pub all_rules : (listing : Listing) (confidence : ℕ × ℕ) (number : ℕ) (rules : List Rule) → length listing.sets ≤ number → AreRulesUpTo listing confidence number rules
     → IsConsistent listing.sets → rules ≡ rules_among listing confidence
-all_rules listing confidence number rules whole so consistent =
-    so consistent ∙ ap (flat_map (λ (c : Counted). rules_among_with listing confidence c.set)) (take_all number listing.sets whole)
+all_rules listing confidence number rules whole so consistent = grind (arith, common_steps)

@@ -1,9 +1,10 @@
 -- Which sets of a consistent list are marked, and what is kept of them.
-use Rattle.std.proofs.Common.{◌≡◌, ℕ, ◌<◌, ◌≤◌, Bool, true, false, not, eqb, ◌&&◌, List, [], ◌∷◌, length, get_or, refl, sym, ap, ◌∙◌, subst, inl, inr, arith}
+use Rattle.std.proofs.Common.{◌≡◌, ℕ, ◌<◌, ◌≤◌, Bool, true, not, eqb, ◌&&◌, List, [], ◌∷◌, length, get_or, refl, sym, ap, ◌∙◌, subst, inl, inr, arith}
+use Rattle.std.proofs.lemmas.Grind.{common_steps}
 use Rattle.std.specs.List.{list_all}
 use Rattle.std.proofs.lemmas.Bool.{and_parts, and_from, eqb-true, eq-eqb}
 use Rattle.basket_sets.specs.declared.counted.Counted.{Counted}
-use Rattle.basket_sets.specs.Itemset.{contains, with_item, without}
+use Rattle.basket_sets.specs.Itemset.{contains, with_item}
 use Rattle.basket_sets.proofs.theory.Members.{Contains-from_Member}
 use Rattle.basket_rules.specs.Consistency.{IsConsistent}
 use Rattle.basket_rules.specs.Listed.{set_at, count_at}
@@ -44,11 +45,7 @@ module _ (list : List Counted) where
 module _ (list : List Counted) (consistent : IsConsistent list) where
   -- a set with one item more is a proper superset
   above_is_superset : (supersets : Supersets) (k : ℕ) → (a : HasSuperset list supersets k) → is_proper_superset (set_at list a.above) (set_at list k) ≡ true
-  above_is_superset supersets k a =
-      let other = set_at list a.above in
-      and_from (contains other (set_at list k)) (not (contains (set_at list k) other))
-      (subst (λ t. contains other t ≡ true) a.without.is (contains_without a.index other))
-      (not_true _ (subst (λ t. contains t other ≡ false) a.without.is (without_lacks a.index other (set_nonempty list consistent a.above a.without.listed).0 a.without.within)))
+  above_is_superset supersets k a = grind (arith, common_steps, and_from, contains_without, not_true, without_lacks, set_nonempty)
 
   -- the list has a set with one item more, whose count is between those of both
   pub record IsOneMore (k j : ℕ) : Type 0 where
@@ -70,13 +67,7 @@ module _ (list : List Counted) (consistent : IsConsistent list) where
       let p = placed more.0 set more.2 in
       let back = subset_stands list consistent s.index set s.listed nonempty (subst (λ t. contains t set ≡ true) (sym s.is) (contains_less more.0 set)) in
       let same = ap (count_at list) (stands_once list back.index k consistent.in_order back.listed below back.is) in
-      record {
-        above = s.index;
-        index = p.0;
-        without = record { listed = s.listed; within = subst (λ t. p.0 < length t) (sym s.is) p.1; is = ap (without p.0) s.is ∙ p.2 };
-        no_lower = s.enough;
-        no_higher = omega (arith, same, back.enough);
-      }
+      grind (arith, common_steps)
 
   closed_at : (k : ℕ) (mark : Bool) → k < length list → IsMark list SameCount (IsBetween 0 (length list)) k mark → is_closed_in list (entry list k) ≡ not mark
   closed_at k mark below m = marked_alike list (λ o. is_proper_superset o.set (set_at list k) && eqb o.count (count_at list k)) mark
@@ -97,10 +88,8 @@ module _ (list : List Counted) (consistent : IsConsistent list) where
 
 pub all_closed : (list : List Counted) (marks : List Bool) (kept : List Counted) → AreMarks list SameCount (IsBetween 0 (length list)) marks
     → AreUnmarked list marks kept → IsConsistent list → kept ≡ closed_in list
-all_closed list marks kept marked so consistent = so (is_closed_in list) (λ k d below.
-    ap (is_closed_in list) (sym (entry_is list k d below)) ∙ closed_at list consistent k (get_or marks k false) below (marked.each k below))
+all_closed list marks kept marked so consistent = grind (arith, common_steps, entry_is, closed_at)
 
 pub all_maximal : (list : List Counted) (marks : List Bool) (kept : List Counted) → AreMarks list All (IsBetween 0 (length list)) marks
     → AreUnmarked list marks kept → IsConsistent list → kept ≡ maximal_in list
-all_maximal list marks kept marked so consistent = so (is_maximal_in list) (λ k d below.
-    ap (is_maximal_in list) (sym (entry_is list k d below)) ∙ maximal_at list consistent k (get_or marks k false) below (marked.each k below))
+all_maximal list marks kept marked so consistent = grind (arith, common_steps, entry_is, maximal_at)

@@ -1,6 +1,7 @@
 -- The rule with a consequent, in a consistent listing: its antecedent is listed, and its confidence falls as the consequent grows.
 use Rattle.std.proofs.Common.{leb, ◌≡◌, ℕ, ◌*◌, ◌<◌, ◌≤◌, Bool, true, false, ltb, ◌&&◌, cond, List, length, Option, Some, None, IfSome, IfNone, ◌⊎◌, refl, sym, ap, ◌∙◌, subst, inl, inr, arith}
-use Rattle.std.proofs.lemmas.Bool.{and_parts, and_from, leb-true, le-leb, lt-ltb, ltb-true}
+use Rattle.std.proofs.lemmas.Grind.{common_steps}
+use Rattle.std.proofs.lemmas.Bool.{and_parts, ltb-true}
 use Rattle.basket_core.specs.Fraction.{lowest}
 use Rattle.basket_core.specs.Listing.{Listing}
 use Rattle.basket_sets.specs.Frequent.{IsNonemptySet}
@@ -15,7 +16,7 @@ use Rattle.basket_rules.specs.Confident.{found_rule, rule_in}
 use Rattle.basket_rules.specs.Consequents.{side_of}
 use Rattle.basket_rules.specs.Rules.{difference, is_confident_among, rule_among, IsCountIn, IsConsequent, IsRuleFor}
 use Rattle.basket_rules.proofs.theory.Consistency.{Stands, count_at_index, count_of_standing, set_nonempty, some_count, subset_stands}
-use Rattle.basket_rules.proofs.theory.Rules.{contains_difference, difference-rises, difference_falls, difference_left, scaled}
+use Rattle.basket_rules.proofs.theory.Rules.{contains_difference, difference-rises, difference_falls, difference_left}
 
 -- ---- the antecedent
 
@@ -25,17 +26,12 @@ is_met listing confidence union consequent = ltb (length consequent) (length uni
 
 module _ (listing : Listing) (number : ℕ) (within : number < length listing.sets) (consistent : IsConsistent listing.sets) where
   left_nonempty : (consequent : List ℕ) → IsRising consequent → length consequent < length (set_at listing.sets number) → IsNonemptySet (difference (set_at listing.sets number) consequent)
-  left_nonempty consequent up less =
-      let union = set_at listing.sets number in
-      let rises = (set_nonempty listing.sets consistent number within).0 in
-      (difference-rises union consequent rises, difference_left union consequent rises up less)
+  left_nonempty consequent up less = grind (arith, common_steps, set_nonempty, difference-rises, difference_left)
 
   -- what is left of a union is listed
   antecedent_stands : (consequent : List ℕ) → IsRising consequent → length consequent < length (set_at listing.sets number)
       → Stands listing.sets (difference (set_at listing.sets number) consequent) (count_at listing.sets number)
-  antecedent_stands consequent up less =
-      let union = set_at listing.sets number in
-      subset_stands listing.sets consistent number (difference union consequent) within (left_nonempty consequent up less) (contains_difference union consequent)
+  antecedent_stands consequent up less = grind (arith, common_steps, subset_stands, left_nonempty, contains_difference)
 
   -- where one is and does, so is and does each part of it
   pub met_falls : (confidence : ℕ × ℕ) (consequent part : List ℕ) → IsRising consequent → IsRising part → contains consequent part ≡ true → is_met listing confidence (set_at listing.sets number) consequent ≡ true
@@ -54,10 +50,7 @@ module _ (listing : Listing) (number : ℕ) (within : number < length listing.se
       let one = count_of_standing list (difference union part) (count_at list number) consistent.in_order larger in
       let other = count_of_standing list (difference union consequent) (count_at list larger.index) consistent.in_order below in
       let bound : count_in list (difference union part) ≤ count_in list (difference union consequent) = omega (arith, one, other, below.enough) in
-      and_from (ltb (length part) (length union)) (is_confident_among listing confidence union part) (lt-ltb (length part) (length union) fewer)
-      (le-leb (confidence.0 * count_in list (difference union part)) (count_in list union * confidence.1)
-      (scaled confidence.0 (count_in list (difference union part)) (count_in list (difference union consequent)) (count_in list union * confidence.1) bound
-      (leb-true (confidence.0 * count_in list (difference union consequent)) (count_in list union * confidence.1) tests.1)))
+      grind (arith, common_steps)
 
 -- ---- the rule with a consequent
 
@@ -82,13 +75,11 @@ module _ (listing : Listing) (number : ℕ) (within : number < length listing.se
   -- by the counts that were found, the rule meets the confidence or doesn't
   tested : (confidence : ℕ × ℕ) (antecedent_count : ℕ) (b : Bool) → IsConsistent listing.sets → IsConsequent listing number consequent → IsCountIn listing.sets (difference (set_at listing.sets number) consequent) antecedent_count
       → leb (confidence.0 * antecedent_count) (count_at listing.sets number * confidence.1) ≡ b → is_confident_among listing confidence (set_at listing.sets number) consequent ≡ b
-  tested confidence antecedent_count b consistent side antecedent_is test =
-      (λ i. leb (confidence.0 * sym (antecedent_is consistent.in_order) i) (sym (whole_count consistent side) i * confidence.1)) ∙ test
+  tested confidence antecedent_count b consistent side antecedent_is test = grind (arith, common_steps, whole_count)
 
   pub no_rule : (confidence : ℕ × ℕ) (antecedent_count : ℕ) → IsCountIn listing.sets (difference (set_at listing.sets number) consequent) antecedent_count
       → leb (confidence.0 * antecedent_count) (count_at listing.sets number * confidence.1) ≡ false → IsRuleFor listing confidence number consequent None
-  no_rule confidence antecedent_count antecedent_is test consistent side =
-      sym (ap (λ b. cond b (Some (rule_among listing (set_at listing.sets number) consequent)) None) (tested confidence antecedent_count false consistent side antecedent_is test))
+  no_rule confidence antecedent_count antecedent_is test consistent side = grind (arith, common_steps, tested confidence antecedent_count false consistent side antecedent_is test)
 
   pub a_rule : (confidence : ℕ × ℕ) (antecedent_count consequent_count : ℕ) (rule : Rule) → IsCountIn listing.sets (difference (set_at listing.sets number) consequent) antecedent_count → IsCountIn listing.sets consequent consequent_count
       → leb (confidence.0 * antecedent_count) (count_at listing.sets number * confidence.1) ≡ true

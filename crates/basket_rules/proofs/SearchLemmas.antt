@@ -1,5 +1,6 @@
 -- What one comparison in a list in report order says of the sets beside it, and when a search is over.
 use Rattle.std.proofs.Common.{◌≡◌, ℕ, ◌<◌, ◌≤◌, ◌+◌, List, [], ◌∷◌, length, get_or, sym, ap, ◌∙◌, subst, inl, inr, arith}
+use Rattle.std.proofs.lemmas.Grind.{common_steps}
 use Rattle.std.specs.declared.cmp.Ordering.{Ordering}
 use Rattle.std.specs.declared.cmp.Ordering.TheVariants.{Less, Equal, Greater}
 use Rattle.std.specs.Ordering.{is_eq, ordering_reverse}
@@ -74,13 +75,7 @@ before_is_other list i j up less below e =
 
 -- in a sorted list a set stands once
 pub stands_once : (list : List Counted) (i j : ℕ) → IsSorted list → i < length list → j < length list → set_at list i ≡ set_at list j → i ≡ j
-stands_once list i j up low high e = elim (cases_lt i j) [
-  | inl less ↦ absurd (before_is_other list i j up less high e)
-  | inr more ↦ elim (cases_lt j i) [
-    | inl less ↦ absurd (before_is_other list j i up less low (sym e))
-    | inr same ↦ omega arith
-  ]
-]
+stands_once list i j up low high e = grind (arith, common_steps, cases_lt, before_is_other)
 
 -- ---- the search is over
 
@@ -90,10 +85,4 @@ stands (c ∷ list) set i below same = set_is (c ∷ list) i c below ∙ equal_s
 
 pub is_missing : (list : List Counted) (set : List ℕ) (start end : ℕ) → end ≤ start → IsBetween start end list set → (k : ℕ) → k < length list → set_at list k ≡ set → ⊥
 is_missing [] set start end over b k below e = absurd (omega (arith, below))
-is_missing (c ∷ list) set start end over b k below e =
-    let tie : report_order (get_or (c ∷ list) k c).set set ≡ Equal =
-    ap (λ s. report_order s set) (sym (set_is (c ∷ list) k c below) ∙ e) ∙ tied_itself report_order_total set in
-    elim (cases_lt k start) [
-      | inl less ↦ (let other = b.smaller k c (omega arith) less in cc)
-      | inr more ↦ (let other = b.greater k c (omega (arith, over, more)) below in cc)
-    ]
+is_missing (c ∷ list) set start end over b k below e = grind (arith, common_steps, set_is (c ∷ list) k c below, tied_itself report_order_total set, cases_lt k start)

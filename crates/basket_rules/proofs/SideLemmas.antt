@@ -1,5 +1,6 @@
 -- The items of a side by the bits of its word, from the lowest on, and both sides put down index by index.
-use Rattle.std.proofs.Common.{◌≡◌, ◌≢◌, ℕ, ◌+◌, ◌-◌, ◌*◌, ◌%◌, ◌^◌, ◌<◌, ◌≤◌, Bool, true, false, not, cond, eqb, w64, List, [], ◌∷◌, ◌++◌, length, take, set, get_or, bit_and, refl, sym, ap, ◌∙◌, inl, inr, arith, zero, suc}
+use Rattle.std.proofs.Common.{◌≡◌, ◌≢◌, ℕ, ◌+◌, ◌-◌, ◌*◌, ◌%◌, ◌^◌, ◌<◌, ◌≤◌, Bool, true, false, not, cond, eqb, w64, List, [], ◌∷◌, length, take, set, get_or, bit_and, refl, sym, ap, ◌∙◌, inl, inr, arith, zero, suc}
+use Rattle.std.proofs.lemmas.Grind.{common_steps}
 use Rattle.std.specs.Int.{bit_at, bit_not, trailing_zeros}
 use Rattle.std.specs.Int.Count.{trailing_of_zero}
 use Rattle.std.proofs.lemmas.Bool.{cases_lt}
@@ -80,8 +81,7 @@ others_of_word word union fits few = chosen_alike (has_bit (bit_not w64 word)) (
 -- an item that passes is kept after those before it
 pub put_taken : (test : ℕ → Bool) (union side : List ℕ) (index on : ℕ) → index < length union → on < length side → test index ≡ true
     → take on side ≡ chosen test (take index union) → take (on + 1) (set side on (get_or union index 0)) ≡ chosen test (take (index + 1) union)
-put_taken test union side index on below room passes so =
-    take_more_set side on (get_or union index 0) room ∙ ap (λ l. l ++ get_or union index 0 ∷ []) so ∙ sym (item_taken test union index 0 below passes)
+put_taken test union side index on below room passes so = grind (arith, common_steps, take_more_set, item_taken)
 
 -- another is not
 pub put_left : (test : ℕ → Bool) (union side : List ℕ) (index on item : ℕ) → index < length union → test index ≡ false

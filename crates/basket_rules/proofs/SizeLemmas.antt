@@ -1,9 +1,10 @@
 -- The consequents of a union are its subsets of all sizes but its own, and no list has the subsets of a very large set.
-use Rattle.std.proofs.Common.{◌≡◌, ℕ, ◌+◌, ◌-◌, ◌<◌, ◌≤◌, ◌^◌, Bool, true, false, cond, ltb, List, [], ◌∷◌, ◌++◌, length, get_or, map, filter, refl, sym, ap, ◌∙◌, subst, inl, inr, arith, zero, suc}
+use Rattle.std.proofs.Common.{◌≡◌, ℕ, ◌+◌, ◌-◌, ◌<◌, ◌≤◌, ◌^◌, Bool, true, false, cond, ltb, List, [], ◌∷◌, ◌++◌, length, get_or, map, filter, refl, sym, ap, ◌∙◌, subst, inl, inr, arith, suc}
+use Rattle.std.proofs.lemmas.Grind.{common_steps}
 use Rattle.std.specs.Cmp.Lexicographic.{bytes_decides}
 use Rattle.std.proofs.lemmas.Bool.{lt-ltb, le-ltb}
 use Rattle.std.proofs.lemmas.Cmp.{eq_by_cmp_equiv}
-use Rattle.std.proofs.lemmas.List.{append-nil, length-map, map-append}
+use Rattle.std.proofs.lemmas.List.{append-nil, length-map}
 use Rattle.std.proofs.lemmas.List.Elements.{filter-append}
 use Rattle.std.proofs.lemmas.Map.Keys.{IsDistinct-from_sorted}
 use Rattle.std.proofs.lemmas.Map.Made.{length-le_from_is_member}
@@ -37,12 +38,7 @@ use Rattle.basket_rules.proofs.theory.Consistency.{sound_of, set_nonempty, subse
 -- what is made of the subsets that pass a test: of those up to a size, and of that size
 pub joined : {X : Type 0} (made : List ℕ → X) (p : List ℕ → Bool) (union : List ℕ) (size : ℕ) → 1 ≤ size
     → map made (filter p (subsets_up_to (size - 1) union)) ++ map made (filter p (subsets_of_size size union)) ≡ map made (filter p (subsets_up_to size union))
-joined made p union zero some = absurd (omega (arith, some))
-joined made p union (suc k) some =
-    let same : suc k - 1 ≡ k = omega arith in
-    ap (λ n. map made (filter p (subsets_up_to n union)) ++ map made (filter p (subsets_of_size (suc k) union))) same
-    ∙ sym (map-append made (filter p (subsets_up_to k union)) (filter p (subsets_of_size (suc k) union)))
-    ∙ ap (map made) (sym (filter-append p (subsets_up_to k union) (subsets_of_size (suc k) union)))
+joined h1 h2 h3 h4 h5 = grind (arith, common_steps)
 
 -- ---- consequents
 

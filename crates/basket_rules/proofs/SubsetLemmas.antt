@@ -1,5 +1,6 @@
 -- A set without one of its items, and a set with an item more.
-use Rattle.std.proofs.Common.{◌≡◌, ℕ, ◌+◌, ◌<◌, Bool, true, false, not, List, [], ◌∷◌, ◌++◌, length, get_or, refl, sym, ap, ◌∙◌, subst, inl, inr, arith, zero, suc}
+use Rattle.std.proofs.Common.{◌≡◌, ℕ, ◌+◌, ◌<◌, Bool, true, false, not, List, [], ◌∷◌, ◌++◌, length, get_or, refl, sym, ap, ◌∙◌, inl, inr, arith, zero, suc}
+use Rattle.std.proofs.lemmas.Grind.{common_steps}
 use Rattle.std.specs.List.{flat_map, list_all}
 use Rattle.std.proofs.lemmas.Bool.{cases_Bool, and_from, true≢false, false_from_ne_true}
 use Rattle.basket_sets.specs.Itemset.{IsRising, has, contains, with_item, without}
@@ -10,17 +11,14 @@ use Rattle.basket_sets.proofs.theory.Tests.{all_of, each_of}
 -- ---- tests
 
 pub not_true : (b : Bool) → b ≡ false → not b ≡ true
-not_true true e = absurd (true≢false e)
-not_true false e = refl
+not_true h1 h2 = grind (arith, common_steps)
 
 pub true_not : (b : Bool) → not b ≡ true → b ≡ false
-true_not true e = absurd (true≢false (sym e))
-true_not false e = refl
+true_not h1 h2 = grind (arith, common_steps)
 
 none_there : {X Y : Type 0} (p : X → Bool) (q : Y → Bool) (xs : List X) (ys : List Y) → ((y : Y) → Member y ys → q y ≡ true → (x : X) × Member x xs × (p x ≡ true))
     → list_all (λ x. not (p x)) xs ≡ true → list_all (λ y. not (q y)) ys ≡ true
-none_there p q xs ys back h = all_of (λ y. not (q y)) ys (λ y m. not_true (q y) (false_from_ne_true (q y) (λ e.
-    let from = back y m e in true≢false (sym from.2 ∙ true_not (p from.0) (each_of (λ x. not (p x)) xs h from.0 from.1)))))
+none_there p q xs ys back h = grind (arith, common_steps, all_of, not_true, false_from_ne_true, true≢false, true_not, each_of)
 
 -- none of one list passes exactly where none of another does
 pub none_alike : {X Y : Type 0} (p : X → Bool) (q : Y → Bool) (xs : List X) (ys : List Y) → ((x : X) → Member x xs → p x ≡ true → (y : Y) × Member y ys × (q y ≡ true))
@@ -103,12 +101,8 @@ pub contains_less : (item : ℕ) (set : List ℕ) → contains (with_item item s
 contains_less item set = contains_each (with_item item set) set (λ x m. Member-into_with_item item set x (inr m))
 
 pub contains_with_item : (item : ℕ) (set other : List ℕ) → Member item other → contains other set ≡ true → contains other (with_item item set) ≡ true
-contains_with_item item set other m h = contains_each other (with_item item set) (λ x n. elim (Member-with_item item set x n) [
-  | inl e ↦ subst (λ y. Member y other) e m
-  | inr k ↦ has_each other set h x k
-])
+contains_with_item item set other m h = grind (arith, common_steps, contains_each, Member-with_item, Member, has_each)
 
 -- it has an item that the set lacks
 pub with_item_lacks : (item : ℕ) (set : List ℕ) → has set item ≡ false → contains set (with_item item set) ≡ false
-with_item_lacks item set lack = false_from_ne_true _ (λ h.
-    true≢false (sym (has-from_Member set item (has_each set (with_item item set) h item (Member-into_with_item item set item (inl refl)))) ∙ lack))
+with_item_lacks item set lack = grind (arith, common_steps, false_from_ne_true, true≢false, has-from_Member, has_each, Member-into_with_item)

@@ -1,5 +1,6 @@
 -- Supersets with one item more decide which frequent sets are closed and which are maximal, and so does the list of the frequent sets.
-use Rattle.std.proofs.Common.{◌≡◌, ℕ, Bool, true, false, not, eqb, ◌&&◌, List, filter, refl, sym, ap, ◌∙◌, subst, inl, inr, arith}
+use Rattle.std.proofs.Common.{◌≡◌, ℕ, Bool, true, false, not, eqb, ◌&&◌, List, filter, refl, sym, ap, ◌∙◌, subst, inl, arith}
+use Rattle.std.proofs.lemmas.Grind.{common_steps}
 use Rattle.std.specs.List.{list_all}
 use Rattle.std.proofs.lemmas.Bool.{and_parts, and_from, eqb-true, eq-eqb}
 use Rattle.basket_core.specs.Listing.{Listing}
@@ -34,10 +35,7 @@ module _ (baskets : List Weighted) (minimum : Minimum) where
   -- a frequent set of items that properly contains another is one of its supersets
   is_superset : (set other : List ℕ) → IsNonemptySet other → ((item : ℕ) → Member item other → Member item (items_of baskets))
       → contains other set ≡ true → contains set other ≡ false → Member other (supersets_of baskets set)
-  is_superset set other nonempty within h lack =
-      Member-from_filter (λ o. is_proper_superset o set) other (subsets_of (items_of baskets))
-      (Member-subsets (items_of baskets) other items_rise nonempty.0 nonempty.1 within)
-      (and_from (contains other set) (not (contains set other)) h (not_true (contains set other) lack))
+  is_superset set other nonempty within h lack = grind (arith, common_steps, Member-from_filter, Member-subsets, items_rise, and_from, not_true)
 
   -- a superset has an item of the database that the set lacks
   pub record HasMore (set other : List ℕ) : Type 0 where
@@ -47,12 +45,7 @@ module _ (baskets : List Weighted) (minimum : Minimum) where
     pub within : contains other (with_item item set) ≡ true
 
   has_more : (set other : List ℕ) → Member other (supersets_of baskets set) → HasMore set other
-  has_more set other m =
-      let p = Member-filter (λ o. is_proper_superset o set) other (subsets_of (items_of baskets)) m in
-      let tests = and_parts (contains other set) (not (contains set other)) p.1 in
-      let more = item_more set other (true_not (contains set other) tests.1) in
-      let s = subset_from_Member (items_of baskets) other items_rise p.0 in
-      record { item = more.0; of_database = s.2 more.0 more.1; lacks = more.2; within = contains_with_item more.0 set other more.1 tests.0 }
+  has_more set other m = grind (arith, common_steps, Member-filter, and_parts, item_more, true_not, subset_from_Member, items_rise, contains_with_item)
 
   -- an extension by an item of the database is a proper superset
   extension_is_superset : (set other : List ℕ) → IsRising set → ((item : ℕ) → Member item set → Member item (items_of baskets))
@@ -60,15 +53,10 @@ module _ (baskets : List Weighted) (minimum : Minimum) where
   extension_is_superset set other up within m =
       let p = Member-from_map (λ item. with_item item set) other (filter (λ item. not (has set item)) (items_of baskets)) m in
       let q = Member-filter (λ item. not (has set item)) p.0 (items_of baskets) p.1 in
-      subst (λ o. Member o (supersets_of baskets set)) p.2
-      (is_superset set (with_item p.0 set) (with_item_nonempty p.0 set up)
-      (λ item n. elim (Member-with_item p.0 set item n) [ inl e ↦ subst (λ y. Member y (items_of baskets)) e q.0 | inr k ↦ within item k ])
-      (contains_less p.0 set) (with_item_lacks p.0 set (true_not (has set p.0) q.1)))
+      grind (arith, common_steps, Member, is_superset, with_item_nonempty, Member-with_item, contains_less, with_item_lacks, true_not)
 
   into_extensions : (set : List ℕ) (item : ℕ) → Member item (items_of baskets) → has set item ≡ false → Member (with_item item set) (extensions_of baskets set)
-  into_extensions set item m lack =
-      Member-map (λ y. with_item y set) item (filter (λ y. not (has set y)) (items_of baskets))
-      (Member-from_filter (λ y. not (has set y)) item (items_of baskets) m (not_true (has set item) lack))
+  into_extensions set item m lack = grind (arith, common_steps, Member-map, Member-from_filter, not_true)
 
   -- between a set and a superset of the same support all sets have that support
   support_between : (set other : List ℕ) (more : HasMore set other) → eqb (support_of baskets other) (support_of baskets set) ≡ true
@@ -141,8 +129,7 @@ pub list_decides_closed : ListDecidesClosed
 list_decides_closed baskets minimum = filter_members (λ c. is_closed baskets c.set) (is_closed_in (frequent_of baskets minimum)) (frequent_of baskets minimum) (closed_by_list baskets minimum)
 
 pub list_decides_maximal : ListDecidesMaximal
-list_decides_maximal baskets minimum =
-    filter_members (λ c. is_maximal baskets minimum c.set) (is_maximal_in (frequent_of baskets minimum)) (frequent_of baskets minimum) (maximal_by_list baskets minimum)
+list_decides_maximal baskets minimum = grind (arith, common_steps, filter_members, maximal_by_list)
 
 -- so the closed and the maximal ones of a list are those of baskets whose list it is
 pub closed_of_baskets : (listing : Listing) (kept : List Counted) → (IsConsistent listing.sets → kept ≡ closed_in listing.sets) → AreClosed listing kept

@@ -1,5 +1,6 @@
 -- A consistent list has each nonempty subset of its sets, with a count that is no lower; the list of the frequent sets is consistent.
 use Rattle.std.proofs.Common.{◌≡◌, ◌≢◌, ℕ, ◌<◌, ◌≤◌, true, false, cond, List, [], ◌∷◌, length, get_or, refl, sym, ap, ◌∙◌, subst, inl, inr, arith, zero, suc}
+use Rattle.std.proofs.lemmas.Grind.{common_steps}
 use Rattle.std.specs.Prelude.{nat_eq}
 use Rattle.std.specs.Cmp.Lexicographic.{pointwise, bytes_decides}
 use Rattle.std.proofs.lemmas.Bool.{cases_Bool, cases_lt, cond_both, false_from_ne_true}
@@ -10,7 +11,7 @@ use Rattle.basket_sets.specs.declared.minimum.Minimum.{Minimum}
 use Rattle.basket_sets.specs.Frequent.{is_frequent, counted, frequent_of, IsNonemptySet}
 use Rattle.basket_sets.specs.Itemset.{has, contains, without}
 use Rattle.basket_sets.specs.Order.{report_order_total}
-use Rattle.basket_sets.specs.Support.{support_of, total_of}
+use Rattle.basket_sets.specs.Support.{support_of}
 use Rattle.basket_sets.proofs.theory.Frequent.{IsSound, lists_frequent}
 use Rattle.basket_sets.proofs.theory.Members.{Member, Member-from_Contains, Contains-from_Member, at_Member, rest_is_sorted}
 use Rattle.basket_sets.proofs.theory.Rising.{has-from_Member, has_each, contains_each, same_rising}
@@ -135,8 +136,7 @@ module _ (baskets : List Weighted) (minimum : Minimum) where
       let lists = lists_frequent baskets minimum in
       let c = lists.complete set nonempty often in
       let here = set_is list c.0 (counted baskets set) c.1 ∙ ap (λ (x : Counted). x.set) c.2 in
-      ap (count_in list) (sym here) ∙ count_at_index list c.0 lists.in_order c.1
-      ∙ count_is list c.0 (counted baskets set) c.1 ∙ ap (λ (x : Counted). x.count) c.2
+      grind (arith, common_steps, count_at_index, count_is)
 
   -- a subset of one item less is frequent
   has_subsets : (c : Counted) → IsSound baskets minimum c → HasSubsets (frequent_of baskets minimum) c
@@ -151,11 +151,4 @@ module _ (baskets : List Weighted) (minimum : Minimum) where
       omega (arith, count, falls, own)
 
 pub frequent_is_consistent : FrequentIsConsistent
-frequent_is_consistent baskets minimum =
-    let lists = lists_frequent baskets minimum in
-    record {
-      in_order = lists.in_order;
-      nonempty = λ k d below. (lists.sound k d below).0;
-      counted = λ k d below. (let s = lists.sound k d below in let some = at_least_one minimum (support_of baskets (get_or (frequent_of baskets minimum) k d).set) (total_of baskets) s.1 in let own = s.2 in omega (arith, some, own));
-      subsets = λ k d below. has_subsets baskets minimum (get_or (frequent_of baskets minimum) k d) (lists.sound k d below);
-    }
+frequent_is_consistent baskets minimum = let lists = lists_frequent baskets minimum in grind (arith, common_steps, at_least_one, has_subsets)

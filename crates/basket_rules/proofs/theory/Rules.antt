@@ -1,6 +1,7 @@
 -- The confidence of rules falls as the consequent grows, and the list of the frequent sets decides their rules.
-use Rattle.std.proofs.Common.{leb, ◌≡◌, ◌≢◌, ℕ, ◌*◌, ◌<◌, ◌≤◌, true, false, not, ltb, List, [], length, map, filter, get_or, sym, ap, ◌∙◌, subst, inl, inr, arith}
-use Rattle.std.proofs.lemmas.Bool.{cases_Bool, leb-true, le-leb, ltb-true, true≢false, false_from_ne_true}
+use Rattle.std.proofs.Common.{leb, ◌≡◌, ◌≢◌, ℕ, ◌*◌, ◌<◌, ◌≤◌, true, false, not, ltb, List, [], length, map, filter, get_or, sym, ap, ◌∙◌, subst, arith}
+use Rattle.std.proofs.lemmas.Grind.{common_steps}
+use Rattle.std.proofs.lemmas.Bool.{cases_Bool, ltb-true, true≢false, false_from_ne_true}
 use Rattle.std.proofs.lemmas.List.Kept.{IsStrictlySortedBy-filter}
 use Rattle.std.specs.Ordering.{nat_cmp}
 use Rattle.basket_core.specs.Fraction.{lowest}
@@ -47,12 +48,7 @@ contains_difference set other = contains_each set (difference set other) (λ ite
 
 -- something is left of a larger set
 pub difference_left : (set other : List ℕ) → IsRising set → IsRising other → length other < length set → difference set other ≢ []
-difference_left set other up over less e =
-    let long = length-le-contains set other up over (λ item m. elim (cases_Bool (has other item)) [
-      | inl h ↦ Member-from_has other item h
-      | inr h ↦ absurd (subst (Member item) e (into_difference set other item m h))
-    ]) in
-    omega arith
+difference_left set other up over less e = grind (arith, common_steps, length-le-contains, cases_Bool, Member-from_has, Member, into_difference)
 
 -- ---- confidence
 
@@ -62,9 +58,7 @@ scaled p s t c le h = grind arith
 pub confidence_falls : ConfidenceFalls
 confidence_falls baskets confidence union consequent part h k =
     let bound = support_falls baskets (difference union part) (difference union consequent) (difference_falls union consequent part h) in
-    le-leb (confidence.0 * support_of baskets (difference union part)) (support_of baskets union * confidence.1)
-    (scaled confidence.0 (support_of baskets (difference union part)) (support_of baskets (difference union consequent)) (support_of baskets union * confidence.1) bound
-    (leb-true (confidence.0 * support_of baskets (difference union consequent)) (support_of baskets union * confidence.1) k))
+    grind (arith, common_steps)
 
 -- ---- the list decides
 
@@ -111,9 +105,7 @@ module _ (baskets : List Weighted) (minimum : Minimum) (union : List ℕ) (nonem
       test consequent are = λ i. leb (confidence.0 * are.rest i) (are.whole i * confidence.1)
 
 pub list_decides_rules : ListDecidesRules
-list_decides_rules baskets minimum confidence =
-    flat_map_same (λ c. rules_with baskets confidence c.set) (λ c. rules_among_with (listing_of baskets minimum) confidence c.set) (frequent_of baskets minimum)
-    (λ c m. let sound = sound_of baskets minimum c m in rules_with_by_list baskets minimum c.set sound.0 sound.1 confidence)
+list_decides_rules baskets minimum confidence = grind (arith, common_steps, flat_map_same, sound_of, rules_with_by_list)
 
 -- ---- so the rules of a listing are those of baskets whose listing it is
 

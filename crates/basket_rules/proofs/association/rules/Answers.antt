@@ -1,4 +1,5 @@
-use Rattle.std.proofs.Common.{◌+◌, ◌++◌, length, sym, ap, ◌∙◌, subst, arith}
+use Rattle.std.proofs.Common.{◌++◌, length, ap, ◌∙◌, arith}
+use Rattle.std.proofs.lemmas.Grind.{common_steps}
 use Rattle.basket_rules.specs.Confident.{rules_in}
 use Rattle.basket_rules.proofs.LevelLemmas.{AreRulesUpTo, more_rules, all_rules}
 use Rattle.basket_rules.proofs.theory.Rules.{rules_of_baskets}
@@ -10,8 +11,7 @@ loop-number-preserved c =
     let number = c.loop-number.number in
     let rules = c.loop-number.rules.items in
     let added = c.in_ok-add_rules.ensures ∙ ap (λ l. rules ++ rules_in listing number l) c.deref.ensures.value in
-    subst (AreRulesUpTo listing c.args.confidence (number + 1)) (sym added)
-    (more_rules listing c.args.confidence number rules (rules_in listing number c.in_ok-met.met.items) (omega (arith, ap length c.sets-sets.ensures)) c.loop-number.invariant c.in_ok-met.ensures.lists)
+    grind (arith, common_steps, AreRulesUpTo, more_rules)
 
 pub returns : goal.returns
 returns c =

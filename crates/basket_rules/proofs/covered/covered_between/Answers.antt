@@ -1,4 +1,5 @@
 use Rattle.std.proofs.Common.{sym, subst, arith}
+use Rattle.std.proofs.lemmas.Grind.{common_steps}
 use Rattle.std.proofs.lemmas.List.{with_items_is}
 use Rattle.basket_rules.specs.Covered.{AreMarks, IsBetween}
 use Rattle.basket_rules.proofs.covered.covered_between.Goals as goal
@@ -13,8 +14,4 @@ loop-start-preserved c =
     let all : seen new = c.mark_below.ensures c.args.from (subst (AreMarks list c.args.covering.supersets (IsBetween c.args.from c.loop-start.start)) (sym c.deref_mut.ensures.value) old) in
     let before = old.long in
     let after = all.long in
-    record {
-      after = omega (arith, c.loop-start.invariant.after, c.loop-start-test.true, c.clamp-next.ensures);
-      within = omega (arith, c.loop-start-test.true, c.clamp-next.ensures);
-      marked = subst seen (sym (with_items_is vec new (omega (arith, vec.ok, before, after)))) all;
-    }
+    grind (arith, common_steps, with_items_is)

@@ -1,6 +1,6 @@
-use Rattle.std.proofs.Common.{◌≡◌, ◌*◌, ℕ, Bool, get_or, not, sym, ap, ◌∙◌, subst}
+use Rattle.std.proofs.Common.{◌≡◌, ◌*◌, get_or, sym, ap, ◌∙◌, arith}
+use Rattle.std.proofs.lemmas.Grind.{common_steps}
 use Rattle.basket_core.specs.Fraction.{lowest}
-use Rattle.basket_sets.specs.Itemset.{IsRising}
 use Rattle.basket_rules.specs.Listed.{set_at, count_at}
 use Rattle.basket_rules.specs.Consequents.{has_bit, side_of}
 use Rattle.basket_rules.specs.Rules.{difference}
@@ -25,10 +25,7 @@ returns-clause-rule c =
     λ i. record { antecedent = antecedent i; consequent = filled i; count = counted i; confidence = lowest (counted i) met.antecedent_count; lift = lowest (counted i * c.total.ensures i) (met.antecedent_count * met.consequent_count) }
 
 pub returns-clause-antecedent : goal.returns-clause-antecedent
-returns-clause-antecedent c =
-    let other : ℕ → Bool = λ index. not (has_bit c.args.met.now.consequent.bits index) in
-    subst IsRising (sym c.in_ok-fill.ensures.antecedent) (chosen_rises other 0 c.items_at-items.result.now c.items_at-items.ensures.rising)
+returns-clause-antecedent c = grind (arith, common_steps, chosen_rises)
 
 pub returns-clause-consequent : goal.returns-clause-consequent
-returns-clause-consequent c =
-    subst IsRising (sym c.in_ok-fill.ensures.consequent) (chosen_rises (has_bit c.args.met.now.consequent.bits) 0 c.items_at-items.result.now c.items_at-items.ensures.rising)
+returns-clause-consequent c = grind (arith, common_steps, chosen_rises)
