@@ -64,6 +64,7 @@ fn empty_list(alloc: Global, lines: &[CountedLine]) -> Result<CountedSets, Alloc
 }
 
 /// Does nothing: the items of each set rise, by its type, and this says so of all of them.
+#[tactic(auto, using(std::proofs::lemmas::Grind::common_steps, std::proofs::lemmas::List::take_all))]
 fn know_rising(lines: &[CountedLine])
     ensures { All HasRisingSet lines.now }
 {
