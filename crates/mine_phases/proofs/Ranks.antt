@@ -1,10 +1,11 @@
 -- The ranks of a piece, and those of all pieces.
-use Rattle.std.proofs.Common.{◌≡◌, ℕ, ◌+◌, ◌-◌, ◌*◌, ◌/◌, ◌%◌, ◌<◌, ◌≤◌, Bool, List, [], ◌∷◌, ◌++◌, refl, sym, ap, ◌∙◌, inl, inr, arith, add-one, zero, suc, zero-add, map, min, length, reverse, get_or}
+use Rattle.std.proofs.Common.{◌≡◌, ℕ, ◌+◌, ◌-◌, ◌%◌, ◌<◌, ◌≤◌, Bool, List, [], ◌∷◌, ◌++◌, refl, sym, ap, ◌∙◌, inl, inr, arith, add-one, zero, suc, zero-add, map, min, length, reverse, get_or}
+use Rattle.std.proofs.lemmas.Grind.{common_steps}
 use Rattle.std.specs.Prelude.{◌==◌, IsPermutation}
 use Rattle.std.specs.List.{range_with_len, sum_by, flat_map}
-use Rattle.std.proofs.Math.Nat.{mul-le-mul_right, mod-eq_of_lt}
-use Rattle.std.proofs.lemmas.Nat.{div-add-mod', mod_below}
-use Rattle.std.proofs.lemmas.Bool.{cases_Bool, cases_lt, eq-eqb, eqb-true, false_from_ne_true}
+use Rattle.std.proofs.Math.Nat.{mod-eq_of_lt}
+use Rattle.std.proofs.lemmas.Nat.{mod_below}
+use Rattle.std.proofs.lemmas.Bool.{cases_Bool, eq-eqb, eqb-true, false_from_ne_true}
 use Rattle.std.proofs.lemmas.List.{map-append, reverse-append}
 use Rattle.std.proofs.lemmas.List.Sums.{sum_by_push}
 use Rattle.std.proofs.lemmas.List.Sorted.{IsPermutation-reverse, sum_by-IsPermutation}
@@ -19,13 +20,7 @@ use Rattle.mine_pieces.proofs.theory.Seats.{sum_by-flat_map, sum_by-map}
 
 -- between two numbers with one remainder are as many numbers as it is of
 apart : (pieces claimed low high : ℕ) → low % pieces ≡ claimed → high % pieces ≡ claimed → low < high → high < low + pieces → ⊥
-apart pieces claimed low high one other less near =
-    let first = div-add-mod' low pieces in
-    let second = div-add-mod' high pieces in
-    elim (cases_lt (low / pieces) (high / pieces)) [
-      | inl rises ↦ (let more : suc (low / pieces) * pieces ≤ high / pieces * pieces = mul-le-mul_right pieces rises in omega (arith, first, second, one, other, near, more))
-      | inr falls ↦ (let more : high / pieces * pieces ≤ low / pieces * pieces = mul-le-mul_right pieces falls in omega (arith, first, second, one, other, less, more))
-    ]
+apart pieces claimed low high one other less near = grind (arith, common_steps)
 
 -- none is below the claimed number
 none_before : (pieces claimed count : ℕ) → claimed < pieces → count ≤ claimed → indexes_of pieces claimed count ≡ []

@@ -1,5 +1,6 @@
 -- The runs of ranges of ranks, one range after another.
 use Rattle.std.proofs.Common.{◌≡◌, ℕ, ◌+◌, ◌<◌, List, [], ◌∷◌, ◌++◌, length, get_or, refl, sym, subst, arith, zero, suc}
+use Rattle.std.proofs.lemmas.Grind.{common_steps}
 use Rattle.std.specs.List.{flat_map, range_with_len}
 use Rattle.std.proofs.lemmas.List.Concat.{flat_map-cons}
 use Rattle.mine_baskets.specs.declared.span.Span.{Span}
@@ -39,8 +40,7 @@ module _ (IsOf : ℕ → List Span → Type 0) where
   are_at first zero lists are n below = absurd (omega (arith, below))
   are_at first (suc count) [] are n below = absurd are
   are_at first (suc count) (list ∷ lists) are zero below = subst (λ r. IsOf r list) (omega arith) are.0
-  are_at first (suc count) (list ∷ lists) are (suc n) below =
-      subst (λ r. IsOf r (get_or lists n [])) (omega arith) (are_at (first + 1) count lists are.1 n (omega (arith, below)))
+  are_at first (suc count) (list ∷ lists) are (suc n) below = grind (arith, common_steps, are_at (first + 1) count lists are.1 n (omega (arith, below)))
 
   pub are_joined : (ranges : List RankRange) (parts : List (List (List Span))) → length parts ≡ length ranges
       → ((part : ℕ) (range : RankRange) → part < length ranges → get_or ranges part range ≡ range

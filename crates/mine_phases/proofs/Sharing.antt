@@ -1,5 +1,6 @@
 -- What all workers of a phase of classes have told and mined together.
-use Rattle.std.proofs.Common.{◌≡◌, ◌≤◌, ◌<◌, ◌+◌, ◌-◌, ◌*◌, ◌^◌, ◌⊎◌, ℕ, suc, zero, List, [], ◌∷◌, map, fold, get_or, length, Option, Some, None, Ok, Err, Result, cond, ap, sym, ◌∙◌, subst, inl, inr, arith, zero-add}
+use Rattle.std.proofs.Common.{◌≡◌, ◌≤◌, ◌<◌, ◌+◌, ◌-◌, ◌*◌, ◌^◌, ◌⊎◌, ℕ, suc, zero, List, [], ◌∷◌, map, fold, get_or, length, Option, Some, None, Err, Result, cond, ap, sym, ◌∙◌, subst, inl, inr, arith, zero-add}
+use Rattle.std.proofs.lemmas.Grind.{common_steps}
 use Rattle.std.specs.Prelude.{◌==◌, All, IsPermutation, Vec, slice_index}
 use Rattle.std.specs.Global.{Global}
 use Rattle.std.specs.List.{flat_map, range_with_len, sum, sum_by}
@@ -11,7 +12,7 @@ use Rattle.std.proofs.lemmas.List.Sums.{sum-map, sum_by-cons}
 use Rattle.basket_ranks.specs.Codes.{Coding, IsCoding, baskets_of, frequent_of_coding}
 use Rattle.basket_ranks.proofs.theory.Decoding.{decoding_keeps_frequent}
 use Rattle.mine_limit.specs.declared.fault.MineFault.{MineFault}
-use Rattle.mine_limit.specs.declared.fault.MineFault.TheVariants.{Memory, TooMany}
+use Rattle.mine_limit.specs.declared.fault.MineFault.TheVariants.{TooMany}
 use Rattle.basket_sets.specs.declared.counted.Counted.{Counted}
 use Rattle.basket_sets.specs.Frequent.{ListsOnce}
 use Rattle.mine_classes.specs.Mined.{ListsClassItems, MOST_SET_WORK, class_size}
@@ -33,10 +34,7 @@ use Rattle.mine_phases.proofs.Ranks.{sum_of_ranks}
 
 module _ {X : Type 0} where
   told_here : (most : ℕ) (fault : Option MineFault) (result : Result X MineFault) → fault_after fault result ≡ Some (TooMany most) → (fault ≡ Some (TooMany most)) ⊎ (result ≡ Err (TooMany most))
-  told_here most fault (Ok value) e = inl e
-  told_here most None (Err found) e = inr (let same : found ≡ TooMany most = cc in ap Err same)
-  told_here most (Some Memory) (Err found) e = inr (let same : found ≡ TooMany most = cc in ap Err same)
-  told_here most (Some (TooMany limit)) (Err found) e = inl e
+  told_here h1 h2 h3 h4 = grind (arith, common_steps)
 
   -- where there are too many, the share of a worker says so
   fault_from : (P : WorkerResult X → Type 0) (C : Type 0) (most : ℕ) → ((share : WorkerResult X) → P share → share.values ≡ Err (TooMany most) → C)
@@ -51,9 +49,7 @@ module _ {X : Type 0} where
 
 seen_within : (size : ℕ → ℕ) (limit : ℕ) (seats : List SeatView) → All (ToldAll size limit) seats → seen_by seats 0 ≤ limit
 seen_within size limit [] all = omega arith
-seen_within size limit (seat ∷ seats) all =
-    let first = (All-head (ToldAll size limit) seat seats all).within in
-    let rest = seen_within size limit seats (All-tail (ToldAll size limit) seat seats all) in omega (arith, first, rest)
+seen_within size limit (seat ∷ seats) all = grind (arith, common_steps, seen_within size limit seats (All-tail (ToldAll size limit) seat seats all), All-head, All-tail)
 
 seen_at_most : {X : Type 0} (shares : List (WorkerResult X)) (k : ℕ) (d : WorkerResult X) → k < length shares → slice_index (get_or shares k d).seat.held.seen 0 ≤ seen_by (map (λ share. share.seat) shares) 0
 seen_at_most [] k d below = absurd (omega arith)

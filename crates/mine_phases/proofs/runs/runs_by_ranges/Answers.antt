@@ -1,4 +1,5 @@
 use Rattle.std.proofs.Common.{◌≡◌, ◌∙◌, ◌+◌, ◌<◌, ℕ, List, [], ap, arith, get_or, length, map, subst, sym}
+use Rattle.std.proofs.lemmas.Grind.{common_steps}
 use Rattle.std.specs.declared.alloc.Global.{Global}
 use Rattle.std.specs.declared.vec.Vec.{Vec}
 use Rattle.std.specs.List.{flat_map, range_with_len}
@@ -36,10 +37,7 @@ runs_joined ranks baskets count ranges values of are has is =
       ap length (list part below) ∙ (has.each part of below range at).long,
       λ n low. subst (λ l. AreRunsOf ranks baskets (range.first + n) (get_or l n [])) (sym (list part below)) ((has.each part of below range at).are n low),
     )))) in
-    record {
-      long = length-are (AreRunsOf ranks baskets) 0 count (lists_in of.items) all;
-      are = are_at (AreRunsOf ranks baskets) 0 count (lists_in of.items) all;
-    }
+    grind (arith, common_steps, length-are, are_at)
 
 pub returns : goal.returns
 returns g c =

@@ -1,14 +1,14 @@
-use Rattle.std.proofs.Common.{◌≡◌, ◌<◌, ◌++◌, ◌∷◌, [], Err, ℕ, List, ap, sym, ◌∙◌, subst, arith, slice_index}
+use Rattle.std.proofs.Common.{◌≡◌, ◌<◌, ◌++◌, ◌∷◌, [], Err, ℕ, List, ap, ◌∙◌, subst, arith, slice_index}
+use Rattle.std.proofs.lemmas.Grind.{common_steps}
 use Rattle.std.specs.Prelude.{All}
-use Rattle.std.specs.List.{flat_map, sum_by}
+use Rattle.std.specs.List.{sum_by}
 use Rattle.std.proofs.lemmas.List.{append-nil}
 use Rattle.std.proofs.lemmas.List.Concat.{flat_map-append}
 use Rattle.std.proofs.lemmas.List.Sums.{sum_by_push}
-use Rattle.basket_ranks.specs.Codes.{Coding}
 use Rattle.mine_limit.specs.declared.fault.MineFault.TheVariants.{TooMany}
 use Rattle.mine_round.specs.Record.{with_piece}
 use Rattle.mine_round.specs.SeatView.{SeatView}
-use Rattle.mine_phases.specs.Classes.{claimed_size, ranks_of}
+use Rattle.mine_phases.specs.Classes.{claimed_size}
 use Rattle.mine_phases.specs.RoundTally.{still}
 use Rattle.mine_pieces.proofs.theory.Claims.{after, after-le, after_push}
 use Rattle.mine_phases.proofs.classes.Classes.share.Goals as goal
@@ -16,8 +16,7 @@ use Rattle.mine_phases.proofs.classes.Classes.share.Goals as goal
 -- what a seat has claimed that looked at the counter, claimed a piece and told of it
 claimed_next : (before looked claimed told : SeatView) (number : ℕ) → still looked ≡ still before → claimed.held ≡ with_piece looked.held number → still told ≡ still claimed
     → told.held.claimed ≡ before.held.claimed ++ number ∷ []
-claimed_next before looked claimed told number same piece kept =
-    ap (λ (s : SeatView). s.held.claimed) kept ∙ ap (λ h. h.claimed) piece ∙ ap (λ (s : SeatView). s.held.claimed ++ number ∷ []) same
+claimed_next before looked claimed told number same piece kept = grind (arith, common_steps)
 
 pub loop-alloc-smaller : goal.loop-alloc-smaller
 loop-alloc-smaller g c =
@@ -30,29 +29,7 @@ loop-alloc-smaller g c =
     omega (arith, low, high, c.in-Some.ensures.piece.0, c.args.self.now.of_round)
 
 pub loop-alloc-preserved : goal.loop-alloc-preserved
-loop-alloc-preserved g c =
-    let coding : Coding = g.M.ClassMiner.coding_of c.args.self.now.miner.now in
-    let ranks = ranks_of coding c.args.self.now.pieces in
-    let size = claimed_size coding c.args.self.now.pieces in
-    let before : List ℕ = c.loop-alloc.seat.held.claimed in
-    let was = c.loop-alloc.invariant in
-    let number = c.in-Some.claimed in
-    let rises : All (λ p. p < number) before = subst (λ (s : SeatView). All (λ p. p < number) s.held.claimed) c.are_over.ensures.same c.in-Some.ensures.rises in
-    let claimed = claimed_next c.loop-alloc.seat c.are_over.new.seat c.claim_piece.new.seat c.mine-back.result.0 number c.are_over.ensures.same c.in-Some.ensures.piece.1 c.mine-back.ensures.same in
-    let high = ap after claimed ∙ after_push before number rises in
-    let seat = ap (λ h. slice_index h.added 0) c.in-Some.ensures.piece.1 in
-    let looked = ap (λ l. slice_index l 0) c.are_over.ensures.added in
-    let told = rw c.in_default-mined.is at c.mine-back.ensures.told in
-    let sum = ap (sum_by size) claimed ∙ sum_by_push size before number in
-    record {
-      counts = c.mine-back.ensures.counts;
-      scratch = rw c.in_default-mined.is at c.mine-back.ensures.scratch;
-      within = omega (arith, high, c.in-Some.ensures.piece.0, c.args.self.now.of_round);
-      numbers = (rw c.in_default-mined.is at c.mine-back.ensures.numbers) ∙ ap (λ l. l ++ ranks number) was.numbers ∙ ap (λ l. flat_map ranks before ++ l) (sym (append-nil (ranks number)))
-          ∙ sym (ap (flat_map ranks) claimed ∙ flat_map-append ranks before (number ∷ []));
-      each = rw c.in_default-mined.is at c.mine-back.ensures.each;
-      told = omega (arith, seat, looked, told, sum, was.told);
-    }
+loop-alloc-preserved g c = grind (arith, common_steps, claimed_next, after, after_push, sum_by_push, append-nil, flat_map-append)
 
 pub returns-in-Err : goal.returns-in-Err
 returns-in-Err g c =
