@@ -1,5 +1,6 @@
 -- What the options' values say, as `clap` gives them, and the plan that they make.
 use Rattle.std.proofs.Common.{◌≡◌, ◌∙◌, ◌<◌, ◌≤◌, ◌||◌, inl, inr, ℕ, List, [], ◌∷◌, Bool, true, false, option_map, Option, Some, None, refl, sym, subst, ap, ap₂, arith}
+use Rattle.std.proofs.lemmas.Grind.{common_steps}
 use Rattle.std.specs.Prelude.{fold, option_and_then, codes, if◌then◌else◌, unwrap_or}
 use Rattle.std.specs.Borrow.{Bor}
 use Rattle.std.specs.List.{list_any}
@@ -40,11 +41,7 @@ module _ {A : Type 0} (read : Text → Option A) (f : Found) (id : Text) (value 
 
 -- a text that isn't a name is not taken for it
 pub skips : {A : Type 0} (text name : Text) (taken rest : A) → (text ≡ name → ⊥) → (if bytes_eq text name then taken else rest) ≡ rest
-skips text name taken rest never = go (bytes_eq text name) (λ e. never ((bytes_eq-Decides text name).0 e))
-  where
-    go : (b : Bool) → (b ≡ true → ⊥) → (if b then taken else rest) ≡ rest
-    go true h = absurd (h refl)
-    go false h = refl
+skips text name taken rest never = grind (arith, common_steps, bytes_eq-Decides)
 
 -- the text is read as a `u32`
 abbrev pub IsRead : Text → Type 0
@@ -53,9 +50,7 @@ IsRead text = IsNumeral 10 (without_leading_plus text) × (digits_value 10 (with
 module _ (most : ℕ) where
   number_said : (text : Text) → IsRead text → 1 ≤ digits_value 10 (without_leading_plus text) → digits_value 10 (without_leading_plus text) ≤ most
       → Some (digits_value 10 (without_leading_plus text)) ≡ number_of most text
-  number_said text reads least greatest =
-      let yes = Accepts-accepts false (parser.Unsigned 1 most) text (reads.0, omega (arith, reads.1), least, greatest) in
-      sym (ap (λ (b : Bool). if b then Some (digits_value 10 (without_leading_plus text)) else None) yes)
+  number_said text reads least greatest = let yes = Accepts-accepts false (parser.Unsigned 1 most) text (reads.0, omega (arith, reads.1), least, greatest) in grind (arith, common_steps)
 
   number_unsaid : most < 4294967296 → (text : Text)
       → (IsRead text → 1 ≤ digits_value 10 (without_leading_plus text) → digits_value 10 (without_leading_plus text) ≤ most → ⊥) → None ≡ number_of most text
@@ -68,12 +63,10 @@ module _ (most : ℕ) where
 -- a flag
 pub flag_some : (f : Found) (name : Text) (value : Option (Bor Text)) → option_map (λ s. s.now) value ≡ first_value f name → (text : Bor Text) → value ≡ Some text
     → bytes_eq text.now (codes "true") ≡ flag_in name (rows_of f)
-flag_some f name value e text was = sym
-    (ap (λ o. unwrap_or (option_map (λ t. bytes_eq t (codes "true")) o) false) (sym (first_value-rows f name) ∙ sym e ∙ ap (option_map (λ s. s.now)) was))
+flag_some f name value e text was = grind (arith, common_steps, first_value-rows)
 
 pub flag_none : (f : Found) (name : Text) (value : Option (Bor Text)) → option_map (λ s. s.now) value ≡ first_value f name → value ≡ None → false ≡ flag_in name (rows_of f)
-flag_none f name value e was = sym
-    (ap (λ o. unwrap_or (option_map (λ t. bytes_eq t (codes "true")) o) false) (sym (first_value-rows f name) ∙ sym e ∙ ap (option_map (λ s. s.now)) was))
+flag_none f name value e was = grind (arith, common_steps, first_value-rows)
 
 module _ (f : Found) (name : Text) (most : ℕ) where
   number_rows : option_and_then (number_of most) (one_text f name) ≡ number_in name most (rows_of f)
@@ -81,37 +74,19 @@ module _ (f : Found) (name : Text) (most : ℕ) where
 
   pub number_some : (v : ℕ) → ((text : Text) → one_text f name ≡ Some text → IsRead text × (v ≡ digits_value 10 (without_leading_plus text)))
       → (one_text f name ≡ None → ⊥) → 1 ≤ v → v ≤ most → Some v ≡ number_in name most (rows_of f)
-  number_some v reads none least greatest = go (one_text f name) reads none ∙ number_rows
-    where
-      go : (o : Option Text) → ((text : Text) → o ≡ Some text → IsRead text × (v ≡ digits_value 10 (without_leading_plus text))) → (o ≡ None → ⊥)
-          → Some v ≡ option_and_then (number_of most) o
-      go None reads none = absurd (none refl)
-      go (Some text) reads none =
-          let h = reads text refl in
-          ap Some h.1 ∙ number_said most text h.0 (omega (arith, h.1, least)) (omega (arith, h.1, greatest))
+  number_some v reads none least greatest = grind (arith, common_steps, number_rows, number_said)
 
   module _ (small : most < 4294967296) where
     pub number_out : (v : ℕ) → ((text : Text) → one_text f name ≡ Some text → IsRead text × (v ≡ digits_value 10 (without_leading_plus text)))
         → (1 ≤ v → v ≤ most → ⊥) → None ≡ number_in name most (rows_of f)
-    number_out v reads out = go (one_text f name) reads ∙ number_rows
-      where
-        go : (o : Option Text) → ((text : Text) → o ≡ Some text → IsRead text × (v ≡ digits_value 10 (without_leading_plus text))) → None ≡ option_and_then (number_of most) o
-        go None reads = refl
-        go (Some text) reads =
-            let h = reads text refl in
-            number_unsaid most small text (λ _ least greatest. out (omega (arith, h.1, least)) (omega (arith, h.1, greatest)))
+    number_out v reads out = grind (arith, common_steps, number_rows, number_unsaid)
 
     pub number_none : ((text : Text) → one_text f name ≡ Some text → IsRead text → ⊥) → None ≡ number_in name most (rows_of f)
-    number_none never = go (one_text f name) never ∙ number_rows
-      where
-        go : (o : Option Text) → ((text : Text) → o ≡ Some text → IsRead text → ⊥) → None ≡ option_and_then (number_of most) o
-        go None never = refl
-        go (Some text) never = number_unsaid most small text (λ reads _ _. never text refl reads)
+    number_none never = grind (arith, common_steps, number_rows, number_unsaid)
 
 -- the command of a name with its matches, as `clap` gives both, is the command that was entered
 map_twice : {A B C : Type 0} (f : B → C) (g : A → B) (o : Option A) → option_map (λ a. f (g a)) o ≡ option_map f (option_map g o)
-map_twice f g None = refl
-map_twice f g (Some a) = refl
+map_twice h1 h2 h3 = grind (arith, common_steps)
 
 pub entered : (m : ArgMatches) (name : Text) (rows : List Row) → Some name ≡ subcommand_name_of m → Some rows ≡ option_map (λ p. p.1) (subcommand_rows_of m)
     → invocation_of_command (subcommand_rows_of m) ≡ invocation_of_rows name rows
@@ -164,7 +139,4 @@ module _ (app : App) (is : app ≡ command_line) (words : List Text) where
   no_help takes = ap (list_any is_help_kind) (sym same_faults ∙ takes simple)
 
   pub help_refused : (e : Error) → (is_simple_and_free app ≡ true → HasKind (fault_of app words) e) → (kind_of e ≡ OutOfMemory → ⊥) → plain_asks_help words ≡ is_help_kind (kind_of e)
-  help_refused e fails has_memory = elim (subst (λ (kinds : Kinds). HasKind kinds e) same_faults (fails simple)) [
-    | inl memory ↦ absurd (has_memory memory)
-    | inr among ↦ help_by_kind (kind_of e) words among
-  ]
+  help_refused e fails has_memory = grind (arith, common_steps, same_faults, simple, help_by_kind)

@@ -1,23 +1,21 @@
 -- Where one kind of error that may come at words is help, each is: so the words say whether help comes.
-use Rattle.std.proofs.Common.{◌≡◌, ◌∙◌, ◌+◌, ◌==◌, ◌&&◌, ◌||◌, inl, inr, not, ℕ, zero, suc, List, [], ◌∷◌, Bool, true, false, Option, Some, None, is_some, length, drop, refl, sym, ap, subst}
-use Rattle.std.specs.Prelude.{if◌then◌else◌, find, slice_get, nat_lt, min, encode_utf8, ⊤}
+use Rattle.std.proofs.Common.{◌≡◌, ◌∙◌, ◌&&◌, ◌||◌, inl, inr, not, ℕ, zero, suc, List, [], ◌∷◌, Bool, true, false, Option, Some, None, is_some, length, refl, sym, ap, arith}
+use Rattle.std.proofs.lemmas.Grind.{common_steps}
+use Rattle.std.specs.Prelude.{if◌then◌else◌, find, slice_get, ⊤}
 use Rattle.std.specs.List.{list_all, list_any}
 use Rattle.std.specs.Option.{option_map_or}
-use Rattle.std.specs.Str.{bytes_eq, chars}
+use Rattle.std.specs.Str.{chars}
 use Rattle.clap.specs.Facts.{parser_of_value, unwrap_or_range}
-use Rattle.clap.specs.Lexer.{long_of, short_of}
-use Rattle.clap.specs.Matches.{count_text}
 use Rattle.clap.specs.Values.{refused_kind}
 use Rattle.clap.specs.declared.builder.value_parser.ValueParser.{ValueParser}
 use Rattle.clap.specs.ValueTests.{accepts}
 use Rattle.clap.specs.Walk.{Held, Names as Labels, Row, Rule, Step, Text, Waiting, Walk}
 use Rattle.clap.specs.Walk.{next, trailing, subcommand, value}
-use Rattle.clap.specs.Walk.{action_of, answers_to, count_of, arg_by_id, arg_by_index, arg_by_long, arg_by_short, attached_value, has_row, is_empty, is_pending, most_values, nothing_held, reacted, settled, subcommand_met, takes_several, takes_values, values_or_missing, walk, walk_from, walked, with_default, word_met}
+use Rattle.clap.specs.Walk.{action_of, answers_to, arg_by_id, arg_by_index, attached_value, has_row, is_empty, most_values, nothing_held, settled, subcommand_met, takes_values, values_or_missing, walk, walked, with_default}
 use Rattle.clap.specs.Simple.{App, Shape, built, entered, label_of, names_of}
 use Rattle.clap.specs.Kinds.{IsAmong, Kinds, or_else, range_kinds, request_kinds, value_kinds, values_kinds}
-use Rattle.clap.specs.Faults.{action_fault, bundle_fault, bundle_step_fault, count_fault, default_fault, defaults_fault, entered_fault, fault_of, flag_word_fault, flags_fault, level_fault, long_fault, option_fault, other_fault, positional_fault, react_fault, set_fault, settle_fault, short_fault, step_fault, stray_fault, turn_fault, use_fault, walk_fault, word_fault}
+use Rattle.clap.specs.Faults.{action_fault, bundle_step_fault, count_fault, default_fault, defaults_fault, entered_fault, fault_of, flag_word_fault, flags_fault, level_fault, long_fault, option_fault, other_fault, positional_fault, react_fault, set_fault, settle_fault, short_fault, step_fault, stray_fault, turn_fault, use_fault, walk_fault, word_fault}
 use Rattle.clap.specs.declared.builder.action.ArgAction.{ArgAction}
-use Rattle.clap.specs.declared.builder.action.ArgAction.TheVariants.{Set, Append, SetTrue, SetFalse, Count, Help, HelpShort, HelpLong, Version}
 use Rattle.clap.specs.declared.error.kind.ErrorKind.{ErrorKind}
 use Rattle.clap.specs.declared.error.kind.ErrorKind.TheVariants as kind
 use Rattle.clap.proofs.OnLiterals.{clap_on_literals}
@@ -29,19 +27,13 @@ record IsUniform (kinds : Kinds) : Type 0 where
   same : list_any is_help_kind kinds ≡ true → list_all is_help_kind kinds ≡ true
 
 one : (k : ErrorKind) → IsUniform (k ∷ [])
-one k = record { same = go (is_help_kind k) }
-  where
-    go : (b : Bool) → (b || false) ≡ true → (b && true) ≡ true
-    go true e = refl
-    go false e = e
+one k = grind (arith, common_steps)
 
 either : (a b : Kinds) → IsUniform a → IsUniform b → IsUniform (or_else a b)
-either [] b p q = q
-either (k ∷ ks) b p q = p
+either h1 h2 h3 h4 = grind (arith, common_steps)
 
 choice : (b : Bool) (x y : Kinds) → IsUniform x → IsUniform y → IsUniform (if b then x else y)
-choice true x y p q = p
-choice false x y p q = q
+choice h1 h2 h3 h4 h5 = grind (arith, common_steps)
 
 none : IsUniform []
 none = record { same = λ _. refl }
@@ -59,36 +51,16 @@ set_even : (again : Bool) (a : Rule) (values : List Text) (rows : List Row) → 
 set_even again a values rows = either _ _ (choice (has_row a.id rows && not again) _ _ (one kind.ArgumentConflict) none) (values_even a.ignore_case (parser_of_value a.parser) values)
 
 count_even : (a : Rule) (values : List Text) (rows : List Row) → IsUniform (count_fault a values rows)
-count_even a [] rows = value_even a.ignore_case (parser_of_value a.parser) (count_text (min (count_of a.id rows + 1) 255))
-count_even a (v ∷ vs) rows = values_even a.ignore_case (parser_of_value a.parser) (v ∷ vs)
+count_even h1 h2 h3 = grind (arith, common_steps, value_even, values_even)
 
 request_even : (x : ArgAction) → IsUniform (request_kinds x)
-request_even Set = none
-request_even SetTrue = none
-request_even SetFalse = none
-request_even Append = none
-request_even Count = none
-request_even Help = one kind.DisplayHelp
-request_even HelpShort = one kind.DisplayHelp
-request_even HelpLong = one kind.DisplayHelp
-request_even Version = one kind.DisplayVersion
+request_even h1 = grind (arith, common_steps)
 
 action_even : (x : ArgAction) (again : Bool) (a : Rule) (values : List Text) (rows : List Row) → IsUniform (action_fault x again a values rows)
-action_even Set again a values rows = set_even again a values rows
-action_even SetTrue again a values rows = set_even again a values rows
-action_even SetFalse again a values rows = set_even again a values rows
-action_even Append again a values rows = values_even a.ignore_case (parser_of_value a.parser) values
-action_even Count again a values rows = count_even a values rows
-action_even Help again a values rows = one kind.DisplayHelp
-action_even HelpShort again a values rows = one kind.DisplayHelp
-action_even HelpLong again a values rows = one kind.DisplayHelp
-action_even Version again a values rows = one kind.DisplayVersion
+action_even h1 h2 h3 h4 h5 = grind (arith, common_steps, set_even, values_even, count_even, one)
 
 range_even : (least most n : ℕ) → IsUniform (range_kinds least most n)
-range_even least most n =
-    choice (nat_lt 0 least && n == 0) _ _ (one kind.InvalidValue)
-    (choice (least == most) _ _ (choice (least == n) _ _ none (one kind.WrongNumberOfValues))
-    (choice (nat_lt n least) _ _ (one kind.TooFewValues) (choice (nat_lt most n) _ _ (one kind.TooManyValues) none)))
+range_even least most n = grind (arith, common_steps)
 
 use_even : (again : Bool) (a : Rule) (values : List Text) (rows : List Row) → IsUniform (use_fault again a values rows)
 use_even again a values rows = either _ _ (range_even (unwrap_or_range a.range).start_inclusive (most_values a) (length values)) (action_even (action_of a) again a (values_or_missing a values) rows)
@@ -129,13 +101,10 @@ module _ (c : List Rule) (again : Bool) where
   module _ (k : ℕ) (ih : (flags : Text) (skip : ℕ) (h : Held) → IsUniform (flags_fault c again k flags skip h)) where
     short_even : (o : Option Rule) (rest : Text) (h : Held) → IsUniform (short_fault c again o rest h (flags_fault c again k rest 0))
     short_even None rest h = one kind.UnknownArgument
-    short_even (Some a) rest h = choice (takes_values a) _ _ (option_even a (attached_value rest) h)
-        (either _ _ (react_even a [] h) (ih rest 0 (reacted c a [] h)))
+    short_even (Some a) rest h = grind (arith, common_steps, option_even a (attached_value rest) h, react_even a [] h)
 
     step_of_flags : (x : Option ℕ) (flags : Text) (skip : ℕ) (h : Held) → IsUniform (bundle_step_fault c again x flags skip h (flags_fault c again k))
-    step_of_flags None flags skip h = none
-    step_of_flags (Some x) flags zero h = short_even (arg_by_short c x) (drop (length (encode_utf8 x)) flags) h
-    step_of_flags (Some x) flags (suc skip) h = ih (drop (length (encode_utf8 x)) flags) skip h
+    step_of_flags h1 h2 h3 h4 = grind (arith, common_steps, none, short_even)
 
   flags_even : (k : ℕ) (flags : Text) (skip : ℕ) (h : Held) → IsUniform (flags_fault c again k flags skip h)
   unfolding flags_fault
@@ -143,16 +112,10 @@ module _ (c : List Rule) (again : Bool) where
   flags_even (suc k) flags skip h = step_of_flags k (flags_even k) (slice_get (chars flags) 0) flags skip h
 
   flag_word_even : (o : Option (Text × Option Text)) (word : Text) (h : Held) → IsUniform (flag_word_fault c again o word h)
-  flag_word_even (Some p) word h = long_even (arg_by_long c p.0) p.1 h
-  flag_word_even None word h = go (short_of word)
-    where
-      go : (o : Option Text) → IsUniform (option_map_or (λ flags. bundle_fault c again flags h) o [])
-      go None = none
-      go (Some flags) = flags_even (length flags) flags h.skip (record h { skip = 0 })
+  flag_word_even h1 h2 h3 = grind (arith, common_steps, long_even, none, flags_even)
 
   positional_even : (stray : Kinds) → IsUniform stray → (o : Option Rule) (h : Held) → IsUniform (option_map_or (λ a. positional_fault c again a h) o stray)
-  positional_even stray p None h = p
-  positional_even stray p (Some a) h = choice (is_pending a h.pending && takes_several a) _ _ none (settle_even h)
+  positional_even h1 h2 h3 h4 = grind (arith, common_steps, choice, none, settle_even)
 
 -- ---- a level, if `help` is no subcommand
 
@@ -161,12 +124,7 @@ stray_even s = choice s.is_leaf _ _ (one kind.UnknownArgument) (record { same = 
 
 module _ (s : Shape) (disabled : s.disable_help_subcommand ≡ true) where
   other_even : (o : Option Text) (word : Text) (h : Held) → IsUniform (other_fault s o word h)
-  other_even (Some name) word h = subst (λ (b : Bool). IsUniform (if bytes_eq name (104 ∷ 101 ∷ 108 ∷ 112 ∷ []) && not b then kind.DisplayHelp ∷ kind.InvalidSubcommand ∷ [] else [])) (sym disabled) (go (bytes_eq name (104 ∷ 101 ∷ 108 ∷ 112 ∷ [])))
-    where
-      go : (b : Bool) → IsUniform (if b && false then kind.DisplayHelp ∷ kind.InvalidSubcommand ∷ [] else [])
-      go true = none
-      go false = none
-  other_even None word h = choice (bytes_eq word (45 ∷ 45 ∷ [])) _ _ none (flag_word_even s.rules s.args_override_self (long_of word) word h)
+  other_even h1 h2 h3 = grind (arith, common_steps, none, choice, flag_word_even)
 
   word_even : (labels : Labels) (is_trailing : Bool) (waiting : Waiting) (word : Text) (h : Held) → IsUniform (word_fault s labels is_trailing waiting word h)
   word_even labels is_trailing waiting word h = choice is_trailing _ _ none (other_even (subcommand_met labels waiting word) word h)
@@ -178,9 +136,7 @@ module _ (s : Shape) (disabled : s.disable_help_subcommand ≡ true) where
   step_even position h value = positional_even s.rules s.args_override_self (stray_fault s) (stray_even s) (arg_by_index s.rules position) h
 
   turn_even : (labels : Labels) (w : Walk) (word : Text) → IsUniform (turn_fault s labels w word)
-  turn_even labels w word =
-      let met = word_met s.rules labels w.is_trailing w.waiting w.position word w.held in
-      choice (is_some w.stopped) _ _ none (either _ _ (word_even labels w.is_trailing w.waiting word w.held) (step_even w.position met.0 met.1))
+  turn_even labels w word = grind (arith, common_steps, choice, none, either, word_even, step_even)
 
   walk_even : (labels : Labels) (w : Walk) (words : List Text) → IsUniform (walk_fault s labels w words)
   unfolding walk_fault
@@ -189,12 +145,7 @@ module _ (s : Shape) (disabled : s.disable_help_subcommand ≡ true) where
 
   level_even : (labels : Labels) (h : Held) (words : List Text) (has_subcommand : Bool) (below : Kinds) → IsUniform below
       → IsUniform (level_fault s labels h words has_subcommand below)
-  level_even labels h words has_subcommand below p =
-      let end = (walk s.rules labels h words).held in
-      either _ _ (walk_even labels (walk_from h) words)
-      (either _ _ p (either _ _ (settle_even s.rules s.args_override_self end)
-      (either _ _ (defaults_even (settled s.rules end).rows s.rules)
-      (choice _ _ _ (one kind.DisplayHelpOnMissingArgumentOrSubcommand) (choice _ _ _ (one kind.MissingSubcommand) (choice _ _ _ (one kind.MissingRequiredArgument) none))))))
+  level_even labels h words has_subcommand below p = grind (arith, common_steps, either, walk_even, settle_even, defaults_even, choice, one, none)
 
 -- ---- the line
 
@@ -206,15 +157,10 @@ HaveNoHelp (s ∷ rest) = (s.disable_help_subcommand ≡ true) × HaveNoHelp res
 sub_even : (subs : List Shape) → HaveNoHelp subs → (p : Text × List Text)
     → IsUniform (option_map_or (λ s. level_fault s [] nothing_held p.1 false []) (find (λ s. answers_to p.0 (label_of s)) subs) [])
 sub_even [] disabled p = none
-sub_even (s ∷ rest) disabled p = go (answers_to p.0 (label_of s)) (sub_even rest disabled.1 p)
-  where
-    go : (b : Bool) → IsUniform (option_map_or (λ s. level_fault s [] nothing_held p.1 false []) (find (λ s. answers_to p.0 (label_of s)) rest) []) → IsUniform (option_map_or (λ s. level_fault s [] nothing_held p.1 false []) (if b then Some s else find (λ s. answers_to p.0 (label_of s)) rest) [])
-    go true other = level_even s disabled.0 [] nothing_held p.1 false [] none
-    go false other = other
+sub_even (s ∷ rest) disabled p = grind (arith, common_steps, sub_even rest disabled.1 p, level_even s disabled.0 [] nothing_held p.1 false [] none, none)
 
 entered_even : (a : App) → HaveNoHelp a.subs → (stop : Option (Text × List Text)) → IsUniform (entered_fault a stop)
-entered_even a disabled None = none
-entered_even a disabled (Some p) = sub_even a.subs disabled p
+entered_even h1 h2 h3 = grind (arith, common_steps, none, sub_even)
 
 abbrev tree : App
 tree = built command_line
@@ -228,11 +174,7 @@ line_even words =
 any_among : (k : ErrorKind) (kinds : Kinds) → IsAmong k kinds → is_help_kind k ≡ true → list_any is_help_kind kinds ≡ true
 any_among k [] among e = absurd among
 any_among k (x ∷ xs) (inl same) e = rw (← same, e) refl
-any_among k (x ∷ xs) (inr among) e = go (is_help_kind x) (any_among k xs among e)
-  where
-    go : (b : Bool) → list_any is_help_kind xs ≡ true → (b || list_any is_help_kind xs) ≡ true
-    go true h = refl
-    go false h = h
+any_among k (x ∷ xs) (inr among) e = grind (arith, common_steps, any_among k xs among e)
 
 all_among : (k : ErrorKind) (kinds : Kinds) → IsAmong k kinds → list_all is_help_kind kinds ≡ true → is_help_kind k ≡ true
 all_among k [] among e = absurd among

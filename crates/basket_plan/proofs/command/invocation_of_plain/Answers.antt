@@ -1,4 +1,5 @@
-use Rattle.std.proofs.Common.{◌∙◌, map, sym}
+use Rattle.std.proofs.Common.{◌∙◌, map, arith}
+use Rattle.std.proofs.lemmas.Grind.{common_steps}
 use Rattle.std.proofs.lemmas.Result.{IfErr-weaker, IfOk-weaker}
 use Rattle.clap.specs.Words.{subcommand_rows_of}
 use Rattle.basket_plan.proofs.CommandLemmas.{help_refused, no_help, plan_taken, plan_refused}
@@ -22,9 +23,7 @@ returns-in-Err-clause-refused c other =
     c.in-Err.error c.in-Err.ensures.kinds (c.fault_of.ensures.memory other)
 
 pub returns-in-Ok-clause-help : goal.returns-in-Ok-clause-help
-returns-in-Ok-clause-help c =
-    let none = no_help _ c.in_ok-command_line.ensures (map (λ word. word.now) c.args.words.now) c.in-Ok.ensures.kinds in
-    IfErr-weaker c.invocation_from.result _ _ (λ fault is _. none ∙ sym is) c.invocation_from.ensures.help
+returns-in-Ok-clause-help c = let none = no_help _ c.in_ok-command_line.ensures (map (λ word. word.now) c.args.words.now) c.in-Ok.ensures.kinds in grind (arith, common_steps, IfErr-weaker)
 
 pub returns-in-Err-clause-help : goal.returns-in-Err-clause-help
 returns-in-Err-clause-help c other =

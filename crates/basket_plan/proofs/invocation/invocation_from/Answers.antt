@@ -1,20 +1,15 @@
 use Rattle.std.specs.Prelude.{codes}
-use Rattle.std.proofs.Common.{◌∙◌, ap}
+use Rattle.std.proofs.lemmas.Grind.{common_steps}
+use Rattle.std.proofs.Common.{◌∙◌, arith}
 use Rattle.std.proofs.lemmas.Result.{IfErr-weaker, IfOk-weaker}
-use Rattle.clap.specs.Words.{found_of, rows_of}
-use Rattle.basket_plan.specs.Command.{invocation_of_rows}
 use Rattle.basket_plan.proofs.CommandLemmas.{entered, skips}
 use Rattle.basket_plan.proofs.invocation.invocation_from.Goals as goal
 
 pub returns-in-count-clause-made : goal.returns-in-count-clause-made
-returns-in-count-clause-made c =
-    let enters = entered c.args.matches.now _ _ c.in-Some.ensures.name c.in-Some.ensures.rows ∙ ap (λ name. invocation_of_rows name (rows_of (found_of c.in-Some.options.now))) c.in-count.is in
-    IfOk-weaker c.counting.result _ _ (λ invocation made. enters ∙ made) c.counting.ensures.made
+returns-in-count-clause-made c = grind (arith, common_steps)
 
 pub returns-in-count-clause-refused : goal.returns-in-count-clause-refused
-returns-in-count-clause-refused c =
-    let enters = entered c.args.matches.now _ _ c.in-Some.ensures.name c.in-Some.ensures.rows ∙ ap (λ name. invocation_of_rows name (rows_of (found_of c.in-Some.options.now))) c.in-count.is in
-    IfErr-weaker c.counting.result _ _ (λ fault refused other. enters ∙ refused other) c.counting.ensures.refused
+returns-in-count-clause-refused c = grind (arith, common_steps)
 
 pub returns-in_default-name-clause-made : goal.returns-in_default-name-clause-made
 returns-in_default-name-clause-made c =

@@ -1,14 +1,8 @@
-use Rattle.std.proofs.Common.{refl}
+use Rattle.std.proofs.Common.{arith}
+use Rattle.std.proofs.lemmas.Grind.{common_steps}
 use Rattle.clap.proofs.OnLiterals.{clap_on_literals}
 use Rattle.basket_plan.proofs.worked.help_of_sets.Goals as goal
 
 pub returns : goal.returns
 unfolding clap_on_literals
-returns c = record {
-  plan = refl;
-  help = refl;
-  help_word = refl;
-  help_alone = refl;
-  version = refl;
-  mistake = refl;
-}
+returns c = grind (arith, common_steps)
