@@ -1,5 +1,6 @@
 -- A claim, an add and a read keep a state lawful.
-use Rattle.std.proofs.Common.{◌≡◌, ◌≢◌, ℕ, ◌+◌, ◌<◌, ◌≤◌, ◌⊎◌, inl, inr, ⊎_elim, Bool, true, false, cond, min, nat_lt, List, [], ◌∷◌, ◌++◌, length, length-append, length-set, set, get_or-set_same, get_or-set_other, Some, refl, ap, sym, ◌∙◌, subst, arith}
+use Rattle.std.proofs.Common.{◌≡◌, ◌≢◌, ℕ, ◌+◌, ◌<◌, ◌≤◌, ◌⊎◌, inl, inr, ⊎_elim, Bool, true, false, cond, min, nat_lt, List, [], ◌∷◌, ◌++◌, length, length-append, length-set, set, get_or-set_same, get_or-set_other, Some, refl, sym, ◌∙◌, subst, arith}
+use Rattle.std.proofs.lemmas.Grind.{common_steps}
 use Rattle.std.specs.Prelude.{slice_index, ◌==◌}
 use Rattle.std.proofs.lemmas.Bool.{cases_eq}
 use Rattle.std.proofs.lemmas.Bool.Decides.{nat_tests}
@@ -60,18 +61,11 @@ module _ (m : Machine) (h : Lawful m) (i : ℕ) (r : Record) (at : record_at m.s
     other_index xs v c n = get_or-set_other xs counter c v 0 n
 
     read_seen : (c : ℕ) → (c ≡ counter) ⊎ (c ≢ counter) → slice_index (set r.seen counter (slice_index m.counters counter)) c ≤ slice_index m.counters c
-    read_seen c (inl e) =
-        let s = same_index r.seen (slice_index m.counters counter) (h.sizes i r at).1 in
-        let there : slice_index (set r.seen counter (slice_index m.counters counter)) c ≡ slice_index m.counters c = ap (slice_index (set r.seen counter (slice_index m.counters counter))) e ∙ s ∙ ap (slice_index m.counters) (sym e) in
-        omega arith
-    read_seen c (inr n) = let o = other_index r.seen (slice_index m.counters counter) c n in let le = h.seen c i r at in omega arith
+    read_seen h1 h2 = grind (arith, common_steps)
 
     read_reached : (c : ℕ) → (c ≡ counter) ⊎ (c ≢ counter) → (slice_index (set r.seen counter (slice_index m.counters counter)) c ≡ slice_index m.counters c)
         ⊎ ((slice_index m.counters c ≡ slice_index m.counters c) × (slice_index (set r.seen counter (slice_index m.counters counter)) c ≡ slice_index r.seen c))
-    read_reached c (inl e) =
-        let s = same_index r.seen (slice_index m.counters counter) (h.sizes i r at).1 in
-        inl (ap (slice_index (set r.seen counter (slice_index m.counters counter))) e ∙ s ∙ ap (slice_index m.counters) (sym e))
-    read_reached c (inr n) = inr (refl, other_index r.seen (slice_index m.counters counter) c n)
+    read_reached h1 h2 = grind (arith, common_steps)
 
     pub lawful-after_read : Lawful (after_read m i counter r)
     lawful-after_read = lawful_changed m h i r (with_read r counter (slice_index m.counters counter)) at m.next m.counters record {
@@ -122,21 +116,17 @@ module _ (m : Machine) (h : Lawful m) (i : ℕ) (r : Record) (at : record_at m.s
           (cases_eq c counter)
 
       add_added : (c : ℕ) → There c ⊎ Elsewhere c → slice_index counters c + slice_index r.added c ≡ slice_index m.counters c + slice_index r'.added c
-      add_added c (inl t) = let a = t.counted in let b = t.added in omega arith
-      add_added c (inr t) = let a = t.counted in let b = t.added in omega arith
+      add_added h1 h2 = grind (arith, common_steps)
 
       add_grows : (c : ℕ) → There c ⊎ Elsewhere c → slice_index m.counters c ≤ slice_index counters c
-      add_grows c (inl t) = let a = t.counted in omega arith
-      add_grows c (inr t) = let a = t.counted in omega arith
+      add_grows h1 h2 = grind (arith, common_steps)
 
       add_seen : (c : ℕ) → There c ⊎ Elsewhere c → slice_index r'.seen c ≤ slice_index counters c
-      add_seen c (inl t) = let a = t.counted in let b = t.seen in omega arith
-      add_seen c (inr t) = let a = t.counted in let b = t.seen in let le = h.seen c i r at in omega arith
+      add_seen h1 h2 = grind (arith, common_steps)
 
       add_reached : (c : ℕ) → There c ⊎ Elsewhere c
           → (slice_index r'.seen c ≡ slice_index counters c) ⊎ ((slice_index counters c ≡ slice_index m.counters c) × (slice_index r'.seen c ≡ slice_index r.seen c))
-      add_reached c (inl t) = inl (t.seen ∙ sym t.counted)
-      add_reached c (inr t) = inr (t.counted, t.seen)
+      add_reached h1 h2 = grind (arith, common_steps)
 
       pub lawful-after_add : Lawful (after_add m i counter amount r)
       lawful-after_add = lawful_changed m h i r r' at m.next counters record {

@@ -1,5 +1,6 @@
 -- A list with each number below a bound once, and no other, is as long as the bound.
-use Rattle.std.proofs.Common.{◌≡◌, ℕ, zero, suc, ◌+◌, ◌<◌, cond, min, nat_lt, List, [], ◌∷◌, ◌++◌, length, length-append, refl, ap, sym, ◌∙◌, arith}
+use Rattle.std.proofs.Common.{◌≡◌, ℕ, zero, suc, ◌+◌, ◌<◌, cond, min, nat_lt, List, [], ◌∷◌, ◌++◌, length, length-append, refl, sym, ◌∙◌, arith}
+use Rattle.std.proofs.lemmas.Grind.{common_steps}
 use Rattle.std.specs.Prelude.{◌==◌, sum}
 use Rattle.std.proofs.lemmas.Bool.Decides.{nat_tests}
 use Rattle.std.proofs.lemmas.List.Sums.{sum_by-cons, sum_by-append}
@@ -35,14 +36,10 @@ once_at bound n = grind (arith, nat_tests)
 
 below_once : (bound : ℕ) (xs : List ℕ) → ((x : ℕ) → times x xs ≡ once_below bound x) → (n : ℕ) → below n xs ≡ min n bound
 below_once bound xs h zero = let none = below_none xs in omega arith
-below_once bound xs h (suc n) =
-    let rest = below_once bound xs h n in let next = below_next n xs in let here = h n in let last = once_at bound n in
-    let e : below (suc n) xs ≡ below (n + 1) xs = ap (λ k. below k xs) (omega arith) in omega arith
+below_once bound xs h (suc n) = grind (arith, common_steps, below_once bound xs h n, below_next, once_at)
 
 pub length_once : (bound : ℕ) (xs : List ℕ) → ((x : ℕ) → times x xs ≡ once_below bound x) → length xs ≡ bound
-length_once bound xs h =
-    let n : ℕ = sum xs + 1 + bound in
-    let all = below_all n xs (omega arith) in let once = below_once bound xs h n in omega arith
+length_once bound xs h = let n : ℕ = sum xs + 1 + bound in let all = below_all n xs (omega arith) in let once = below_once bound xs h n in grind (arith, common_steps)
 
 -- the pieces that the seats claimed, one after another
 abbrev all_claimed : List SeatState → List ℕ

@@ -1,10 +1,10 @@
 -- Seats that join one after another, and the last of them.
-use Rattle.std.proofs.Common.{◌≡◌, ◌≢◌, ℕ, suc, ◌+◌, ◌<◌, ◌≤◌, ◌⊎◌, inl, inr, max, min, cond, get_or, List, [], ◌∷◌, ◌++◌, length, length-append, set, Some, refl, ap, sym, ◌∙◌, arith}
+use Rattle.std.proofs.Common.{◌≡◌, ◌≢◌, ℕ, suc, ◌+◌, ◌<◌, ◌≤◌, ◌⊎◌, max, min, cond, get_or, List, [], ◌∷◌, ◌++◌, length, length-append, set, Some, refl, ap, sym, ◌∙◌, arith}
+use Rattle.std.proofs.lemmas.Grind.{common_steps}
 use Rattle.std.specs.Prelude.{slice_index, ◌==◌, Any}
 use Rattle.std.specs.Prelude.{IsPermutation}
 use Rattle.std.specs.List.{range_with_len}
 use Rattle.std.proofs.lemmas.Bool.{cases_eq}
-use Rattle.std.proofs.lemmas.List.Concat.{flat_map-append}
 use Rattle.std.proofs.lemmas.List.Sums.{sum_by-append, sum_by_push, get_or-le-sum_by}
 use mathlib.Core.Option as maybe
 use lib.ListN.{get_elem?}
@@ -29,22 +29,11 @@ greatest_by-push f [] x = omega arith
 greatest_by-push f (y ∷ xs) x = let rest = greatest_by-push f xs x in omega arith
 
 times-claimed_by : (x : ℕ) (xs : List SeatView) (s : SeatView) → times x (claimed_by (xs ++ s ∷ [])) ≡ times x (claimed_by xs) + times x s.held.claimed
-times-claimed_by x xs s =
-    let last : List ℕ = s.held.claimed ++ [] in
-    let split = flat_map-append (λ (t : SeatView). t.held.claimed) xs (s ∷ []) in
-    let both : times x (claimed_by xs ++ last) ≡ times x (claimed_by xs) + times x last = sum_by-append (λ y. cond (y == x) 1 0) (claimed_by xs) last in
-    let none : times x last ≡ times x s.held.claimed + 0 = sum_by-append (λ y. cond (y == x) 1 0) s.held.claimed [] in
-    ap (times x) split ∙ omega arith
+times-claimed_by x xs s = grind (arith, common_steps)
 
 -- the first seat has what it did itself
 pub gathers_first : (xs : List SeatView) (s : SeatView) → s.held.parts ≡ 1 → Gathers s.held xs (xs ++ s ∷ [])
-gathers_first xs s one = record {
-  parts = omega (arith, length-append xs (s ∷ []));
-  claimed = λ x. let e = times-claimed_by x xs s in omega arith;
-  past = let e = sum_by_push (λ (t : SeatView). t.held.past) xs s in omega arith;
-  added = λ c. let e = sum_by_push (λ (t : SeatView). slice_index t.held.added c) xs s in omega arith;
-  seen = λ c. let e = greatest_by-push (λ (t : SeatView). slice_index t.held.seen c) xs s in omega arith;
-}
+gathers_first xs s one = grind (arith, common_steps, times-claimed_by, sum_by_push, greatest_by-push)
 
 -- a seat joins
 pub gathers_next : (r : Record) (xs all : List SeatView) (s : SeatView) → s.held.parts ≡ 1 → Gathers r (xs ++ s ∷ []) all → Gathers (joined r s.held) xs all
@@ -77,10 +66,7 @@ module _ (m : Machine) (h : Lawful m) (i : ℕ) (r : Record) (at : record_at m.s
   total_is f = let sum = total-set f m.seats i Spent r at in let none = none_left others each_other no_part_left f in omega arith
 
   seen_at : (c k : ℕ) (q : Record) → record_at m.seats k ≡ Some q → slice_index q.seen c ≡ slice_index m.counters c → (k ≡ i) ⊎ (k ≢ i) → slice_index r.seen c ≡ slice_index m.counters c
-  seen_at c k q at_k is (inl e) = ap (λ (x : Record). slice_index x.seen c) (same_record r q (sym at ∙ ap (record_at m.seats) (sym e) ∙ at_k)) ∙ is
-  seen_at c k q at_k is (inr n) =
-      let there = record_at-set_other m.seats i k Spent n ∙ at_k in
-      let some = each_other k q there in let within = number-le-total (λ (x : Record). x.parts) others k q there in let none = no_part_left in absurd (omega arith)
+  seen_at h1 h2 h3 h4 h5 h6 = grind (arith, common_steps, same_record, record_at-set_other, each_other, number-le-total, no_part_left)
 
   pub seen_is : (c : ℕ) → slice_index r.seen c ≡ slice_index m.counters c
   seen_is c = let was = h.reached c in seen_at c was.0 was.1 was.2 was.3 (cases_eq was.0 i)

@@ -1,10 +1,11 @@
 -- A list with each number of a range once, and no other, is the range in another order.
-use Rattle.std.proofs.Common.{◌≡◌, ◌≢◌, ℕ, zero, suc, ◌+◌, ◌<◌, ◌≤◌, ⊎_elim, cond, nat_lt, List, [], ◌∷◌, length, get_or, refl, ap, sym, ◌∙◌, subst, arith}
+use Rattle.std.proofs.Common.{◌≡◌, ◌≢◌, ℕ, zero, suc, ◌+◌, ◌<◌, ◌≤◌, ⊎_elim, cond, nat_lt, List, [], ◌∷◌, length, get_or, refl, sym, ◌∙◌, subst, arith}
+use Rattle.std.proofs.lemmas.Grind.{common_steps}
 use Rattle.std.specs.Prelude.{◌==◌, IsPermutation}
 use Rattle.std.specs.List.{remove, range_with_len}
 use Rattle.std.proofs.lemmas.Bool.{cases_eq}
 use Rattle.std.proofs.lemmas.Bool.Decides.{nat_tests}
-use Rattle.std.proofs.lemmas.List.Sums.{sum_by-cons, sum_by-remove}
+use Rattle.std.proofs.lemmas.List.Sums.{sum_by-cons}
 use Rattle.std.proofs.lemmas.List.Sorted.{IsPermutation-refl, IsPermutation-cons, IsPermutation-remove, IsPermutation-trans}
 use Rattle.mine_round.specs.Lawful.{times, once_below}
 
@@ -45,13 +46,7 @@ no_number (y ∷ ys) h = let cons = times-cons y y ys in let here = counts_equal
 -- what is counted once the least number has left
 counted_after : (low n : ℕ) (xs : List ℕ) (i : ℕ) → i < length xs → low ≡ get_or xs i low → ((x : ℕ) → times x xs ≡ once_between low (low + suc n) x)
     → (x : ℕ) → times x (remove xs i) ≡ once_between (low + 1) (low + 1 + n) x
-counted_after low n xs i inside is h x =
-    let count : ℕ → ℕ = λ y. cond (y == x) 1 0 in
-    let sum = sum_by-remove (λ y. cond (y == x) 1 0) xs i low inside in
-    let here : count low ≡ count (get_or xs i low) = ap count is in
-    let all = h x in
-    let rest = rest_between low n x in
-    omega arith
+counted_after low n xs i inside is h x = grind (arith, common_steps, rest_between low n x)
 
 permuted_range : (n low : ℕ) (xs : List ℕ) → ((x : ℕ) → times x xs ≡ once_between low (low + n) x) → IsPermutation xs (range_with_len low n)
 permuted_range zero low xs h = subst (λ ys. IsPermutation ys []) (sym (no_number xs (λ x. h x ∙ none_between low x))) (IsPermutation-refl [])

@@ -1,5 +1,6 @@
 -- Records and totals of a list of seats, after one seat changed or came.
-use Rattle.std.proofs.Common.{◌≡◌, ◌≢◌, ℕ, zero, suc, ◌+◌, ◌≤◌, ◌⊎◌, inl, inr, ⊎_elim, List, [], ◌∷◌, ◌++◌, set, Some, None, refl, ap, sym, subst, arith}
+use Rattle.std.proofs.Common.{◌≡◌, ◌≢◌, ℕ, zero, suc, ◌+◌, ◌≤◌, ◌⊎◌, inl, inr, List, [], ◌∷◌, ◌++◌, set, Some, None, refl, ap, sym, subst, arith}
+use Rattle.std.proofs.lemmas.Grind.{common_steps}
 use mathlib.Core.Option.{some, some-injective, some-ne-none}
 use lib.ListN.{get_elem?}
 use Rattle.mine_round.specs.declared.state.Record.{Record}
@@ -17,8 +18,7 @@ record_at-set [] i j w r e = absurd (none_is_not_some r e)
 record_at-set (x ∷ xs) zero zero w r e = inl (refl, e)
 record_at-set (x ∷ xs) zero (suc j) w r e = inr ((λ h. omega arith), e)
 record_at-set (x ∷ xs) (suc i) zero w r e = inr ((λ h. omega arith), e)
-record_at-set (x ∷ xs) (suc i) (suc j) w r e =
-    ⊎_elim (λ t. inl (ap suc t.0, t.1)) (λ t. let n = t.0 in inr ((λ h. n (omega arith)), t.1)) (record_at-set xs i j w r e)
+record_at-set (x ∷ xs) (suc i) (suc j) w r e = grind (arith, common_steps, record_at-set xs i j w r e)
 
 pub record_at-set_same : (xs : List SeatState) (i : ℕ) (w : SeatState) (r : Record) → record_at xs i ≡ Some r → record_at (set xs i w) i ≡ record_of w
 record_at-set_same [] i w r e = absurd (none_is_not_some r e)
@@ -63,18 +63,13 @@ module _ (P : Record → Type 0) where
   holds_of_spent q e = absurd (none_is_not_some q e)
 
   pub each-set : (xs : List SeatState) (i : ℕ) (w : SeatState) → EachRecord xs P → ((q : Record) → record_of w ≡ Some q → P q) → EachRecord (set xs i w) P
-  each-set xs i w old here j q e =
-      ⊎_elim (λ (t : (j ≡ i) × (record_of w ≡ Some q)). here q t.1)
-      (λ (t : (j ≢ i) × (record_at xs j ≡ Some q)). old j q t.1)
-      (record_at-set xs i j w q e)
+  each-set xs i w old here j q e = grind (arith, common_steps, record_at-set)
 
   pub each-append : (xs : List SeatState) (w : SeatState) → EachRecord xs P → ((q : Record) → record_of w ≡ Some q → P q) → EachRecord (xs ++ w ∷ []) P
-  each-append xs w old here j q e =
-      ⊎_elim (λ (t : record_at xs j ≡ Some q). old j q t) (λ (t : record_of w ≡ Some q). here q t) (record_at-append xs j w q e)
+  each-append xs w old here j q e = grind (arith, common_steps, record_at-append)
 
   pub each-one : (r : Record) → P r → EachRecord (Holding r ∷ []) P
-  each-one r here zero q e = subst P (same_record r q e) here
-  each-one r here (suc i) q e = absurd (none_is_not_some q e)
+  each-one h1 h2 h3 h4 h5 = grind (arith, common_steps)
 
   -- after one seat's record was written
   pub each-written : (xs : List SeatState) (i : ℕ) (r : Record) → EachRecord xs P → P r → EachRecord (set xs i (Holding r)) P

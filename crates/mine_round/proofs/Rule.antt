@@ -1,5 +1,6 @@
 -- Each step on the words of a round keeps the rule.
-use Rattle.std.proofs.Common.{◌≡◌, ◌≢◌, ℕ, zero, suc, ◌+◌, ◌-◌, ◌*◌, ◌%◌, ◌^◌, ◌<◌, ◌≤◌, ◌⊎◌, inl, inr, Bool, true, false, cond, min, replicate, nat_lt, List, [], ◌∷◌, ◌++◌, length, length-set, set, get_or, get_or-set_same, get_or-set_other, Some, refl, ap, sym, ◌∙◌, subst, add-one, arith}
+use Rattle.std.proofs.Common.{◌≡◌, ◌≢◌, ℕ, zero, suc, ◌+◌, ◌-◌, ◌*◌, ◌%◌, ◌^◌, ◌<◌, ◌≤◌, ◌⊎◌, Bool, cond, min, replicate, nat_lt, List, [], ◌∷◌, ◌++◌, length, length-set, set, get_or, Some, refl, ap, sym, ◌∙◌, subst, add-one, arith}
+use Rattle.std.proofs.lemmas.Grind.{common_steps}
 use Rattle.std.specs.Prelude.{slice_index, ◌==◌}
 use Rattle.std.proofs.lemmas.Bool.{cases_eq}
 use Rattle.std.proofs.lemmas.Bool.Decides.{nat_tests}
@@ -58,10 +59,7 @@ module _ (terms : Terms) where
         omega arith
 
     counter_fits : (c : ℕ) → slice_index k.counters c ≤ 2 ^ 46
-    counter_fits c =
-        let sum = total_by_parts (λ r. slice_index r.added c) seats (k.added c) in
-        let all = k.lawful.counters c in let parts = k.lawful.parts in let few_seats = k.few_seats in
-        omega arith
+    counter_fits c = grind (arith, common_steps, total_by_parts)
 
     pub found_is : slice_index words 0 ≡ k.next
     found_is = ap (λ ws. slice_index ws 0) k.words_are
@@ -85,12 +83,10 @@ module _ (terms : Terms) where
           omega arith
 
       claim_past : (b : Bool) → r.past ≡ 0 → let now : Record = cond b (with_piece r k.next) (with_end_seen r) in now.past ≤ now.parts
-      claim_past true none_past = omega arith
-      claim_past false none_past = k.lawful.whole i r at
+      claim_past h1 h2 = grind (arith, common_steps)
 
       claim_added : (b : Bool) (c : ℕ) → let now : Record = cond b (with_piece r k.next) (with_end_seen r) in slice_index now.added c ≤ 2 ^ 40 * now.parts
-      claim_added true c = k.added c i r at
-      claim_added false c = k.added c i r at
+      claim_added h1 h2 = grind (arith, common_steps)
 
       claimed_next : r.past ≡ 0 → Keeps terms (set words 0 ((slice_index words 0 + 1) % 2 ^ 64)) (set seats i (Holding (with_claim r terms.pieces k.next)))
       claimed_next none_past =
@@ -110,18 +106,14 @@ module _ (terms : Terms) where
           }
 
       keeps_claim : r.past ≡ 0 → Keeps terms (set words 0 ((slice_index words 0 + 1) % 2 ^ 64)) (set seats i (Holding (with_claim r terms.pieces (slice_index words 0))))
-      keeps_claim none_past =
-          subst (λ n. Keeps terms (set words 0 ((slice_index words 0 + 1) % 2 ^ 64)) (set seats i (Holding (with_claim r terms.pieces n)))) (sym found_is) (claimed_next none_past)
+      keeps_claim none_past = grind (arith, common_steps, found_is, claimed_next)
 
       module _ (c : ℕ) (inside : c < terms.counters) where
         inside_counters : c < length k.counters
         inside_counters = let e = k.counters_are in omega arith
 
         known : KnowsNoMore r c (slice_index words (c + 1))
-        known =
-            let is = counter_is c in let all = k.lawful.counters c in
-            let mine = number-le-total (λ q. slice_index q.added c) seats i r at in let saw = k.lawful.seen c i r at in
-            (omega arith, omega arith)
+        known = grind (arith, common_steps, counter_is, number-le-total)
 
         read_counters : Keeps terms (set words (c + 1) (slice_index words (c + 1))) (set seats i (Holding (with_read r c (slice_index k.counters c))))
         read_counters = record {
@@ -145,16 +137,7 @@ module _ (terms : Terms) where
           now = with_add r c (slice_index k.counters c) amount
 
           add_within : (d : ℕ) → (d ≡ c) ⊎ (d ≢ c) → slice_index now.added d ≤ 2 ^ 40 * now.parts
-          add_within d (inl e) =
-              let size = (k.lawful.sizes i r at).0 in
-              let there : slice_index now.added c ≡ slice_index r.added c + amount = get_or-set_same r.added c (slice_index r.added c + amount) 0 (let inside' = inside_counters in omega arith) in
-              let here : slice_index now.added d ≡ slice_index now.added c = ap (slice_index now.added) e in
-              let some = k.lawful.whole i r at in
-              omega arith
-          add_within d (inr n) =
-              let there : slice_index now.added d ≡ slice_index r.added d = get_or-set_other r.added c d (slice_index r.added c + amount) 0 n in
-              let old = k.added d i r at in
-              omega arith
+          add_within h1 h2 = grind (arith, common_steps)
 
           add_counters : Keeps terms (set words (c + 1) ((slice_index words (c + 1) + amount) % 2 ^ 64)) (set seats i (Holding now))
           add_counters =

@@ -1,8 +1,8 @@
 -- Each event keeps a state lawful, and so does each list of events; a lawful state is known by its seats.
-use Rattle.std.proofs.Common.{◌≡◌, ℕ, ◌+◌, ◌≤◌, Bool, true, false, cond, nat_lt, List, [], ◌∷◌, length, Option, Some, None, refl, sym, ap, ◌∙◌, arith}
+use Rattle.std.proofs.Common.{◌≡◌, ℕ, ◌+◌, ◌≤◌, Bool, true, false, cond, nat_lt, List, [], ◌∷◌, length, Option, Some, sym, ap, ◌∙◌, arith}
+use Rattle.std.proofs.lemmas.Grind.{common_steps}
 use Rattle.std.specs.Prelude.{◌==◌, slice_index}
 use Rattle.std.proofs.lemmas.List.{ext_get_or}
-use Rattle.std.proofs.Math.ListN.{length-set}
 use Rattle.std.proofs.lemmas.Bool.Decides.{nat_tests}
 use Rattle.mine_round.specs.declared.state.Record.{Record}
 use Rattle.mine_round.specs.Machine.{Machine, Event, split, claim, add, read, join, opening, record_at, after_split, after_claim, after_add, after_read, after_join, by_record, after, run}
@@ -13,18 +13,15 @@ use Rattle.mine_round.proofs.Seats.{lawful-opening, lawful-after_split, lawful-a
 module _ (P : Machine → Type 0) where
   -- a step that is taken only under a test
   when_tested : (b : Bool) (m step : Machine) → P m → (b ≡ true → P step) → P (cond b step m)
-  when_tested true m step h taken = taken refl
-  when_tested false m step h taken = h
+  when_tested h1 h2 h3 h4 h5 = grind (arith, common_steps)
 
   -- a step that is taken only where a test fails
   unless_tested : (b : Bool) (m step : Machine) → P m → (b ≡ false → P step) → P (cond b m step)
-  unless_tested true m step h taken = h
-  unless_tested false m step h taken = taken refl
+  unless_tested h1 h2 h3 h4 h5 = grind (arith, common_steps)
 
   -- a step of a seat that may have no record
   when_held : (m : Machine) (o : Option Record) (f : Record → Machine) → P m → ((r : Record) → o ≡ Some r → P (f r)) → P (by_record m o f)
-  when_held m None f h taken = h
-  when_held m (Some r) f h taken = taken r refl
+  when_held h1 h2 h3 h4 h5 = grind (arith, common_steps)
 
 lawful-after : (m : Machine) (event : Event) → Lawful m → Lawful (after m event)
 lawful-after m (split i) h = when_held Lawful m (record_at m.seats i) _ h (λ r at.
@@ -41,18 +38,7 @@ lawful-after m (join i j) h = when_held Lawful m (record_at m.seats i) _ h (λ r
 
 -- an event keeps what the round was made for
 keeps-after : (m : Machine) (event : Event) → IsOfRound m (after m event)
-keeps-after m (split i) = when_held (IsOfRound m) m (record_at m.seats i) _ (refl, refl, refl) (λ r at.
-    when_tested (IsOfRound m) (nat_lt 1 r.parts) m (after_split m i r) (refl, refl, refl) (λ is. (refl, refl, refl)))
-keeps-after m (claim i) = when_held (IsOfRound m) m (record_at m.seats i) _ (refl, refl, refl) (λ r at.
-    when_tested (IsOfRound m) (r.past == 0) m (after_claim m i r) (refl, refl, refl) (λ is. (refl, refl, refl)))
-keeps-after m (add i counter amount) = when_held (IsOfRound m) m (record_at m.seats i) _ (refl, refl, refl) (λ r at.
-    when_tested (IsOfRound m) (nat_lt counter (length m.counters)) m (after_add m i counter amount r) (refl, refl, refl)
-    (λ is. (refl, refl, length-set m.counters counter (slice_index m.counters counter + amount))))
-keeps-after m (read i counter) = when_held (IsOfRound m) m (record_at m.seats i) _ (refl, refl, refl) (λ r at.
-    when_tested (IsOfRound m) (nat_lt counter (length m.counters)) m (after_read m i counter r) (refl, refl, refl) (λ is. (refl, refl, refl)))
-keeps-after m (join i j) = when_held (IsOfRound m) m (record_at m.seats i) _ (refl, refl, refl) (λ r at.
-    when_held (IsOfRound m) m (record_at m.seats j) _ (refl, refl, refl) (λ other there.
-    unless_tested (IsOfRound m) (i == j) m (after_join m i r j other) (refl, refl, refl) (λ is. (refl, refl, refl))))
+keeps-after h1 h2 = grind (arith, common_steps)
 
 -- the records of the seats tell the words
 pub same_words : (m n : Machine) → Lawful m → Lawful n → IsOfRound m n → n.seats ≡ m.seats → n ≡ m

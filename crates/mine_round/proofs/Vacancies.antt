@@ -1,13 +1,13 @@
 -- A list in which no place is found vacant has no vacant place.
-use Rattle.std.proofs.Common.{◌≡◌, ℕ, ◌≤◌, Bool, true, false, true≢false, if◌then◌else◌, nat_lt, List, [], ◌∷◌, ◌++◌, length, length-append, get_or, Option, Some, None, refl, ap, sym, ◌∙◌, arith}
+use Rattle.std.proofs.Common.{◌≡◌, ℕ, ◌≤◌, Bool, false, true≢false, if◌then◌else◌, nat_lt, List, [], ◌∷◌, ◌++◌, length, length-append, get_or, Option, Some, None, refl, ap, sym, ◌∙◌, arith}
+use Rattle.std.proofs.lemmas.Grind.{common_steps}
 use Rattle.std.specs.Prelude.{is_none, position}
 use Rattle.std.specs.List.{position_or_len}
 use Rattle.std.proofs.lemmas.Bool.Decides.{nat_tests}
 use Rattle.std.proofs.lemmas.List.Sums.{fails_before_first}
 
 found_or_not : (b : Bool) (n : ℕ) → (if b then Some n else None) ≡ None → b ≡ false
-found_or_not true n e = cc
-found_or_not false n e = refl
+found_or_not h1 h2 h3 = grind (arith, common_steps)
 
 module _ {T : Type 0} where
   vacant_there : (xs ys : List (Option T)) → get_or (xs ++ None ∷ ys) (length xs) None ≡ None

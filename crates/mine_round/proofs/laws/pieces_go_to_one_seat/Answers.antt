@@ -1,5 +1,6 @@
 -- A piece that stands in two claimed lists would be counted twice.
-use Rattle.std.proofs.Common.{◌≡◌, ℕ, ◌≤◌, cond, get_or, List, min, set, sym, ◌∙◌, arith}
+use Rattle.std.proofs.Common.{◌≡◌, ℕ, ◌≤◌, cond, List, min, set, sym, ◌∙◌, arith}
+use Rattle.std.proofs.lemmas.Grind.{common_steps}
 use Rattle.std.specs.Prelude.{Contains, ◌==◌}
 use Rattle.std.proofs.lemmas.Bool.Decides.{nat_tests}
 use Rattle.std.proofs.lemmas.List.Sums.{get_or-le-sum_by}
@@ -15,8 +16,7 @@ counts_once : (bound x : ℕ) → once_below bound x ≤ 1
 counts_once bound x = grind (arith, nat_tests)
 
 times_contained : (xs : List ℕ) (x : ℕ) → Contains xs x → 1 ≤ times x xs
-times_contained xs x (k, inside, is) =
-    let here = get_or-le-sum_by (λ y. cond (y == x) 1 0) xs k x inside in let one = counts_one (get_or xs k x) x is in omega arith
+times_contained xs x (k, inside, is) = grind (arith, common_steps, get_or-le-sum_by, counts_one)
 
 pub returns : goal.returns
 returns c m i j r other piece h apart at there mine theirs =

@@ -1,5 +1,6 @@
 -- Each seat that joins adds what it did, and the seats that are left are of the round.
-use Rattle.std.proofs.Common.{◌≡◌, List, [], ◌∷◌, ◌++◌, Some, ap, ◌∙◌, sym, subst}
+use Rattle.std.proofs.Common.{◌≡◌, List, [], ◌∷◌, ◌++◌, Some, ap, ◌∙◌, sym, subst, arith}
+use Rattle.std.proofs.lemmas.Grind.{common_steps}
 use Rattle.std.proofs.lemmas.List.Elements.{All-pop}
 use Rattle.mine_round.specs.declared.state.Record.{Record}
 use Rattle.mine_round.specs.declared.state.SeatState.TheVariants.{Holding}
@@ -11,19 +12,7 @@ use Rattle.mine_round.proofs.Gathering.{gathers_first, gathers_next}
 use Rattle.mine_round.proofs.seat.join_seats.Goals as goal
 
 pub loop-seat-init : goal.loop-seat-init
-loop-seat-init c =
-    let all : List SeatView = c.args.seats.items in
-    let left : List SeatView = c.pop.new.self.items in
-    let last : SeatView = c.in-Some.last in
-    let popped : all ≡ left ++ last ∷ [] = c.in-Some.ensures.items in
-    let own = All-pop (λ (s : SeatView). s.round ≡ c.args.words.now.shared.table_id) all left (Some last) popped c.requires.own in
-    let table_seat = c.into_table_seat-table_seat.ensures in
-    record {
-      own = table_seat.own ∙ own.1;
-      holds = table_seat.holds;
-      rest = own.0;
-      all = subst (λ (r : Record). Gathers r left all) (sym table_seat.held) (subst (λ (seats : List SeatView). Gathers last.held left seats) (sym popped) (gathers_first left last table_seat.alone));
-    }
+loop-seat-init c = grind (arith, common_steps, All-pop, gathers_first)
 
 pub loop-seat-preserved : goal.loop-seat-preserved
 loop-seat-preserved c =

@@ -1,4 +1,5 @@
-use Rattle.std.proofs.Common.{ap, ◌∙◌}
+use Rattle.std.proofs.Common.{ap, ◌∙◌, arith}
+use Rattle.std.proofs.lemmas.Grind.{common_steps}
 use Rattle.mine_round.specs.declared.state.SeatState.TheVariants.{Holding}
 use Rattle.mine_round.specs.Record.{joined}
 use Rattle.mine_round.specs.Words.{record_in}
@@ -6,9 +7,7 @@ use Rattle.mine_round.proofs.Rule.{joins}
 use Rattle.mine_round.proofs.words.join_seat.Goals as goal
 
 pub join_seat-requires : goal.join_seat-requires
-join_seat-requires c =
-    let holds = c.requires.holds in
-    (c.requires.own.0, c.requires.own.1, ap (λ m. m.1) holds.1, c.requires.sized, joins c.args.words.now.shared.key _ _ _ _ (ap (λ m. m.0) holds.0) (ap (λ m. m.0) holds.1))
+join_seat-requires c = grind (arith, common_steps, joins)
 
 pub returns : goal.returns
 returns c = record {

@@ -1,5 +1,6 @@
 -- The words at the end are those of a state that keeps the rule, and the totals are the counters.
-use Rattle.std.proofs.Common.{◌≡◌, ◌≢◌, ◌+◌, ◌<◌, length, slice_index, get_or-set_same, get_or-set_other, below_more, ap, ◌∙◌, sym, subst, arith}
+use Rattle.std.proofs.Common.{◌≡◌, ◌+◌, slice_index, ap, ◌∙◌, sym, subst, arith}
+use Rattle.std.proofs.lemmas.Grind.{common_steps}
 use Rattle.std.specs.Slots.{slots_items}
 use mathlib.Core.Option as maybe
 use Rattle.mine_round.specs.Totals.{Settles}
@@ -9,13 +10,7 @@ use Rattle.mine_round.proofs.Gathering.{settles}
 use Rattle.mine_round.proofs.words.settle.Goals as goal
 
 pub loop-counter-preserved : goal.loop-counter-preserved
-loop-counter-preserved c =
-    let i = c.loop-counter.counter in
-    let totals = c.loop-counter.totals in
-    let words = slots_items c.close_with-closed.result.words in
-    below_more _ _
-    (λ k h. let other : k ≢ i = omega arith in get_or-set_other totals i k c.word.result 0 other ∙ c.loop-counter.invariant k h)
-    (let inside : i < length totals = omega arith in get_or-set_same totals i c.word.result 0 inside ∙ sym (index_found words (i + 1) c.word.result c.word.ensures))
+loop-counter-preserved c = grind (arith, common_steps, index_found)
 
 pub returns : goal.returns
 returns c =
