@@ -12,6 +12,7 @@ use basket_order::{IndexTable, MOST_STEPS};
 
 /// The index of the set with the items of a union at the bits of a word, if it is found by its
 /// hash.
+#[tactic(auto, using(std::proofs::lemmas::Grind::common_steps))]
 pub fn index_of(
     sets: &CountedSets,
     union: &[u32],
@@ -37,6 +38,7 @@ pub fn index_of(
 }
 
 /// Whether a set has just the items of a union at the bits of a word.
+#[tactic(auto, using(std::proofs::lemmas::Grind::common_steps, crate::proofs::SideLemmas::next_word, crate::proofs::SideLemmas::first_of_word, std::proofs::lemmas::List::append_assoc, std::proofs::lemmas::List::take_more))]
 fn is_side(set: &[u32], union: &[u32], bits: u64) -> bool
     requires { length union.now ≤ MOST_BITS }
     ensures { IsTrue result → set.now ≡ chosen (has_bit bits) union.now }

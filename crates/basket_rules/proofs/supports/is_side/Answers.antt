@@ -1,13 +1,9 @@
 use Rattle.std.proofs.Common.{◌≤◌, ◌++◌, w64, length, take, sym, ap, ◌∙◌, arith}
-use Rattle.std.proofs.lemmas.Grind.{common_steps}
 use Rattle.std.specs.Int.{trailing_zeros}
 use Rattle.std.proofs.lemmas.Bool.{leb-true}
-use Rattle.std.proofs.lemmas.List.{append_assoc, append-nil, take_all, take_more}
-use Rattle.basket_rules.proofs.SideLemmas.{first_of_word, next_word, none_of_word}
+use Rattle.std.proofs.lemmas.List.{append-nil, take_all}
+use Rattle.basket_rules.proofs.SideLemmas.{none_of_word}
 use Rattle.basket_rules.proofs.supports.is_side.Goals as goal
-
-pub loop-item-preserved : goal.loop-item-preserved
-loop-item-preserved c = grind (arith, common_steps, next_word, first_of_word, append_assoc, take_more)
 
 pub returns : goal.returns
 returns c = λ h.
