@@ -114,6 +114,7 @@ impl<M: ClassMiner, G: Gate> Classes<'_, '_, M, G> {
     /// Adds the class of each rank of a claimed piece to the values, reported to a tally, which
     /// looks after each class at what the others have found. The scratch memory is used again from piece
     /// to piece.
+    #[tactic(auto, using(std::proofs::lemmas::Grind::common_steps, std::proofs::lemmas::Result::err_from_is_err_and, crate::proofs::Ranks::all_ranks))]
     fn add_classes<S: Start>(
         &self,
         alloc: Global,
@@ -156,6 +157,7 @@ impl<M: ClassMiner, G: Gate> Classes<'_, '_, M, G> {
 /// The class of each rank, mined by a number of workers over pieces of the ranks, if they have no
 /// more sets than the limit. The workers share one count of the sets that they find, and each stops
 /// once it sees more than the limit.
+#[tactic(auto, using(std::proofs::lemmas::Grind::common_steps))]
 fn mined_classes<'a, 'g, R: Threads + Sync, G: Gate + Sync, M: ClassMiner + Sync>(
     rt: &R,
     alloc: Global,

@@ -9,6 +9,7 @@ use std::alloc::{AllocError, Global};
 pub type Class = (CountedSets, u64);
 
 /// The classes without their work, and their work, added up.
+#[tactic(auto, using(std::proofs::lemmas::Grind::common_steps, std::proofs::lemmas::List::nil_from_length))]
 pub fn joined(alloc: Global, mined: Vec<Class>) -> Result<(Vec<CountedSets>, u64), AllocError>
     requires { sum (map (λ class. class.1) mined.items) < 2 ^ 64 }
     ensures classes { IfOk result (λ joined. joined.0.items ≡ map (λ class. class.0) mined.items) }

@@ -1,5 +1,4 @@
 use Rattle.std.proofs.Common.{◌≡◌, ℕ, ◌≤◌, ◌<◌, ap, sym, ◌∙◌, subst, arith, map, length, List, Ok, Err, Some}
-use Rattle.std.proofs.lemmas.Grind.{common_steps}
 use Rattle.std.specs.Prelude.{All, Vec}
 use Rattle.std.specs.Global.{Global}
 use Rattle.std.proofs.lemmas.List.Elements.{All-same}
@@ -21,9 +20,6 @@ use Rattle.mine_phases.proofs.classes.mined_classes.Goals as goal
 -- what a worker hands back: the classes of its ranks
 abbrev Mined : Type 0
 Mined = WorkerResult (Vec (ℕ × (List Counted × ℕ)) Global)
-
-pub by_workers-requires-clause-accepted : goal.by_workers-requires-clause-accepted
-by_workers-requires-clause-accepted g c κs within i seat below is = grind (arith, common_steps)
 
 pub close-requires : goal.close-requires
 close-requires g c = record { own = all_own c.in_ok-round.round c.in_ok-seats.ensures.shares c.in_ok-seats.seats.items c.in_ok-seats.ensures.seats (λ k d below. (c.in_ok-seats.ensures.each k d below).call.met.1.of_ranks.own) }

@@ -5,14 +5,13 @@ use Rattle.std.proofs.Math.Nat.{add-mod_right, mod-eq_of_lt}
 use Rattle.std.proofs.lemmas.List.{map-append}
 use Rattle.std.proofs.lemmas.List.Elements.{All-push, All-same}
 use Rattle.std.proofs.lemmas.List.Sums.{sum_by_push}
-use Rattle.std.proofs.lemmas.Result.{err_from_is_err_and}
 use Rattle.basket_ranks.specs.Codes.{Coding}
 use Rattle.basket_sets.specs.declared.counted.Counted.{Counted}
 use Rattle.mine_classes.specs.Mined.{class_size}
 use Rattle.mine_classes.proofs.theory.Listed.{lists_have_class_size}
 use Rattle.mine_phases.specs.Classes.{IsMined, claimed_size, rank_from_end}
 use Rattle.mine_pieces.specs.WorkerResult.{numbers_of}
-use Rattle.mine_phases.proofs.Ranks.{all_ranks, first_ranks, next_rank, ranks_before, ranks_fit}
+use Rattle.mine_phases.proofs.Ranks.{first_ranks, next_rank, ranks_before, ranks_fit}
 use Rattle.mine_phases.proofs.classes.Classes.add_classes.Goals as goal
 
 -- the rank at an index counted from the end
@@ -26,9 +25,6 @@ class_fits coding pieces claimed index ranks turn some all inside = grind (arith
 
 pub loop-index-init : goal.loop-index-init
 loop-index-init g c = grind (arith, common_steps, first_ranks, mod-eq_of_lt)
-
-pub returns-in_err-class-clause-too_many : goal.returns-in_err-class-clause-too_many
-returns-in_err-class-clause-too_many g c = λ most e. grind (arith, common_steps, err_from_is_err_and)
 
 pub returns-in_err-class-clause-at_most : goal.returns-in_err-class-clause-at_most
 returns-in_err-class-clause-at_most g c = grind (arith, common_steps, class_fits)
@@ -67,12 +63,3 @@ loop-index-preserved g c =
       each = All-same Mined _ _ pushed (All-push Mined c.loop-index.values.items _ was.each (record { listed = class.listed; worked = c.in_ok-class.ensures.work; few = class.few }));
       told = omega (arith, sum, size, was.told, class.told, c.look.ensures.told);
     }
-
-pub returns-clause-numbers : goal.returns-clause-numbers
-returns-clause-numbers g c = grind (arith, common_steps, all_ranks)
-
-pub returns-clause-told : goal.returns-clause-told
-returns-clause-told g c = grind (arith, common_steps)
-
-pub returns-clause-at_most : goal.returns-clause-at_most
-returns-clause-at_most g c = let told = returns-clause-told g c in omega (arith, told)
