@@ -1,19 +1,19 @@
 -- The counts of given sets.
-use Rattle.std.proofs.Common.{◌≡◌, ◌≢◌, ◌∙◌, ℕ, Bool, false, List, Option, Some, None, Result, Ok, Err, Global, ap, map, refl, subst, sym}
+use Rattle.std.proofs.Common.{◌≡◌, ◌≢◌, ◌∙◌, ℕ, Bool, false, List, Option, Result, Ok, Err, Global, ap, subst, sym, arith}
+use Rattle.std.proofs.lemmas.Grind.{common_steps}
 use Rattle.std.specs.Prelude.{IfSome, MatchResult}
 use Rattle.std.proofs.lemmas.Option.{IfSome_then}
 use Rattle.basket_plan.specs.declared.layout.Layout.{Layout}
 use Rattle.basket_read.specs.declared.fault.ReadFault.{ReadFault}
 use Rattle.basket_read.specs.declared.fault.ReadFault.TheVariants.{Memory}
 use Rattle.basket_outcome.specs.declared.contents.Contents.{Contents}
-use Rattle.basket_outcome.specs.declared.contents.Contents.TheVariants as contents
 use Rattle.basket_sets.specs.declared.counted.Counted.{Counted}
 use Rattle.basket_outcome.specs.declared.fault.RunFault.{RunFault}
-use Rattle.basket_outcome.specs.declared.fault.RunFault.TheVariants.{Input, Sets, Uncounted, Mine, Write}
+use Rattle.basket_outcome.specs.declared.fault.RunFault.TheVariants.{Input, Sets}
 use Rattle.basket_outcome.specs.declared.prepared.PreparedReport.{PreparedReport}
 use Rattle.basket_read.specs.Fault.{Returns, ReturnsBoth}
 use Rattle.basket_outcome.specs.Contents.{asked_in, contents_of}
-use Rattle.basket.specs.Count.{AreReadable, AreReadableSets, IsCountsFault, MakesCounts, OfBoth, count_outcome, counted_in, counts_in, counts_over, first_uncounted, of_asked, of_contents, text_of_counts, unless_uncounted}
+use Rattle.basket.specs.Count.{AreReadable, AreReadableSets, IsCountsFault, MakesCounts, OfBoth, count_outcome, counts_in, of_asked, of_contents, text_of_counts, unless_uncounted}
 use Rattle.basket_outcome.specs.Prepared.{prepared_text}
 use Rattle.mine_sets.specs.Asked.{asked_of}
 
@@ -30,19 +30,14 @@ is_read is = cc
 -- what counting comes to is no fault of the sets or of the input
 text_is_readable : (layout : Layout) (names : Option (List (List ℕ))) (list : Result (List Counted) RunFault) (nth : Option ℕ) (sums : List Counted) → list ≡ unless_uncounted nth sums
     → AreReadable (text_of_counts layout names list)
-text_is_readable layout names list None sums is = subst (λ l. AreReadable (text_of_counts layout names l)) (sym is) (λ fault. (λ e. cc, λ e. cc))
-text_is_readable layout names list (Some nth) sums is = subst (λ l. AreReadable (text_of_counts layout names l)) (sym is) (λ fault. (λ e. cc, λ e. cc))
+text_is_readable h1 h2 h3 h4 h5 h6 = grind (arith, common_steps)
 
 counts_are_readable : (layout : Layout) (sets : List (List ℕ)) (contents : Contents) → AreReadable (counts_in layout sets contents)
-counts_are_readable layout sets (contents.Baskets baskets names) = λ fault. (λ e. cc, λ e. cc)
-counts_are_readable layout sets (contents.Counts lines names) =
-    text_is_readable layout names (counts_over lines sets) (first_uncounted lines 0 sets) (map (counted_in lines) sets) refl
+counts_are_readable h1 h2 h3 = grind (arith, common_steps)
 
 pub sets_refuse : (layout : Layout) (asked left : Option (List ℕ)) (fault : ReadFault) → IfSome asked (λ bytes. ReturnsBoth {A = Global} (Err fault) (asked_in layout bytes))
     → OfBoth asked left (λ sets bytes. fault ≢ Memory → count_outcome layout sets bytes ≡ Err (Sets fault))
-sets_refuse layout None left fault read = tt
-sets_refuse layout (Some sets) None fault read = tt
-sets_refuse layout (Some sets) (Some bytes) fault read = λ other. ap (of_asked layout bytes) (read other)
+sets_refuse h1 h2 h3 h4 h5 = grind (arith, common_steps)
 
 module _ (layout : Layout) (asked : Option (List ℕ)) (sets names : List (List ℕ)) (read : IfSome asked (λ bytes. asked_in layout bytes ≡ Ok (sets, names))) where
   abbrev OfOutcome : Option (List ℕ) → Result (List ℕ) RunFault → Type 0
@@ -50,8 +45,7 @@ module _ (layout : Layout) (asked : Option (List ℕ)) (sets names : List (List 
 
   pub contents_refuse : (left : Option (List ℕ)) (fault : ReadFault) → IfSome left (λ bytes. Returns (Err fault) (contents_of layout names bytes))
       → OfBoth asked left (λ s bytes. fault ≢ Memory → count_outcome layout s bytes ≡ Err (Input fault))
-  contents_refuse left fault refused = IfSome_then asked read (λ s e. IfSome_then left refused (λ bytes told other.
-      ap (of_asked layout bytes) e ∙ ap (of_contents layout (asked_of sets)) (told other)))
+  contents_refuse left fault refused = grind (arith, common_steps)
 
   pub sets_are_readable : AreReadableSets layout asked
   sets_are_readable = IfSome_then asked read (λ bytes e fault refused. is_read (sym e ∙ refused))
@@ -70,9 +64,4 @@ module _ (layout : Layout) (asked : Option (List ℕ)) (sets names : List (List 
 
     pub counts_make : (result : Result PreparedReport RunFault) → MatchResult result (λ made. counts_in layout (asked_of sets) contents ≡ Ok (prepared_text made)) (IsCountsFault (counts_in layout (asked_of sets) contents))
         → MakesCounts layout asked asked_failed left after failed result
-    counts_make (Ok made) is = (told (Ok (prepared_text made)) is, asked_works, works)
-    counts_make (Err (Uncounted nth)) is = ((told (Err (Uncounted nth)) is, asked_works, works), λ e. cc)
-    counts_make (Err (Mine fault)) is = ((is, asked_works, works, readable), λ e. cc)
-    counts_make (Err (Input fault)) is = absurd is
-    counts_make (Err (Sets fault)) is = absurd is
-    counts_make (Err Write) is = absurd is
+    counts_make h1 h2 = grind (arith, common_steps, told, readable)

@@ -1,9 +1,10 @@
 -- The items of an input that are counted while it is read.
-use Rattle.std.proofs.Common.{◌≡◌, ℕ, ◌+◌, Bool, List, [], ◌++◌, cond, Option, Some, Result, Ok, Err, sym, ap, ◌∙◌, refl, subst, arith}
+use Rattle.std.proofs.Common.{◌≡◌, ℕ, ◌+◌, Bool, List, [], ◌++◌, Option, Some, Result, Ok, Err, ap, ◌∙◌, arith}
+use Rattle.std.proofs.lemmas.Grind.{common_steps}
 use Rattle.std.specs.Prelude.{IfSome}
 use Rattle.std.proofs.lemmas.Option.{IfSome_then}
 use Rattle.mine_limit.specs.declared.fault.MineFault.{MineFault}
-use Rattle.mine_limit.specs.declared.fault.MineFault.TheVariants.{Memory, TooMany}
+use Rattle.mine_limit.specs.declared.fault.MineFault.TheVariants.{Memory}
 use Rattle.basket_csv.specs.Csv.{Named, baskets_of_csv}
 use Rattle.basket_csv.specs.Read.{AreCountsNamed}
 use Rattle.basket_plan.specs.declared.plan.Ask.TheVariants.{Items}
@@ -22,7 +23,7 @@ use Rattle.basket_outcome.specs.declared.fault.RunFault.TheVariants.{Input}
 use Rattle.basket.specs.Engine.{IsReadable, MakesReport, RefusesSets}
 use Rattle.basket_outcome.specs.declared.contents.Contents.TheVariants as contents
 use Rattle.basket_outcome.specs.Contents.{FailsIn, by_names, contents_in, wording_with}
-use Rattle.basket_outcome.specs.Outcome.{are_too_many, report_of_baskets, of_mining, outcome, outcome_of, text_of}
+use Rattle.basket_outcome.specs.Outcome.{report_of_baskets, of_mining, outcome, outcome_of}
 
 -- ---- counts of two lists of baskets
 
@@ -35,13 +36,11 @@ totals_add front back baskets whole = let s = support-append front back [] in le
 pub reader_refuses : {X Y : Type 0} (fits : X → Result Y ReadFault → Type 0) (defined : List ℕ → Result Y ReadFault) (fails : ReadFault → Type 0) (left after : Option (List ℕ)) (question : Question) (failed : Bool) (fault : ReadFault)
     → ((bytes : List ℕ) → defined bytes ≡ Err fault → outcome bytes question ≡ Err (Input fault)) → (fails fault → FailsIn question.layout.form left after fault)
     → Reads fits defined fails left failed (Err fault) → MakesReport question left after failed (Err (Input fault))
-reader_refuses fits defined fails left after question failed fault same lost (exact, broken, only) =
-    ((λ working. IfSome_then left (exact working) (λ bytes told no_memory. same bytes (told no_memory)), λ b. lost (broken b), only), λ is. cc)
+reader_refuses fits defined fails left after question failed fault same lost (exact, broken, only) = grind (arith, common_steps)
 
 -- what mining comes to is no fault of the input
 pub mined_is_readable : (mined : Result (List ℕ) MineFault) → IsReadable (of_mining mined)
-mined_is_readable (Ok text) = λ fault is. cc
-mined_is_readable (Err fault) = λ other is. cc
+mined_is_readable h1 = grind (arith, common_steps)
 
 -- what the bytes say as CSV records that are baskets, where no names are known
 abbrev pub csv_of : Question → List ℕ → Result Named ReadFault
@@ -62,15 +61,11 @@ csv_counted question counts names form bytes (baskets, is, counted) = (baskets, 
 -- memory may be out only if the input has no fault
 pub memory_refuses : (left : Option (List ℕ)) (question : Question) (counts : ItemCounts) (names : Option (List (List ℕ)))
     → IfSome left (IsCounted question counts names) → RefusesSets left question Memory
-memory_refuses left question counts names read = IfSome_then left read (λ bytes counted.
-    (subst IsReadable (sym counted.1) (mined_is_readable (report_of_baskets counted.0 names question)), λ other. absurd (other refl)))
+memory_refuses left question counts names read = grind (arith, common_steps, IfSome_then, mined_is_readable)
 
 -- the report of the counts is that of the input
 pub counts_report : (left : Option (List ℕ)) (question : Question) (counts : ItemCounts) (names : Option (List (List ℕ))) (report : List ℕ) → question.ask ≡ Items
     → IfSome left (IsCounted question counts names)
     → ((baskets : List Weighted) → AreCountsOf counts baskets → report ≡ report_of (wording_with question.layout.separator names) (frequent_items_of baskets question.minimum))
     → IfSome left (λ bytes. outcome bytes question ≡ Ok report)
-counts_report left question counts names report items read made = IfSome_then left read (λ bytes counted. let baskets = counted.0 in
-    counted.1
-    ∙ ap (λ a. of_mining (cond (are_too_many a baskets question.minimum question.limit) (Err (TooMany question.limit)) (Ok (text_of (wording_with question.layout.separator names) a baskets question.minimum)))) items
-    ∙ ap Ok (sym (made baskets counted.2)))
+counts_report left question counts names report items read made = grind (arith, common_steps)

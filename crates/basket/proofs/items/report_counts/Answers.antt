@@ -1,4 +1,5 @@
 use Rattle.std.proofs.Common.{◌≡◌, ◌+◌, ap, sym, ◌∙◌, arith}
+use Rattle.std.proofs.lemmas.Grind.{common_steps}
 use Rattle.std.proofs.lemmas.Result.{IfOk-weaker}
 use Rattle.basket_report.specs.Items.{items_met}
 use Rattle.basket_report.specs.Report.{report_of}
@@ -11,11 +12,7 @@ use Rattle.basket.proofs.items.report_counts.Goals as goal
 use Rattle.basket_ranks.proofs.theory.Added.{added_is, sums_fit, supports_rise}
 
 pub add_counts-requires-clause-rising : goal.add_counts-requires-clause-rising
-add_counts-requires-clause-rising g c =
-    let counted = c.requires.1 in
-    let front = c.deref.ensures.value ∙ c.in_ok-first.ensures.counts counted.0 counted.1 in
-    let back = c.deref-2.ensures.value ∙ c.in_ok-rest.ensures.counts ∙ ap item_supports c.baskets.ensures.baskets in
-    (supports_rise c.deref.result.now counted.0 front, supports_rise c.deref-2.result.now c.args.counts.now.rest back)
+add_counts-requires-clause-rising g c = grind (arith, common_steps, supports_rise)
 
 pub add_counts-requires-clause-fits : goal.add_counts-requires-clause-fits
 add_counts-requires-clause-fits g c =
@@ -25,9 +22,7 @@ add_counts-requires-clause-fits g c =
     sums_fit c.deref.result.now c.deref-2.result.now counted.0 c.args.counts.now.rest c.requires.0 front back (sym counted.2) c.requires.2
 
 pub overflow_add-total : goal.overflow_add-total
-overflow_add-total g c =
-    let counted = c.requires.1 in
-    omega (arith, c.total.ensures, c.total-2.ensures, counted.1.total, totals_add counted.0 c.args.counts.now.rest c.requires.0 counted.2, c.requires.2)
+overflow_add-total g c = grind (arith, common_steps, totals_add)
 
 pub returns : goal.returns
 returns g c = λ baskets counted.
