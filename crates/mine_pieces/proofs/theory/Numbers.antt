@@ -1,5 +1,6 @@
 -- Numbers one after another, and the numbers of a piece.
-use Rattle.std.proofs.Common.{◌≡◌, ◌≤◌, ◌<◌, ◌+◌, ◌-◌, ◌++◌, ℕ, zero, suc, List, [], ◌∷◌, take, drop, length, refl, ap, sym, ◌∙◌, append_assoc, arith}
+use Rattle.std.proofs.Common.{◌≡◌, ◌≤◌, ◌<◌, ◌+◌, ◌-◌, ◌++◌, ℕ, zero, suc, List, [], ◌∷◌, take, drop, refl, ap, ◌∙◌, arith}
+use Rattle.std.proofs.lemmas.Grind.{common_steps}
 use Rattle.std.specs.Prelude.{slice_range}
 use Rattle.std.specs.List.{range_with_len, sum_by}
 use Rattle.std.proofs.lemmas.List.{map-append}
@@ -36,23 +37,11 @@ take_range a (suc n) more =
     ap (λ k. take (suc n) (range_with_len a k)) e ∙ ap (λ l. a ∷ l) (take_range (a + 1) n more)
 
 slice_of_range : (low high n : ℕ) → low ≤ high → high ≤ n → slice_range (range_with_len 0 n) low high ≡ range_with_len low (high - low)
-slice_of_range low high n rises within =
-    let e : n ≡ low + (n - low) = omega arith in
-    let f : n - low ≡ (high - low) + (n - high) = omega arith in
-    let z : 0 + low ≡ low = omega arith in
-    ap (λ k. take (high - low) (drop low (range_with_len 0 k))) e
-    ∙ ap (take (high - low)) (drop_range 0 low (n - low))
-    ∙ ap (λ k. take (high - low) (range_with_len (0 + low) k)) f
-    ∙ take_range (0 + low) (high - low) (n - high)
-    ∙ ap (λ b. range_with_len b (high - low)) z
+slice_of_range low high n rises within = grind (arith, common_steps, drop_range 0 low (n - low), take_range (0 + low) (high - low) (n - high))
 
 -- the sum up to the next number
 pub sum_next : (f : ℕ → ℕ) (start number : ℕ) → start ≤ number → sum_by f (range_with_len start ((number + 1) - start)) ≡ sum_by f (range_with_len start (number - start)) + f number
-sum_next f start number low =
-    let more : (number + 1) - start ≡ (number - start) + 1 = omega arith in
-    let at : start + (number - start) ≡ number = omega arith in
-    ap (λ n. sum_by f (range_with_len start n)) more ∙ ap (sum_by f) (range_split start (number - start) 1)
-    ∙ sum_by_push f (range_with_len start (number - start)) (start + (number - start)) ∙ ap (λ n. sum_by f (range_with_len start (number - start)) + f n) at
+sum_next f start number low = grind (arith, common_steps, range_split, sum_by_push)
 
 pub sum_more : (f : ℕ → ℕ) (start count all : ℕ) → count ≤ all → sum_by f (range_with_len start count) ≤ sum_by f (range_with_len start all)
 sum_more f start count all le =
@@ -63,27 +52,15 @@ sum_more f start count all le =
 
 -- the sum up to the next number is no more than the sum of all
 pub sum_fits : (f : ℕ → ℕ) (start number end : ℕ) → start ≤ number → number < end → sum_by f (range_with_len start (number - start)) + f number ≤ sum_by f (range_with_len start (end - start))
-sum_fits f start number end low below =
-    let s = sum_next f start number low in
-    let m = sum_more f start ((number + 1) - start) (end - start) (omega arith) in omega (arith, s, m)
+sum_fits f start number end low below = grind (arith, common_steps, sum_next f start number low, sum_more f start ((number + 1) - start) (end - start) (omega arith))
 
 -- the next value comes with the next number
 pub numbers_next : {X : Type 0} (before : List ℕ) (values now : List (ℕ × X)) (start number : ℕ) (value : X) → start ≤ number → now ≡ values ++ (number, value) ∷ []
     → numbers_of values ≡ before ++ range_with_len start (number - start) → numbers_of now ≡ before ++ range_with_len start ((number + 1) - start)
-numbers_next before values now start number value low is are =
-    let more : (number - start) + 1 ≡ (number + 1) - start = omega arith in
-    let at : number ≡ start + (number - start) = omega arith in
-    ap numbers_of is ∙ map-append (λ v. v.0) values ((number, value) ∷ []) ∙ ap (λ l. l ++ number ∷ []) are ∙ append_assoc before (range_with_len start (number - start)) (number ∷ [])
-    ∙ ap (λ l. before ++ l) (ap (λ n. range_with_len start (number - start) ++ n ∷ []) at ∙ sym (range_split start (number - start) 1) ∙ ap (range_with_len start) more)
+numbers_next before values now start number value low is are = grind (arith, common_steps, map-append, range_split)
 
 -- ---- the numbers of a piece
 
 pub numbers_are : (n pieces piece low high count : ℕ) → count ≡ n → low ≡ shard_start piece pieces count → high ≡ shard_start (piece + 1) pieces count
     → low ≤ high → high ≤ count → parts_of n pieces piece ≡ range_with_len low (high - low)
-numbers_are n pieces piece low high count all start end rises within =
-    let long : length (range_with_len 0 n) ≡ count = length-range_with_len 0 n ∙ sym all in
-    let fits : high ≤ n = omega (arith, all, within) in
-    ap (λ m. slice_range (range_with_len 0 n) (shard_start piece pieces m) (shard_start (piece + 1) pieces m)) long
-    ∙ ap (λ m. slice_range (range_with_len 0 n) m (shard_start (piece + 1) pieces count)) (sym start)
-    ∙ ap (slice_range (range_with_len 0 n) low) (sym end)
-    ∙ slice_of_range low high n rises fits
+numbers_are n pieces piece low high count all start end rises within = grind (arith, common_steps, length-range_with_len, slice_of_range)

@@ -1,12 +1,13 @@
 -- Parts of a list of baskets, their weight and their counts.
 use Rattle.std.proofs.Common.{◌≡◌, ℕ, ◌+◌, ◌≤◌, ◌<◌, ◌-◌, List, [], ◌∷◌, ◌++◌, map, take, drop, length, get_or, refl, sym, ap, ◌∙◌, arith}
+use Rattle.std.proofs.lemmas.Grind.{common_steps}
 use Rattle.std.specs.Prelude.{slice_range}
 use Rattle.std.specs.List.{flat_map, range_with_len}
-use Rattle.std.proofs.lemmas.List.{append-nil, drop-map, get_or-map, length-map, map-append, take-append-drop, take-map}
+use Rattle.std.proofs.lemmas.List.{append-nil, drop-map, get_or-map, length-map, take-append-drop, take-map}
 use Rattle.std.proofs.lemmas.List.Folds.{flat_map-map}
 use Rattle.std.proofs.lemmas.List.FromFn.{fill_by_all}
 use Rattle.std.proofs.lemmas.Simd.{map-map}
-use Rattle.std.proofs.lemmas.List.Concat.{flat_map-append, flat_map-cons}
+use Rattle.std.proofs.lemmas.List.Concat.{flat_map-append}
 use Rattle.std.proofs.lemmas.List.Sums.{sum_by-take-le, sum_by-take-drop}
 use Rattle.basket_ranks.proofs.theory.Shards.{shards_are_all}
 use Rattle.basket_ranks.specs.Shards.{shard_start, shard_of}
@@ -19,8 +20,7 @@ use Rattle.mine_pieces.specs.Pieces.{HasEach}
 
 pub map_flat : {X Y Z : Type 0} (f : Y → Z) (g : X → List Y) (xs : List X) → map f (flat_map g xs) ≡ flat_map (λ x. map f (g x)) xs
 map_flat f g [] = refl
-map_flat f g (x ∷ xs) =
-    ap (map f) (flat_map-cons g x xs) ∙ map-append f (g x) (flat_map g xs) ∙ ap (λ l. map f (g x) ++ l) (map_flat f g xs) ∙ sym (flat_map-cons (λ y. map f (g y)) x xs)
+map_flat f g (x ∷ xs) = grind (arith, common_steps, map_flat f g xs)
 
 -- a part weighs no more than the list
 pub shard_is_light : (i pieces : ℕ) (baskets : List Weighted) → total_of (shard_of i pieces baskets) ≤ total_of baskets
@@ -54,14 +54,10 @@ module _ {V : Type 0} (entries : V → List (ℕ × ℕ)) (mid : ℕ) (lists : L
   }
 
   pub front_is_light : total_of (flat_map (λ part. part) (take mid counted.parts)) ≤ total_of baskets
-  front_is_light =
-      let s = support-append (flat_map (λ part. part) (take mid counted.parts)) (flat_map (λ part. part) (drop mid counted.parts)) [] in
-      let e = ap total_of joined_parts in omega arith
+  front_is_light = grind (arith, common_steps, support-append, joined_parts)
 
   pub back_is_light : total_of (flat_map (λ part. part) (drop mid counted.parts)) ≤ total_of baskets
-  back_is_light =
-      let s = support-append (flat_map (λ part. part) (take mid counted.parts)) (flat_map (λ part. part) (drop mid counted.parts)) [] in
-      let e = ap total_of joined_parts in omega arith
+  back_is_light = grind (arith, common_steps, support-append, joined_parts)
 
 -- a list of one part
 one_of : (counts : List (ℕ × ℕ)) (parts : List (List Weighted)) (baskets : List Weighted) → counts ∷ [] ≡ map item_supports parts → flat_map (λ part. part) parts ≡ baskets → counts ≡ item_supports baskets
@@ -71,9 +67,7 @@ one_of counts (part ∷ other ∷ parts) baskets e whole = absurd cc
 
 pub one_part : {V : Type 0} (entries : V → List (ℕ × ℕ)) (lists : List V) (first : V) (baskets : List Weighted) → 1 ≤ length lists → length lists < 2 → first ≡ get_or lists 0 first
     → CountParts baskets (map entries lists) → entries first ≡ item_supports baskets
-one_part entries [] first baskets some few is counted = absurd (omega arith)
-one_part entries (v ∷ []) first baskets some few is counted = ap entries is ∙ one_of (entries v) counted.parts baskets counted.counts counted.whole
-one_part entries (v ∷ w ∷ lists) first baskets some few is counted = absurd (omega arith)
+one_part h1 h2 h3 h4 h5 h6 h7 h8 = grind (arith, common_steps, one_of)
 
 -- ---- the counts of all parts
 
@@ -88,9 +82,7 @@ entries_by_part entries of_part pieces (first ∷ values) has =
 -- the baskets from where a part starts to where it ends are the part
 pub part_is : (baskets : List Weighted) (low high i pieces n : ℕ) → n ≡ length baskets → low ≡ shard_start i pieces n → high ≡ shard_start (i + 1) pieces n
     → slice_range baskets low high ≡ shard_of i pieces baskets
-part_is baskets low high i pieces n whole start end =
-    ap (λ m. slice_range baskets m high) (start ∙ ap (shard_start i pieces) whole)
-    ∙ ap (slice_range baskets (shard_start i pieces (length baskets))) (end ∙ ap (shard_start (i + 1) pieces) whole)
+part_is baskets low high i pieces n whole start end = grind (arith, common_steps)
 
 pub counts_by_part : {V : Type 0} (entries : V → List (ℕ × ℕ)) (baskets : List Weighted) (pieces : ℕ) (values : List V) → 1 ≤ pieces
     → HasEach (λ piece value. entries value ≡ item_supports (shard_of piece pieces baskets)) pieces values → CountParts baskets (map entries values)

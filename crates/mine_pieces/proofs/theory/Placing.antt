@@ -1,5 +1,6 @@
 -- Values put at the places of their pieces: each finds its place vacant, and where each piece came once, no place stays vacant.
 use Rattle.std.proofs.Common.{◌≡◌, ◌≢◌, ℕ, zero, suc, ◌+◌, ◌<◌, ◌≤◌, cond, List, [], ◌∷◌, ◌++◌, map, length, replicate, get_or, set, Option, Some, None, refl, ap, sym, ◌∙◌, inl, inr, ◌⊎◌, arith, zero-add, true}
+use Rattle.std.proofs.lemmas.Grind.{common_steps}
 use Rattle.std.specs.Prelude.{◌==◌, All, IsPermutation, is_none, position, slice_get}
 use Rattle.std.specs.List.{flat_map, range_with_len, sum_by}
 use Rattle.std.proofs.lemmas.Bool.{cases_eq, cases_lt}
@@ -120,13 +121,7 @@ module _ {X : Type 0} where
   -- ---- the next value
 
   pub next_is_vacant : (places : List (Option X)) (x : ℕ) (pieces : List ℕ) → HaveRoom places (x ∷ pieces) → (x < length places) × (filled places x ≡ 0)
-  next_is_vacant places x pieces room =
-      let one = times_same x x pieces refl in
-      let at = room x in
-      elim (cases_lt x (length places)) [
-        | inl below ↦ (below, let once = once_low (length places) x below in omega arith)
-        | inr past ↦ absurd (let none = once_high (length places) x past in omega arith)
-      ]
+  next_is_vacant places x pieces room = grind (arith, common_steps, one, times_same x x pieces refl, cases_lt x (length places), none)
 
   pub next_lacks : (places : List (Option X)) (x : ℕ) (pieces : List ℕ) → HaveRoom places (x ∷ pieces) → LacksValue places x
   next_lacks places x pieces room = let v = next_is_vacant places x pieces room in lacks places x v.0 v.1
@@ -134,11 +129,7 @@ module _ {X : Type 0} where
   -- a value that is put moves its piece from those that come to those that are filled
   moved : (places : List (Option X)) (x : ℕ) (v : X) (pieces : List ℕ) → x < length places → filled places x ≡ 0 → (y : ℕ)
       → times y (x ∷ pieces) + filled places y ≡ times y pieces + filled (set places x (Some v)) y
-  moved places x v pieces below none y = elim (cases_eq y x) [
-    | inl e ↦ (let t = times_same y x pieces (sym e) in let f : filled (set places x (Some v)) y ≡ 1 = ap (filled (set places x (Some v))) e ∙ filled_set_same places x v below in
-        let g : filled places y ≡ 0 = ap (filled places) e ∙ none in omega arith)
-    | inr apart ↦ (let t = times_other y x pieces (λ e. apart (sym e)) in let f = filled_set_other places x y v apart in omega arith)
-  ]
+  moved places x v pieces below none y = grind (arith, common_steps, cases_eq, times_same, filled_set_same, none, times_other, filled_set_other)
 
   pub room_next : (places : List (Option X)) (x : ℕ) (v : X) (pieces : List ℕ) → HaveRoom places (x ∷ pieces) → HaveRoom (set places x (Some v)) pieces
   room_next places x v pieces room y =
@@ -171,19 +162,13 @@ module _ {X : Type 0} where
   AreAll places pieces = (x : ℕ) → times x pieces + filled places x ≡ once_below (length places) x
 
   pub all_at_first : (places : List (Option X)) (pieces : List ℕ) → places ≡ replicate (length places) None → HoldsNumbersBelow (length places) pieces → AreAll places pieces
-  all_at_first places pieces vacant holds x =
-      let t = holds x in
-      let f = filled_vacant places (length places) vacant x in omega arith
+  all_at_first places pieces vacant holds x = grind (arith, common_steps, filled_vacant)
 
   pub room_for_front : (places : List (Option X)) (front rest : List ℕ) → AreAll places (front ++ rest) → HaveRoom places front
   room_for_front places front rest all x = let a = all x in let t = times-append x front rest in omega arith
 
   pub all_after : (places : List (Option X)) (values : List (ℕ × X)) (rest : List ℕ) → AreAll places (numbers_of values ++ rest) → AreAll (placed places values) rest
-  all_after places values rest all x =
-      let a = all x in
-      let t = times-append x (numbers_of values) rest in
-      let m = moved_all places values (room_for_front places (numbers_of values) rest all) x in
-      let l = ap (λ k. once_below k x) (length-placed places values) in omega arith
+  all_after places values rest all x = grind (arith, common_steps, times-append, moved_all, room_for_front, length-placed)
 
   -- at the end no place is vacant
   pub none_vacant : (places : List (Option X)) (piece : ℕ) → AreAll places [] → position is_none places ≡ Some piece → ⊥
@@ -208,10 +193,7 @@ module _ {X : Type 0} where
   pub came_with : (places : List (Option X)) (values : List (ℕ × X)) (x : ℕ) (v : X) → slice_get (placed places values) x ≡ Some (Some v)
       → (slice_get places x ≡ Some (Some v)) ⊎ Member (x, v) values
   came_with places [] x v at = inl at
-  came_with places ((y, w) ∷ values) x v at = elim (came_with (set places y (Some w)) values x v at) [
-    | inl before ↦ elim (set_at places y x w v before) [ inl old ↦ inl old | inr now ↦ inr (inl now) ]
-    | inr m ↦ inr (inr m)
-  ]
+  came_with places ((y, w) ∷ values) x v at = grind (arith, common_steps, came_with (set places y (Some w)) values x v at, set_at)
 
   slice_get-map : (values : List X) (x : ℕ) (d : X) → x < length values → slice_get (map Some values) x ≡ Some (Some (get_or values x d))
   slice_get-map [] x d h = absurd (omega arith)

@@ -1,5 +1,6 @@
 -- What holds of the seats of all workers, and sums over what they have.
-use Rattle.std.proofs.Common.{◌≡◌, ℕ, ◌+◌, ◌≤◌, List, [], ◌∷◌, map, Ok, Err, Result, refl, ap, sym, ◌∙◌, arith}
+use Rattle.std.proofs.Common.{◌≡◌, ℕ, ◌+◌, ◌≤◌, List, [], ◌∷◌, map, Ok, Result, refl, ap, sym, ◌∙◌, arith}
+use Rattle.std.proofs.lemmas.Grind.{common_steps}
 use Rattle.std.specs.Prelude.{All, IfOk}
 use Rattle.std.specs.List.{flat_map, sum_by}
 use Rattle.std.proofs.lemmas.List.Elements.{All-cons, All-head, All-map, All-nil, All-same, All-tail}
@@ -19,8 +20,7 @@ module _ {V : Type 0} (P : SeatView → Type 0) where
   Ends share = IfOk share.values (λ _. P share.seat)
 
   ends_at : (seat : SeatView) (value : V) (values : Result V MineFault) → Ok value ≡ values → IfOk values (λ _. P seat) → P seat
-  ends_at seat value (Ok other) e h = h
-  ends_at seat value (Err fault) e h = absurd cc
+  ends_at h1 h2 h3 h4 h5 = grind (arith, common_steps)
 
   -- where each worker came to its end, it holds of each seat
   pub each_seat : (shares : List (WorkerResult V)) (done : List V) → map Ok done ≡ map (λ share. share.values) shares → All Ends shares → All P (map (λ share. share.seat) shares)

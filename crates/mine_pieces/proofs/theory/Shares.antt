@@ -1,5 +1,6 @@
 -- What the shares of all workers are together, where each has its values.
 use Rattle.std.proofs.Common.{◌≡◌, ℕ, ◌<◌, ◌≤◌, List, [], ◌∷◌, ◌++◌, map, length, replicate, Ok, Some, None, refl, ap, sym, ◌∙◌, subst, arith}
+use Rattle.std.proofs.lemmas.Grind.{common_steps}
 use Rattle.std.specs.Prelude.{All, Any, IfOk, IsPermutation, Vec}
 use Rattle.std.specs.Global.{Global}
 use Rattle.std.specs.List.{flat_map, range_with_len}
@@ -52,9 +53,7 @@ module _ {X : Type 0} (is_value : ℕ → X → Type 0) (parts : ℕ → List �
         (ended : Any (λ seat. 0 < seat.held.past) seats → count ≡ pieces) (claimed : IsPermutation (claimed_by seats) (range_with_len 0 count)) where
       -- where there is a worker, each piece was claimed
       pub all_claimed : IsPermutation (claimed_by seats) (range_with_len 0 pieces)
-      all_claimed =
-          subst (λ n. IsPermutation (claimed_by seats) (range_with_len 0 n))
-          (ended (subst (λ l. Any (λ (s : SeatView). 0 < s.held.past) l) (sym are) (some_ended shares lists some all says))) claimed
+      all_claimed = grind (arith, common_steps, some_ended)
 
       -- so the values have the numbers below a bound where the parts of all pieces are these
       pub hold_numbers : (bound : ℕ) → ((numbers : List ℕ) → IsPermutation numbers (range_with_len 0 pieces) → HoldsNumbersBelow bound (flat_map parts numbers))

@@ -1,11 +1,12 @@
 use Rattle.std.proofs.Common.{◌≡◌, ap, sym, ◌∙◌, subst, length, None, replicate, arith}
+use Rattle.std.proofs.lemmas.Grind.{common_steps}
 use Rattle.std.specs.List.{flat_map}
 use Rattle.std.specs.Vec.Iter.{into_iter_items}
 use Rattle.std.proofs.lemmas.List.{length-replicate, nil_from_length}
 use Rattle.mine_round.specs.Totals.{HoldsNumbersBelow}
 use Rattle.mine_pieces.specs.Placed.{placed}
 use Rattle.mine_pieces.specs.WorkerResult.{numbers_of}
-use Rattle.mine_pieces.proofs.theory.Placing.{AreAll, all_at_first, room_for_front, all_after, placed-append, none_vacant}
+use Rattle.mine_pieces.proofs.theory.Placing.{AreAll, all_at_first, all_after, placed-append, none_vacant}
 use Rattle.mine_pieces.proofs.placed.collected.Goals as goal
 
 pub loop-list-init : goal.loop-list-init
@@ -24,9 +25,7 @@ loop-list-init g c =
     }
 
 pub put_all-requires : goal.put_all-requires
-put_all-requires g c =
-    room_for_front c.loop-list.collector (numbers_of c.in-Some.list.items) (flat_map (λ list. numbers_of list.items) (into_iter_items c.next.new.self))
-    (subst (λ l. AreAll c.loop-list.collector (flat_map (λ list. numbers_of list.items) l)) c.in-Some.ensures.steps.0 c.loop-list.invariant.all)
+put_all-requires g c = grind (arith, common_steps)
 
 pub loop-list-preserved : goal.loop-list-preserved
 loop-list-preserved g c =

@@ -1,4 +1,5 @@
-use Rattle.std.proofs.Common.{◌≡◌, ◌<◌, ℕ, List, ap, subst, sym, ◌∙◌, arith, length, get_or}
+use Rattle.std.proofs.Common.{◌≡◌, ◌<◌, ℕ, List, ap, subst, sym, arith, length, get_or}
+use Rattle.std.proofs.lemmas.Grind.{common_steps}
 use Rattle.std.specs.Fn.{FnReturns}
 use Rattle.std.specs.List.{enumerate_from}
 use Rattle.std.proofs.lemmas.List.FromFn.{get_or-enumerate_from, length-enumerate_from}
@@ -8,10 +9,7 @@ use Rattle.mine_pieces.proofs.worker_result.by_workers.Goals as goal
 -- the worker at a place has its number, and the seat there
 worker_at : (workers : List (ℕ × SeatView)) (seats : List SeatView) → workers ≡ enumerate_from 0 seats → (place : ℕ) (worker : ℕ × SeatView) → place < length workers → worker ≡ get_or workers place worker
     → (worker.0 ≡ place) × (worker.1 ≡ get_or seats place worker.1)
-worker_at workers seats are place worker below is =
-    let short : place < length seats = omega (arith, below, ap length are, length-enumerate_from 0 seats) in
-    let e = is ∙ ap (λ l. get_or l place worker) are ∙ get_or-enumerate_from 0 seats place worker short in
-    (omega (arith, ap (λ w. w.0) e), ap (λ w. w.1) e)
+worker_at workers seats are place worker below is = grind (arith, common_steps, length-enumerate_from, get_or-enumerate_from)
 
 pub map_vec-requires-after_bounds : goal.map_vec-requires-after_bounds
 map_vec-requires-after_bounds g c κs within i x below is =
