@@ -133,6 +133,7 @@ fn command_line<'a>(alloc: Global) -> Result<Command<'a>, AllocError>
 }
 
 /// The command line without its commands.
+#[tactic(auto, using(std::proofs::lemmas::Grind::common_steps))]
 fn bare_line<'a>(alloc: Global) -> Result<Command<'a>, AllocError>
     ensures { IfOk result (λ command. app_of command ≡ bare_line) }
 {

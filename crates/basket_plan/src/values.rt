@@ -96,6 +96,7 @@ fn layout_in(options: &ArgMatches<'_>) -> Result<Layout, &'static str>
 }
 
 /// Where the file is from which an option takes bytes, or standard input.
+#[tactic(auto, using(std::proofs::lemmas::Grind::common_steps, crate::proofs::CommandLemmas::read_none))]
 pub fn origin_in(alloc: Global, name: &str, options: &ArgMatches<'_>) -> Result<Origin, AllocError>
     ensures { IfOk result (λ origin. origin ≡ origin_in name.now (rows_of (found_of options.now))) }
 {
@@ -167,6 +168,7 @@ fn sep_in(options: &ArgMatches<'_>) -> Option<u8>
     separator_of(text)
 }
 
+#[tactic(auto, using(std::proofs::lemmas::Grind::common_steps, crate::proofs::CommandLemmas::skips))]
 fn separator_of(text: &str) -> Option<u8>
     ensures found { result ≡ separator_of text.now }
     ensures in_range { IfSome result (λ sep. IsTrue (is_separator sep)) }
@@ -198,6 +200,7 @@ fn is_separator(byte: u8) -> bool
 }
 
 /// Whether the flag of a name is given.
+#[tactic(auto, using(std::proofs::lemmas::Grind::common_steps, crate::proofs::CommandLemmas::flag_some, crate::proofs::CommandLemmas::flag_none))]
 fn flag_in(name: &str, options: &ArgMatches<'_>) -> bool
     ensures { result ≡ flag_in name.now (rows_of (found_of options.now)) }
 {
@@ -208,6 +211,7 @@ fn flag_in(name: &str, options: &ArgMatches<'_>) -> bool
 }
 
 /// The number of the option of a name, from 1 to the greatest.
+#[tactic(auto, using(std::proofs::lemmas::Grind::common_steps, crate::proofs::CommandLemmas::number_none))]
 fn number_in(name: &str, most: u32, options: &ArgMatches<'_>) -> Option<u32>
     ensures found { result ≡ number_in name.now most (rows_of (found_of options.now)) }
     ensures in_range { IfSome result (λ number. (1 ≤ number) × (number ≤ most)) }

@@ -1,6 +1,6 @@
 use Rattle.std.proofs.Common.{arith}
 use Rattle.clap.specs.Words.{found_of}
-use Rattle.basket_plan.proofs.CommandLemmas.{number_none, number_out, number_some}
+use Rattle.basket_plan.proofs.CommandLemmas.{number_out, number_some}
 use Rattle.basket_plan.proofs.values.number_in.Goals as goal
 
 pub returns-in-Some-clause-found : goal.returns-in-Some-clause-found
@@ -14,6 +14,3 @@ returns-in_default-clause-found c = number_out (found_of c.args.options.now) c.a
 pub returns-in_default-2-clause-found : goal.returns-in_default-2-clause-found
 returns-in_default-2-clause-found c = number_out (found_of c.args.options.now) c.args.name.now c.args.most (omega (arith, c.ranges.most)) c.in-Some.number (λ text e. (c.in-Some.ensures.value text e).0)
     (λ least _. omega (arith, least, c.if-number-ge1.false))
-
-pub returns-in_default-3-clause-found : goal.returns-in_default-3-clause-found
-returns-in_default-3-clause-found c = number_none (found_of c.args.options.now) c.args.name.now c.args.most (omega (arith, c.ranges.most)) (λ text e. (c.in_default.ensures.value text e).1.0)

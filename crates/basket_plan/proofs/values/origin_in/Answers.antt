@@ -2,11 +2,8 @@ use Rattle.std.specs.Prelude.{codes}
 use Rattle.std.proofs.Common.{◌∙◌, ap, sym, Some}
 use Rattle.clap.specs.Words.{found_of}
 use Rattle.basket_plan.specs.Values.{origin_of}
-use Rattle.basket_plan.proofs.CommandLemmas.{read_none, read_some, skips}
+use Rattle.basket_plan.proofs.CommandLemmas.{read_some, skips}
 use Rattle.basket_plan.proofs.values.origin_in.Goals as goal
-
-pub returns-in-None : goal.returns-in-None
-returns-in-None c = c.standard.ensures ∙ read_none origin_of (found_of c.args.options.now) c.args.name.now c.get_str.result c.get_str.ensures c.in-None.is
 
 pub returns-in-Some-text : goal.returns-in-Some-text
 returns-in-Some-text c =
