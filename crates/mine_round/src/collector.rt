@@ -73,6 +73,7 @@ impl<T: Drop> Collector<T> {
     }
 
     /// The values by the numbers of their pieces.
+    #[tactic(auto, using(std::proofs::lemmas::Grind::common_steps, crate::proofs::Vacancies::none_vacant))]
     pub fn finish(self) -> Result<Vec<T>, Missing<T>>
         ensures values { IfOk result (λ values. map Some values.items ≡ self) }
         ensures missing { IfErr result (λ back. position is_none self ≡ Some back.piece) }

@@ -13,6 +13,7 @@ pub fn rounds_stay_lawful()
 
 /// The records of all seats determine the words: lawful states of one round with the same seats are
 /// the same.
+#[tactic(auto, using(std::proofs::lemmas::Grind::common_steps, crate::proofs::Runs::same_words))]
 pub fn records_tell_the_words()
     ensures { (m n : Machine) → Lawful m → Lawful n → IsOfRound m n → n.seats ≡ m.seats → n ≡ m }
 {}
@@ -20,6 +21,7 @@ pub fn records_tell_the_words()
 /// Each step on a round's words is an event: a lawful state whose seats are those after an event is the
 /// state after it. The rule of the words has them lawful after each step, and the contract of a step says
 /// what the seat's record becomes, which is what the event makes of it.
+#[tactic(auto, using(std::proofs::lemmas::Grind::common_steps, crate::proofs::Runs::same_after))]
 pub fn steps_are_events()
     ensures { (m n : Machine) (event : Event) → Lawful m → Lawful n → IsOfRound m n → n.seats ≡ (after m event).seats → n ≡ after m event }
 {}

@@ -80,6 +80,7 @@ impl Join<SeatState> for Merge {
 }
 
 /// Makes the words, and the seat that all others are cut from.
+#[tactic(auto, using(std::proofs::lemmas::Grind::common_steps, crate::proofs::Rule::opens))]
 pub fn open_words(
     alloc: Global,
     zeros: &[u64],
@@ -140,6 +141,7 @@ pub fn read_number(words: &Words, table_seat: &mut TableSeat, counter: usize) ->
 }
 
 /// Cuts one seat from a seat that has done nothing.
+#[tactic(auto, using(std::proofs::lemmas::Grind::common_steps, crate::proofs::Rule::splits))]
 pub fn cut_seat(words: &Words, table_seat: &mut TableSeat) -> TableSeat
     requires own { table_seat.old.table_id ≡ words.now.shared.table_id }
     requires sized { 0 < words.now.shared.table_id.words }
@@ -153,6 +155,7 @@ pub fn cut_seat(words: &Words, table_seat: &mut TableSeat) -> TableSeat
 }
 
 /// Joins a seat to another, which then has what both did.
+#[tactic(auto, using(std::proofs::lemmas::Grind::common_steps, crate::proofs::Rule::joins))]
 pub fn join_seat(words: &Words, table_seat: &mut TableSeat, other: TableSeat)
     requires own { (table_seat.old.table_id ≡ words.now.shared.table_id) × (other.table_id ≡ words.now.shared.table_id) }
     requires sized { 0 < words.now.shared.table_id.words }

@@ -5,11 +5,7 @@ use Rattle.mine_round.specs.declared.state.SeatState.{SeatState}
 use Rattle.mine_round.specs.declared.state.SeatState.TheVariants.{Holding}
 use Rattle.mine_round.specs.Record.{unused, with_one_part_less}
 use Rattle.mine_round.specs.Words.{record_in}
-use Rattle.mine_round.proofs.Rule.{splits}
 use Rattle.mine_round.proofs.words.cut_seat.Goals as goal
-
-pub split_seat-requires : goal.split_seat-requires
-split_seat-requires c = (c.requires.own, c.requires.sized, splits c.args.words.now.shared.key _ _ (ap (λ m. m.0) c.requires.unused) c.requires.more)
 
 pub returns : goal.returns
 returns c =

@@ -1,13 +1,8 @@
-use Rattle.std.proofs.Common.{ap, ◌∙◌, arith}
-use Rattle.std.proofs.lemmas.Grind.{common_steps}
+use Rattle.std.proofs.Common.{ap, ◌∙◌}
 use Rattle.mine_round.specs.declared.state.SeatState.TheVariants.{Holding}
 use Rattle.mine_round.specs.Record.{joined}
 use Rattle.mine_round.specs.Words.{record_in}
-use Rattle.mine_round.proofs.Rule.{joins}
 use Rattle.mine_round.proofs.words.join_seat.Goals as goal
-
-pub join_seat-requires : goal.join_seat-requires
-join_seat-requires c = grind (arith, common_steps, joins)
 
 pub returns : goal.returns
 returns c = record {
