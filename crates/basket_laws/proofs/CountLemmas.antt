@@ -1,11 +1,12 @@
 -- What is counted of some sets in parts, added up.
 use Rattle.std.proofs.Common.{◌≡◌, ◌∙◌, inl, inr, ℕ, ◌+◌, ◌++◌, Bool, true, false, cond, List, [], ◌∷◌, ap, ap₂, map, refl, sym, subst, arith}
+use Rattle.std.proofs.lemmas.Grind.{common_steps}
 use Rattle.std.specs.Prelude.{nat_eq, fold, ◌||◌, if◌then◌else◌}
 use Rattle.std.specs.Cmp.Lexicographic.{pointwise, bytes_decides}
 use Rattle.std.specs.List.{list_any, sum_by}
 use Rattle.std.proofs.lemmas.Bool.{false≢true}
-use Rattle.std.proofs.lemmas.List.Sums.{sum_by-append, sum_by-cons}
-use Rattle.basket_parts.specs.CombinedCounts.{count_in, has_set, is_of}
+use Rattle.std.proofs.lemmas.List.Sums.{sum_by-append}
+use Rattle.basket_parts.specs.CombinedCounts.{count_in, has_set}
 use Rattle.basket_read.specs.declared.counted_line.CountedLine.{CountedLine}
 use Rattle.basket_sets.specs.declared.counted.Counted.{Counted}
 use Rattle.basket_sets.specs.declared.weighted.Weighted.{Weighted}
@@ -34,12 +35,8 @@ any set sets = list_any (pointwise nat_eq set) sets
 
 pub any_from_Member : (set : List ℕ) (sets : List (List ℕ)) → Member set sets → any set sets ≡ true
 any_from_Member set [] m = absurd m
-any_from_Member set (x ∷ sets) (inl e) = subst (λ y. (pointwise nat_eq set y || any set sets) ≡ true) (sym e) (ap (λ b. b || any set sets) (itself set))
-any_from_Member set (x ∷ sets) (inr m) = later (pointwise nat_eq set x) (any_from_Member set sets m)
-  where
-    later : (b : Bool) → any set sets ≡ true → (b || any set sets) ≡ true
-    later true e = refl
-    later false e = e
+any_from_Member set (x ∷ sets) (inl e) = grind (arith, common_steps, itself)
+any_from_Member set (x ∷ sets) (inr m) = grind (arith, common_steps, any_from_Member set sets m)
 
 pub Member_from_any : (set : List ℕ) (sets : List (List ℕ)) → any set sets ≡ true → Member set sets
 Member_from_any set [] e = absurd (false≢true e)
@@ -50,16 +47,8 @@ Member_from_any set (x ∷ sets) e = go (pointwise nat_eq set x) refl e (Member_
     go false is h rest = inr (rest h)
 
 any_push : (set x : List ℕ) (sets : List (List ℕ)) → any set (sets ++ x ∷ []) ≡ (any set sets || pointwise nat_eq set x)
-any_push set x [] = last (pointwise nat_eq set x)
-  where
-    last : (b : Bool) → (b || false) ≡ b
-    last true = refl
-    last false = refl
-any_push set x (y ∷ sets) = go (pointwise nat_eq set y) (any_push set x sets)
-  where
-    go : (b : Bool) → any set (sets ++ x ∷ []) ≡ (any set sets || pointwise nat_eq set x) → (b || any set (sets ++ x ∷ [])) ≡ ((b || any set sets) || pointwise nat_eq set x)
-    go true e = refl
-    go false e = e
+any_push set x [] = grind (arith, common_steps)
+any_push set x (y ∷ sets) = grind (arith, common_steps, any_push set x sets)
 
 -- ---- counts by lines, and by sets with counts
 
@@ -71,10 +60,7 @@ has_among list set = list_any (λ c. pointwise nat_eq c.set set) list
 
 pub count_said : (lines : List CountedLine) (set : List ℕ) → count_in lines set ≡ count_among (map said_of lines) set
 count_said [] set = refl
-count_said (line ∷ lines) set =
-    sum_by-cons (λ (l : CountedLine). if is_of set l then l.count else 0) line lines
-    ∙ ap (λ n. (if pointwise nat_eq line.set set then line.count else 0) + n) (count_said lines set)
-    ∙ sym (sum_by-cons (λ (c : Counted). if pointwise nat_eq c.set set then c.count else 0) (said_of line) (map said_of lines))
+count_said (line ∷ lines) set = grind (arith, common_steps, count_said lines set)
 
 pub has_said : (lines : List CountedLine) (set : List ℕ) → has_set lines set ≡ has_among (map said_of lines) set
 has_said [] set = refl
@@ -88,12 +74,8 @@ module _ (part : List Weighted) (set : List ℕ) where
 
   count_push : (sets : List (List ℕ)) (x : List ℕ) → count_among (map (counted part) (sets ++ x ∷ [])) set
       ≡ count_among (map (counted part) sets) set + cond (pointwise nat_eq x set) (support_of part x) 0
-  count_push [] x = sum_by-cons (λ (c : Counted). if pointwise nat_eq c.set set then c.count else 0) (counted part x) [] ∙ omega arith
-  count_push (y ∷ sets) x =
-      let rest = count_push sets x in
-      let front = sum_by-cons (λ (c : Counted). if pointwise nat_eq c.set set then c.count else 0) (counted part y) (map (counted part) (sets ++ x ∷ [])) in
-      let back = sum_by-cons (λ (c : Counted). if pointwise nat_eq c.set set then c.count else 0) (counted part y) (map (counted part) sets) in
-      omega (arith, rest, front, back)
+  count_push [] x = grind (arith, common_steps)
+  count_push (y ∷ sets) x = grind (arith, common_steps, count_push sets x)
 
   once_push : (sets : List (List ℕ)) (x : List ℕ) → any x sets ≡ false → IsOnce sets → IsOnce (sets ++ x ∷ [])
   once_push sets x new once = go (pointwise nat_eq x set) refl
@@ -125,11 +107,7 @@ module _ (part : List Weighted) (set : List ℕ) where
           plus_none n = omega arith
 
   once_with : (sets : List (List ℕ)) (x : List ℕ) → IsOnce sets → IsOnce (with_set sets x)
-  once_with sets x once = go (any x sets) refl
-    where
-      go : (b : Bool) → any x sets ≡ b → IsOnce (if b then sets else sets ++ x ∷ [])
-      go true is = once
-      go false is = once_push sets x is once
+  once_with sets x once = grind (arith, common_steps, once_push)
 
   once_folded : (sets more : List (List ℕ)) → IsOnce sets → IsOnce (fold with_set sets more)
   once_folded sets [] once = once
@@ -162,16 +140,8 @@ any_with set sets x = go (any x sets) refl
     go false e = any_push set x sets
 
 any_folded : (set : List ℕ) (sets more : List (List ℕ)) → any set (fold with_set sets more) ≡ (any set sets || any set more)
-any_folded set sets [] = same (any set sets)
-  where
-    same : (b : Bool) → b ≡ (b || false)
-    same true = refl
-    same false = refl
-any_folded set sets (x ∷ more) = any_folded set (with_set sets x) more ∙ ap (λ b. b || any set more) (any_with set sets x) ∙ moved (any set sets)
-  where
-    moved : (b : Bool) → ((b || pointwise nat_eq set x) || any set more) ≡ (b || (pointwise nat_eq set x || any set more))
-    moved true = refl
-    moved false = refl
+any_folded set sets [] = grind (arith, common_steps)
+any_folded set sets (x ∷ more) = grind (arith, common_steps, any_folded set (with_set sets x) more, any_with)
 
 -- a set is asked for where it is empty, or one of the sets
 pub any_asked : (set : List ℕ) (sets : List (List ℕ)) → any set (asked_of sets) ≡ any set ([] ∷ sets)
@@ -184,41 +154,17 @@ among_append a b set = sum_by-append (λ (c : Counted). if pointwise nat_eq c.se
 
 has_append : (a b : List Counted) (set : List ℕ) → has_among (a ++ b) set ≡ (has_among a set || has_among b set)
 has_append [] b set = refl
-has_append (c ∷ a) b set = go (pointwise nat_eq c.set set) (has_append a b set)
-  where
-    go : (d : Bool) → has_among (a ++ b) set ≡ (has_among a set || has_among b set) → (d || has_among (a ++ b) set) ≡ ((d || has_among a set) || has_among b set)
-    go true e = refl
-    go false e = e
+has_append (c ∷ a) b set = grind (arith, common_steps, has_append a b set)
 
 pub parts_add_up : (parts : List (List Weighted)) (sets : List (List ℕ)) (set : List ℕ)
     → count_among (counts_of_parts parts sets) set ≡ cond (any set (asked_of sets)) (support_of (whole_of parts) set) 0
-parts_add_up [] sets set = none (any set (asked_of sets))
-  where
-    none : (b : Bool) → count_among [] set ≡ cond b (support_of [] set) 0
-    none true = refl
-    none false = refl
-parts_add_up (part ∷ parts) sets set =
-    among_append (map (counted part) (asked_of sets)) (counts_of_parts parts sets) set
-    ∙ ap₂ (λ m n. m + n) (asked_once part set sets) (parts_add_up parts sets set)
-    ∙ both (any set (asked_of sets))
-    ∙ ap (λ n. cond (any set (asked_of sets)) n 0) (sym (support-append part (whole_of parts) set))
-  where
-    both : (b : Bool) → cond b (support_of part set) 0 + cond b (support_of (whole_of parts) set) 0 ≡ cond b (support_of part set + support_of (whole_of parts) set) 0
-    both true = refl
-    both false = refl
+parts_add_up [] sets set = grind (arith, common_steps)
+parts_add_up (part ∷ parts) sets set = grind (arith, common_steps, parts_add_up parts sets set, among_append, asked_once, support-append)
 
 pub has_from_parts : (parts : List (List Weighted)) (sets : List (List ℕ)) (set : List ℕ) → has_among (counts_of_parts parts sets) set ≡ true → any set (asked_of sets) ≡ true
 has_from_parts [] sets set e = absurd (false≢true e)
-has_from_parts (part ∷ parts) sets set e =
-    go (any set (asked_of sets)) (has_from_parts parts sets set)
-    (sym (has_append (map (counted part) (asked_of sets)) (counts_of_parts parts sets) set ∙ ap (λ b. b || has_among (counts_of_parts parts sets) set) (has_mapped part set (asked_of sets))) ∙ e)
-  where
-    go : (b : Bool) → (has_among (counts_of_parts parts sets) set ≡ true → b ≡ true) → (b || has_among (counts_of_parts parts sets) set) ≡ true → b ≡ true
-    go true rest h = refl
-    go false rest h = rest h
+has_from_parts (part ∷ parts) sets set e = grind (arith, common_steps, has_from_parts parts sets set, has_append, has_mapped)
 
 pub has_in_parts : (part : List Weighted) (parts : List (List Weighted)) (sets : List (List ℕ)) (set : List ℕ) → any set (asked_of sets) ≡ true
     → has_among (counts_of_parts (part ∷ parts) sets) set ≡ true
-has_in_parts part parts sets set e =
-    has_append (map (counted part) (asked_of sets)) (counts_of_parts parts sets) set
-    ∙ ap (λ b. b || has_among (counts_of_parts parts sets) set) (has_mapped part set (asked_of sets) ∙ e)
+has_in_parts part parts sets set e = grind (arith, common_steps, has_append, has_mapped)

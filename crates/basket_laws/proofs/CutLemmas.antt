@@ -1,10 +1,9 @@
 -- FIMI texts that are cut after line feeds.
-use Rattle.std.proofs.Common.{◌≡◌, ◌∙◌, ◌≤◌, ◌++◌, ℕ, Bool, true, false, cond, List, [], ◌∷◌, Option, Some, None, Result, Ok, Err, ap, arith, drop, length, refl, subst, sym, take}
+use Rattle.std.proofs.Common.{◌≡◌, ◌∙◌, ◌≤◌, ◌++◌, ℕ, Bool, true, false, cond, List, [], ◌∷◌, Option, Some, None, Result, Ok, Err, ap, arith, length, refl, subst, sym, take}
+use Rattle.std.proofs.lemmas.Grind.{common_steps}
 use Rattle.std.specs.Prelude.{◌&&◌, nat_eq, nat_le, nat_lt}
-use Rattle.std.specs.Cmp.Lexicographic.{pointwise}
 use Rattle.std.specs.List.{flat_map, starts_with}
 use Rattle.std.specs.Option.{option_map}
-use Rattle.std.proofs.lemmas.Bool.{false≢true}
 use Rattle.std.proofs.lemmas.Bool.Decides.{nat_tests}
 use Rattle.std.proofs.lemmas.List.{append_assoc, append-nil, length-append, take_all}
 use Rattle.std.proofs.lemmas.List.Sums.{fold-append}
@@ -21,17 +20,14 @@ use Rattle.basket_sets.proofs.theory.Support.{support-append}
 use Rattle.basket_laws.specs.Cuts.{CutsAreParts, text_cut, with_line_feed}
 
 both : (a b : Bool) → (a && b) ≡ true → (a ≡ true) × (b ≡ true)
-both true b e = (refl, e)
-both false b e = absurd (false≢true e)
+both h1 h2 h3 = grind (arith, common_steps)
 
 -- a front ends a line
 ends : (front : List ℕ) → (cut_at is_line_feed (with_line_feed front)).last ≡ []
 ends front = ap (λ (c : Cut). c.last) (fold-append (cut_more is_line_feed) (record { ended = []; last = [] }) front (10 ∷ []))
 
 none_of_both : (first second : Option ReadFault) (counted : ReadFault → ReadFault) → or_else first (option_map counted second) ≡ None → (first ≡ None) × (second ≡ None)
-none_of_both (Some fault) second counted e = absurd cc
-none_of_both None (Some fault) counted e = absurd cc
-none_of_both None None counted e = (refl, refl)
+none_of_both h1 h2 h3 h4 = grind (arith, common_steps)
 
 -- ---- the mark
 
@@ -41,12 +37,10 @@ record HasText (front : List ℕ) : Type 0 where
   before : (rest : List ℕ) → text_of (with_line_feed front ++ rest) ≡ with_line_feed text ++ rest
 
 and_false : (b : Bool) → (b && false) ≡ false
-and_false true = refl
-and_false false = refl
+and_false h1 = grind (arith, common_steps)
 
 chosen : (bytes other : List ℕ) (b : Bool) → b ≡ false → cond b other bytes ≡ bytes
-chosen bytes other true e = absurd (false≢true (sym e))
-chosen bytes other false e = refl
+chosen h1 h2 h3 h4 = grind (arith, common_steps)
 
 has_text : (front : List ℕ) → HasText front
 has_text [] = record { text = []; alone = refl; before = λ rest. refl }
@@ -77,17 +71,7 @@ has_text (a ∷ b ∷ c ∷ front) = go (starts_with nat_eq (a ∷ b ∷ c ∷ [
 module _ (prefixes_are_good : PrefixesAreGood is_good) (good_is_faultless : GoodIsFaultless is_good fault_at) (lines_say_theirs : LinesSayTheirs) where
   -- a good text has no mark
   unmarked : (bytes : List ℕ) → is_good bytes ≡ true → text_of bytes ≡ bytes
-  unmarked [] good = refl
-  unmarked (byte ∷ bytes) good = go (starts_with nat_eq (byte ∷ bytes) MARK) refl
-    where
-      first : starts_with nat_eq (byte ∷ bytes) MARK ≡ true → byte ≡ 239
-      first e =
-          let q : nat_eq 239 byte ≡ true = (both (nat_eq 239 byte) (pointwise nat_eq (187 ∷ 191 ∷ []) (take 2 bytes)) e).0 in
-          grind (arith, nat_tests, q)
-
-      go : (m : Bool) → starts_with nat_eq (byte ∷ bytes) MARK ≡ m → cond m (drop 3 (byte ∷ bytes)) (byte ∷ bytes) ≡ byte ∷ bytes
-      go false is = refl
-      go true is = absurd (false≢true (subst (λ b. is_good (b ∷ []) ≡ true) (first is) (prefixes_are_good (byte ∷ []) bytes good)))
+  unmarked h1 h2 = grind (arith, common_steps)
 
   -- ---- inputs
 
@@ -129,8 +113,7 @@ module _ (prefixes_are_good : PrefixesAreGood is_good) (good_is_faultless : Good
       let none : first_fault (text_of (take MOST_BYTES bytes)) ≡ None = ap (λ b. first_fault (text_of b)) (take_all MOST_BYTES bytes few) ∙ (good_is_faultless (text_of bytes)).0 good in
       let short : nat_lt MOST_BYTES (length bytes) ≡ false = grind (arith, nat_tests, few) in
       let weighs : nat_le (total_of (baskets_of (text_of bytes))) MOST_WEIGHT ≡ true = grind (arith, nat_tests, light) in
-      (λ i. answer_of (or_else (none i) (cond (short i) (Some TooLong) None)) (baskets_of (text_of bytes)))
-      ∙ ap (λ b. cond b (Ok (baskets_of (text_of bytes))) (Err Heavy)) weighs
+      grind (arith, common_steps)
 
   record Halves (front rest : List ℕ) (baskets : List Weighted) : Type 0 where
     first : List Weighted

@@ -1,16 +1,16 @@
 -- Parts of baskets of names.
-use Rattle.std.proofs.Common.{◌≡◌, ◌≢◌, ◌∙◌, ℕ, Bool, true, false, cond, List, [], ◌∷◌, ◌++◌, ap, fold, map, refl, subst, sym}
+use Rattle.std.proofs.Common.{◌≡◌, ◌∙◌, ℕ, Bool, true, List, [], ◌∷◌, ◌++◌, ap, fold, refl, sym, arith}
+use Rattle.std.proofs.lemmas.Grind.{common_steps}
 use Rattle.std.specs.List.{flat_map, list_all, list_any}
 use Rattle.std.specs.Str.{bytes_eq}
-use Rattle.std.specs.Prelude.{◌&&◌, ◌||◌}
-use Rattle.std.proofs.lemmas.Bool.{and_parts, and_from, or_left, or_right}
+use Rattle.std.proofs.lemmas.Bool.{and_parts, and_from, or_right}
 use Rattle.std.proofs.lemmas.List.Concat.{flat_map-append}
 use Rattle.std.proofs.lemmas.List.Folds.{list_all-append, list_any-append}
 use Rattle.std.proofs.lemmas.List.Sums.{fold-append}
 use Rattle.std.proofs.lemmas.Slice.Eq.{bytes_eq-Decides}
 use Rattle.basket_csv.specs.Csv.{all_names, basket_of, baskets_in, names_in}
 use Rattle.basket_names.specs.Names.{in_order, with_name}
-use Rattle.basket_laws.specs.Names.{NamedPartsAreParts, all_records, named_parts, names_of_parts}
+use Rattle.basket_laws.specs.Names.{NamedPartsAreParts, all_records, named_parts}
 use Rattle.basket_laws.specs.Parts.{whole_of}
 
 -- a name is among some names, and each of some is
@@ -34,11 +34,7 @@ nothing_new names (name ∷ list) e =
 
 -- a name stays among the names as they grow
 stays_with : (names : List (List ℕ)) (other name : List ℕ) → among names name ≡ true → among (with_name names other) name ≡ true
-stays_with names other name e = go (among names other)
-  where
-    go : (b : Bool) → among (cond b names (names ++ other ∷ [])) name ≡ true
-    go true = e
-    go false = list_any-append (bytes_eq name) names (other ∷ []) ∙ or_left (among names name) (among (other ∷ []) name) e
+stays_with names other name e = grind (arith, common_steps)
 
 stays : (names list : List (List ℕ)) (name : List ℕ) → among names name ≡ true → among (fold with_name names list) name ≡ true
 stays names [] name e = e
@@ -48,25 +44,16 @@ itself : (name : List ℕ) → bytes_eq name name ≡ true
 itself name = (bytes_eq-Decides name name).1 refl
 
 added : (names : List (List ℕ)) (name : List ℕ) → among (with_name names name) name ≡ true
-added names name = go (among names name) refl
-  where
-    go : (b : Bool) → among names name ≡ b → among (cond b names (names ++ name ∷ [])) name ≡ true
-    go true e = e
-    go false e = list_any-append (bytes_eq name) names (name ∷ []) ∙ or_right (among names name) (among (name ∷ []) name) (ap (λ b. b || false) (itself name))
+added names name = grind (arith, common_steps, list_any-append, or_right, itself)
 
 -- each of the names that are put in order is among them
 all_there : (names list : List (List ℕ)) → all_among (fold with_name names list) list ≡ true
 all_there names [] = refl
-all_there names (name ∷ list) = and_from (among (fold with_name (with_name names name) list) name) (all_among (fold with_name (with_name names name) list) list)
-    (stays (with_name names name) list name (added names name)) (all_there (with_name names name) list)
+all_there names (name ∷ list) = grind (arith, common_steps, all_there (with_name names name) list, and_from, stays, added)
 
 -- names in order are so already
 in_order_with : (names : List (List ℕ)) (name : List ℕ) → in_order names ≡ names → in_order (with_name names name) ≡ with_name names name
-in_order_with names name e = go (among names name) refl
-  where
-    go : (b : Bool) → among names name ≡ b → in_order (cond b names (names ++ name ∷ [])) ≡ cond b names (names ++ name ∷ [])
-    go true new = e
-    go false new = fold-append with_name [] names (name ∷ []) ∙ ap (λ ns. with_name ns name) e ∙ ap (λ b. cond b names (names ++ name ∷ [])) new
+in_order_with names name e = grind (arith, common_steps)
 
 in_order_again : (names list : List (List ℕ)) → in_order names ≡ names → in_order (fold with_name names list) ≡ fold with_name names list
 in_order_again names [] e = e
@@ -77,9 +64,7 @@ in_order_again names (name ∷ list) e = in_order_again (with_name names name) l
 module _ (weighted : Bool) (names : List (List ℕ)) (ordered : in_order names ≡ names) where
   -- records whose names are all known
   of_known : (rows : List (List (List ℕ))) → all_among names (all_names weighted rows) ≡ true → baskets_in weighted names rows ≡ flat_map (basket_of weighted names) rows
-  of_known rows there =
-      ap (λ ns. flat_map (basket_of weighted ns) rows)
-      (fold-append with_name [] names (all_names weighted rows) ∙ ap (λ ns. fold with_name ns (all_names weighted rows)) ordered ∙ nothing_new names (all_names weighted rows) there)
+  of_known rows there = grind (arith, common_steps, fold-append, nothing_new)
 
   of_parts : (parts : List (List (List (List ℕ)))) → all_among names (all_names weighted (all_records parts)) ≡ true
       → whole_of (named_parts weighted names parts) ≡ flat_map (basket_of weighted names) (all_records parts)
@@ -93,5 +78,4 @@ module _ (weighted : Bool) (names : List (List ℕ)) (ordered : in_order names �
       ∙ sym (flat_map-append (basket_of weighted names) rows (all_records parts))
 
 pub named_parts_are_parts : NamedPartsAreParts
-named_parts_are_parts weighted parts =
-    of_parts weighted (names_of_parts weighted parts) (in_order_again [] (all_names weighted (all_records parts)) refl) parts (all_there [] (all_names weighted (all_records parts)))
+named_parts_are_parts weighted parts = grind (arith, common_steps, of_parts, in_order_again, all_there)

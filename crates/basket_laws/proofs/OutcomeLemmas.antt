@@ -1,29 +1,26 @@
 -- Questions to counts of parts.
-use Rattle.std.proofs.Common.{◌≡◌, ◌≢◌, ◌∙◌, inl, inr, ◌≤◌, ◌-◌, ℕ, Bool, true, false, cond, List, [], ◌∷◌, Option, Some, None, Ok, Err, ap, ap₂, arith, length, map, refl, subst, sym}
-use Rattle.std.specs.Prelude.{All, IsTrue, ◌&&◌, ◌||◌, find, nat_lt, not, option_map}
+use Rattle.std.proofs.Common.{◌≡◌, ◌≢◌, ◌∙◌, inl, inr, ◌≤◌, ◌-◌, ℕ, Bool, true, false, cond, List, [], ◌∷◌, Option, Some, None, Ok, ap, ap₂, arith, length, map, refl, subst, sym}
+use Rattle.std.proofs.lemmas.Grind.{common_steps}
+use Rattle.std.specs.Prelude.{All, IsTrue, ◌||◌, find, nat_lt}
 use Rattle.std.specs.List.{Contains, list_any}
 use Rattle.std.proofs.lemmas.Bool.Decides.{nat_tests}
 use Rattle.std.proofs.lemmas.List.Elements.{recursion_from_All}
-use Rattle.basket_outcome.specs.Counted.{gap_in, listing_in, needs_subsets, needs_total, unless_fault}
-use Rattle.basket_outcome.specs.Contents.{by_names, by_numbers, named_combined_of, with_names, wording_with}
+use Rattle.basket_outcome.specs.Counted.{listing_in}
+use Rattle.basket_outcome.specs.Contents.{by_names, by_numbers, named_combined_of, with_names}
 use Rattle.basket_outcome.specs.declared.contents.Contents.TheVariants as contents
 use Rattle.basket_outcome.specs.Outcome.{report_of_listing, report_of_baskets, of_listing, of_mining, outcome, outcome_for, outcome_of}
-use Rattle.mine_limit.specs.declared.fault.MineFault.TheVariants.{TooMany}
 use Rattle.basket_core.specs.Listing.{Listing}
 use Rattle.basket_counts.specs.Counts.{counts_of}
 use Rattle.basket_counts.specs.Laws.{lines_from}
 use Rattle.basket_csv.specs.Counts.{named_counts_of}
 use Rattle.basket_parts.specs.Gap.{first_gap, has_gap, is_gap}
 use Rattle.basket_parts.specs.Laws.{CombiningKeepsCounts, CombiningKeepsFrequent, CombiningKeepsSets}
-use Rattle.basket_parts.specs.CombinedCounts.{count_if, count_in, frequent_in, has_set, is_heavy, line_for, sets_of, combined, combined_of, total_in}
+use Rattle.basket_parts.specs.CombinedCounts.{count_if, count_in, frequent_in, has_set, combined, combined_of, total_in}
 use Rattle.basket_plan.specs.declared.plan.Ask.{Ask}
-use Rattle.basket_plan.specs.declared.plan.Ask.TheVariants.{Items, Sets, Closed, Maximal, Rules}
 use Rattle.basket_plan.specs.Plan.{Question}
 use Rattle.basket_read.specs.declared.counted_line.CountedLine.{CountedLine}
-use Rattle.basket_read.specs.declared.fault.ReadFault.TheVariants.{Heavy, NoTotal}
 use Rattle.basket_read.specs.Fimi.{MOST_BYTES}
 use Rattle.basket_read.specs.Fault.{result_and_then}
-use Rattle.basket_report.specs.Report.{report_of, rules_report_of}
 use Rattle.basket_rules.proofs.theory.Condensed.{list_decides_closed, list_decides_maximal}
 use Rattle.basket_rules.proofs.theory.Rules.{list_decides_rules}
 use Rattle.basket_sets.specs.declared.counted.Counted.{Counted}
@@ -69,11 +66,7 @@ module _ (whole : List Weighted) (question : Question) where
   listing = record { sets = frequent_of whole question.minimum; total = total_of whole }
 
   same_text : (names : Option (List (List ℕ))) (ask : Ask) → question.ask ≡ ask → report_of_listing listing names question ≡ report_of_baskets whole names question
-  same_text names Items is = rw is refl
-  same_text names Sets is = rw is refl
-  same_text names Closed is = rw is (ap (λ sets. cond (nat_lt question.limit (length (frequent_of whole question.minimum))) (Err (TooMany question.limit)) (Ok (report_of (wording_with question.layout.separator names) sets))) (sym (list_decides_closed whole question.minimum)))
-  same_text names Maximal is = rw is (ap (λ sets. cond (nat_lt question.limit (length (frequent_of whole question.minimum))) (Err (TooMany question.limit)) (Ok (report_of (wording_with question.layout.separator names) sets))) (sym (list_decides_maximal whole question.minimum)))
-  same_text names (Rules confidence) is = rw is (ap (λ rules. cond (nat_lt question.limit (length (frequent_of whole question.minimum))) (Err (TooMany question.limit)) (Ok (rules_report_of (wording_with question.layout.separator names) rules))) (sym (list_decides_rules whole question.minimum confidence)))
+  same_text h1 h2 h3 = grind (arith, common_steps, list_decides_closed, list_decides_maximal, list_decides_rules)
 
 -- ---- counts of parts
 
@@ -109,11 +102,7 @@ module _
       go false = omega arith
 
   not_heavy : combined_of lines ≡ Ok (combined lines)
-  not_heavy =
-      let none = none_any is_heavy (combined lines) (λ line m.
-      let p = Member-from_map (line_for lines) line (sets_of lines) m in
-      subst (λ (l : CountedLine). is_heavy l ≡ false) p.2 (not_below MOST_WEIGHT (count_in lines p.0) (let most = at_most_all p.0 in omega (arith, most, light)))) in
-      ap (λ b. cond b (Err Heavy) (Ok (combined lines))) none
+  not_heavy = grind (arith, common_steps, none_any, Member-from_map, not_below, at_most_all)
 
   -- no set has a gap
   no_gap : (c : Counted) → Member c (frequent_of whole minimum) → has_gap (combined lines) c.set ≡ false
@@ -137,9 +126,7 @@ module _
   same_sets = keeps_frequent lines minimum ∙ same_list parts share sets lines rise listed said
 
   whole_lines : first_gap (combined lines) minimum ≡ None
-  whole_lines =
-      ap (option_map _) (none_found (λ (c : Counted). has_gap (combined lines) c.set) (frequent_in (combined lines) minimum)
-      (λ c m. no_gap c (subst (Member c) same_sets m)))
+  whole_lines = grind (arith, common_steps, none_found, no_gap, Member, same_sets)
 
   same_total : total_in (combined lines) ≡ total_of whole
   same_total = keeps_counts lines [] ∙ total_is parts share sets lines rise listed said
@@ -149,23 +136,7 @@ module _
     asked = of_counts_at question share
 
     same_listing : listing_in asked (combined lines) ≡ Ok (listing whole asked)
-    same_listing =
-        let there : has_set (combined lines) [] ≡ true = keeps_sets lines [] ∙ in_lines [] (any_asked [] sets) in
-        ap (λ b. cond (needs_total question.ask minimum && not b) (Err NoTotal) (unless_fault (gap_in asked (combined lines)) (record { sets = frequent_in (combined lines) minimum; total = total_in (combined lines) }))) there
-        ∙ no_total (needs_total question.ask minimum)
-        ∙ (λ i. unless_fault (none i) (record { sets = same_sets i; total = same_total i }))
-      where
-        no_total : (b : Bool) → cond (b && false) (Err NoTotal) (unless_fault (gap_in asked (combined lines)) (record { sets = frequent_in (combined lines) minimum; total = total_in (combined lines) }))
-            ≡ unless_fault (gap_in asked (combined lines)) (record { sets = frequent_in (combined lines) minimum; total = total_in (combined lines) })
-        no_total true = refl
-        no_total false = refl
-
-        none_where : (b : Bool) → cond b (first_gap (combined lines) minimum) None ≡ None
-        none_where true = whole_lines
-        none_where false = refl
-
-        none : gap_in asked (combined lines) ≡ None
-        none = none_where (needs_subsets question.ask)
+    same_listing = let there : has_set (combined lines) [] ≡ true = keeps_sets lines [] ∙ in_lines [] (any_asked [] sets) in grind (arith, common_steps, same_sets, same_total, whole_lines)
 
     answers : (bytes : List ℕ) → counts_of bytes ≡ Ok lines → outcome bytes asked ≡ outcome_for (contents.Baskets whole None) asked
     answers bytes read =

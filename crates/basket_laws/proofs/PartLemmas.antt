@@ -1,10 +1,10 @@
 -- Parts, counted apart and put together.
-use Rattle.std.proofs.Common.{◌≡◌, ◌≢◌, ◌∙◌, ◌⊎◌, inl, inr, ℕ, Bool, true, false, cond, List, [], ◌∷◌, ap, ap₂, arith, filter, length, map, refl, suc, sym, subst}
+use Rattle.std.proofs.Common.{◌≡◌, ◌≢◌, ◌∙◌, ◌⊎◌, inl, inr, ℕ, Bool, true, cond, List, [], ◌∷◌, ap, ap₂, arith, filter, length, map, refl, sym, subst}
+use Rattle.std.proofs.lemmas.Grind.{common_steps}
 use Rattle.std.specs.Prelude.{All, IsTrue, ◌&&◌, ◌==◌, not}
 use Rattle.std.specs.List.{Contains}
 use Rattle.std.specs.List.Sorted.{IsStrictlySortedBy}
 use Rattle.std.proofs.lemmas.Bool.{false≢true}
-use Rattle.std.proofs.lemmas.Bool.Decides.{nat_tests}
 use Rattle.std.proofs.lemmas.List.Elements.{All-from_recursion, recursion_from_All}
 use Rattle.std.proofs.lemmas.List.Kept.{IsStrictlySortedBy-filter}
 use Rattle.basket_parts.specs.CombinedCounts.{count_in, counted_in, frequent_in, has_set, is_frequent_in, sets_of, total_in}
@@ -27,18 +27,13 @@ use Rattle.basket_laws.proofs.ShareLemmas.{some_part_has_it}
 use Rattle.mine_sets.specs.Asked.{asked_of}
 
 both : (a b : Bool) → (a && b) ≡ true → (a ≡ true) × (b ≡ true)
-both true b e = (refl, e)
-both false b e = absurd (false≢true e)
+both h1 h2 h3 = grind (arith, common_steps)
 
 some_items : (set : List ℕ) → not (length set == 0) ≡ true → set ≢ []
 some_items set e none = false≢true (sym (ap (λ s. not (length s == 0)) none) ∙ e)
 
 has_items : (set : List ℕ) → set ≢ [] → not (length set == 0) ≡ true
-has_items [] some = absurd (some refl)
-has_items (item ∷ set) some = not_none (length set)
-  where
-    not_none : (n : ℕ) → not (suc n == 0) ≡ true
-    not_none n = grind (arith, nat_tests)
+has_items h1 h2 = grind (arith, common_steps)
 
 sets_of_counted : (lines : List CountedLine) (sets : List (List ℕ)) → map (λ (c : Counted). c.set) (map (counted_in lines) sets) ≡ sets
 sets_of_counted lines [] = refl
@@ -89,9 +84,7 @@ module _
       ((asked_rises set some there, some), sym (met_is set there) ∙ tests.1, count_of_asked set there)
 
   sound : (c : Counted) → Member c (frequent_in lines minimum) → IsSound c
-  sound c m =
-      let p = Member-from_map (counted_in lines) c (filter (is_frequent_in lines minimum) (sets_of lines)) m in
-      subst IsSound p.2 (set_sound p.0 p.1)
+  sound c m = grind (arith, common_steps, Member-from_map, set_sound)
 
   in_lines : (set : List ℕ) → IsTrue (is_frequent_in_some parts minimum set) → any set (asked_of sets) ≡ true → has_set lines set ≡ true
   in_lines set some there = has_is set ∙ go parts some
@@ -102,9 +95,7 @@ module _
 
   -- a frequent set of the whole is asked for
   pub frequent_is_asked : (set : List ℕ) → IsNonemptySet set → IsTrue (is_frequent whole minimum set) → any set (asked_of sets) ≡ true
-  frequent_is_asked set nonempty met =
-      let some = some_part_has_it parts share set met in
-      any_asked set sets ∙ any_from_Member set ([] ∷ sets) (inr (Member-from_Contains set sets (listed set nonempty some)))
+  frequent_is_asked set nonempty met = grind (arith, common_steps, some_part_has_it, any_asked, any_from_Member, Member-from_Contains)
 
   complete : (set : List ℕ) → IsNonemptySet set → IsTrue (is_frequent whole minimum set) → Contains (frequent_in lines minimum) (counted whole set)
   complete set nonempty met =

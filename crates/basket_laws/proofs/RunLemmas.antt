@@ -1,10 +1,11 @@
 -- Runs over the parts of an input, and over the whole.
-use Rattle.std.proofs.Common.{◌≡◌, ◌≢◌, ◌∙◌, ◌≤◌, ◌++◌, ℕ, List, [], ◌∷◌, None, Result, Ok, Err, ap, ap₂, length, map, refl, subst, sym}
+use Rattle.std.proofs.Common.{◌≡◌, ◌≢◌, ◌∙◌, ◌≤◌, ◌++◌, ℕ, List, [], ◌∷◌, None, Result, Ok, Err, ap, ap₂, length, map, refl, subst, sym, arith}
+use Rattle.std.proofs.lemmas.Grind.{common_steps}
 use Rattle.std.specs.List.{flat_map}
 use Rattle.basket_outcome.specs.declared.fault.RunFault.{RunFault}
 use Rattle.basket_outcome.specs.declared.contents.Contents.TheVariants as contents
-use Rattle.basket_outcome.specs.Contents.{by_numbers, with_names}
-use Rattle.basket.specs.Count.{count_outcome, of_asked, of_contents}
+use Rattle.basket_outcome.specs.Contents.{by_numbers}
+use Rattle.basket.specs.Count.{count_outcome}
 use Rattle.basket_outcome.specs.Outcome.{outcome, outcome_for, outcome_of}
 use Rattle.basket_counts.specs.Counts.{sets_of_bytes}
 use Rattle.basket_parts.specs.Laws.{CombiningKeepsCounts, CombiningKeepsFrequent, CombiningKeepsSets}
@@ -42,8 +43,7 @@ others_of (x ∷ xs) = xs
 -- what is counted over a part is written
 module _ (layout : Layout) (asked : List ℕ) (sets : List (List ℕ)) (read : sets_of_bytes asked ≡ Ok sets) where
   of_part : (bytes : List ℕ) (part : List Weighted) → fimi_of bytes ≡ Ok part → count_outcome (in_form Fimi layout) asked bytes ≡ Ok (report_of Numbered (map (counted part) (asked_of sets)))
-  of_part bytes part said =
-      ap (λ r. of_asked (in_form Fimi layout) bytes (with_names [] r)) read ∙ ap (λ r. of_contents (in_form Fimi layout) (asked_of sets) (by_numbers contents.Baskets r)) said
+  of_part bytes part said = grind (arith, common_steps)
 
   texts_are_counts : (inputs : List (List ℕ)) (parts : List (List Weighted)) (texts : List (List ℕ)) → map fimi_of inputs ≡ map (λ part. Ok part) parts
       → map (count_outcome (in_form Fimi layout) asked) inputs ≡ map (λ text. Ok text) texts → flat_map (λ text. text) texts ≡ texts_of_parts parts sets

@@ -1,19 +1,17 @@
 -- What is written of parts, read again.
-use Rattle.std.proofs.Common.{◌≡◌, ◌∙◌, ◌≤◌, ◌+◌, ◌++◌, ℕ, List, [], ◌∷◌, ap, length, map, refl, subst, sym}
-use Rattle.std.proofs.lemmas.List.Concat.{flat_map-append}
+use Rattle.std.proofs.Common.{◌≡◌, ◌∙◌, ◌≤◌, ◌+◌, ℕ, List, [], ◌∷◌, ap, length, map, refl, subst, arith}
+use Rattle.std.proofs.lemmas.Grind.{common_steps}
 use Rattle.basket_counts.specs.Counts.{counts_of}
 use Rattle.basket_counts.specs.Laws.{lines_from}
 use Rattle.basket_counts.proofs.WrittenLemmas.{lists_are_read_back}
 use Rattle.basket_read.specs.Fimi.{MOST_BYTES}
-use Rattle.basket_report.specs.Report.{report_of, set_text}
+use Rattle.basket_report.specs.Report.{report_of}
 use Rattle.basket_report.specs.Style.{Numbered}
 use Rattle.basket_sets.specs.declared.counted.Counted.{Counted}
 use Rattle.basket_sets.specs.declared.weighted.Weighted.{Weighted}
-use Rattle.basket_sets.specs.Frequent.{counted}
 use Rattle.basket_laws.specs.Parts.{counts_of_parts, said_of}
 use Rattle.basket_laws.specs.Texts.{ReportsAreReadBack, TextsMakeTheWhole, texts_of_parts}
 use Rattle.basket_laws.proofs.PartLemmas.{parts_make_the_whole}
-use Rattle.mine_sets.specs.Asked.{asked_of}
 
 pub reports_are_read_back : ReportsAreReadBack
 reports_are_read_back = lists_are_read_back
@@ -21,9 +19,7 @@ reports_are_read_back = lists_are_read_back
 -- the texts of parts are the text of their counts
 pub texts_are : (parts : List (List Weighted)) (sets : List (List ℕ)) → texts_of_parts parts sets ≡ report_of Numbered (counts_of_parts parts sets)
 texts_are [] sets = refl
-texts_are (part ∷ parts) sets =
-    ap (λ text. report_of Numbered (map (counted part) (asked_of sets)) ++ text) (texts_are parts sets)
-    ∙ sym (flat_map-append (set_text Numbered) (map (counted part) (asked_of sets)) (counts_of_parts parts sets))
+texts_are (part ∷ parts) sets = grind (arith, common_steps, texts_are parts sets)
 
 -- the numbers of lines say nothing
 pub said_again : (line : ℕ) (sets : List Counted) → map said_of (lines_from line sets) ≡ sets
