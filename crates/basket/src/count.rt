@@ -63,6 +63,7 @@ pub fn run_count<R: RandomSource + Threads + Sync, S: Source, T: Source, W: Sink
 }
 
 /// The sets with their counts, as a report that is not written yet.
+#[tactic(auto, using(std::proofs::lemmas::Grind::common_steps, crate::proofs::ResultLemmas::after_any))]
 fn counts<R: RandomSource + Threads + Sync, S: Source, T: Source>(
     rt: &R,
     alloc: Global,

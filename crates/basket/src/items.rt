@@ -91,6 +91,7 @@ pub fn report_named_items<R: RandomSource + Threads + Sync, S: Source>(
 
 /// The report of the frequent items of baskets. The first of them have been counted; workers count
 /// the others.
+#[tactic(auto, using(std::proofs::lemmas::Grind::common_steps, crate::proofs::ItemLemmas::totals_add))]
 fn report_counts<R: Threads + Sync>(
     rt: &R,
     alloc: Global,

@@ -1,5 +1,4 @@
 use Rattle.basket.proofs.CountLemmas.{contents_refuse, counts_make, sets_are_readable, sets_refuse}
-use Rattle.basket.proofs.ResultLemmas.{after_any}
 use Rattle.basket.proofs.count.counts.Goals as goal
 
 pub returns-in-Err-clause-made : goal.returns-in-Err-clause-made
@@ -30,6 +29,3 @@ returns-clause-made g c =
     let (asked_works, said) = rw c.layout.ensures at c.in-Ok.ensures.read in
     let (works, read) = rw c.layout-2.ensures at c.in-Ok-read.ensures.read in
     counts_make c.args.plan.now.layout (g.S.Source.left c.args.sets.now) asked.0.items asked.1 said _ _ (g.T.Source.left c.args.reader.now) _ c.in-Ok-read.contents asked_works works read c.counted.result c.counted.ensures
-
-pub returns-clause-ended : goal.returns-clause-ended
-returns-clause-ended g c = after_any c.counted.result (c.in-Ok.ensures.ended, c.in-Ok-read.ensures.ended)

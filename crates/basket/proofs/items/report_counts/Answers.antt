@@ -21,9 +21,6 @@ add_counts-requires-clause-fits g c =
     let back = c.deref-2.ensures.value ∙ c.in_ok-rest.ensures.counts ∙ ap item_supports c.baskets.ensures.baskets in
     sums_fit c.deref.result.now c.deref-2.result.now counted.0 c.args.counts.now.rest c.requires.0 front back (sym counted.2) c.requires.2
 
-pub overflow_add-total : goal.overflow_add-total
-overflow_add-total g c = grind (arith, common_steps, totals_add)
-
 pub returns : goal.returns
 returns g c = λ baskets counted.
     let minimum = c.args.plan.now.question.minimum in
