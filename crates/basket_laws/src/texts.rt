@@ -2,6 +2,7 @@
 ghost use Rattle.basket_laws.specs.Texts.{ReportsAreReadBack, TextsMakeTheWhole};
 
 /// The report of some counted sets is read back as these sets with these counts, one a line.
+#[tactic(auto, using(std::proofs::lemmas::Grind::common_steps, crate::proofs::TextLemmas::reports_are_read_back))]
 pub fn reports_are_read_back()
     ensures { ReportsAreReadBack }
 {}

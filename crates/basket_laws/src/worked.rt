@@ -7,6 +7,7 @@ ghost use Rattle.basket_sets.specs.declared.minimum.Minimum.TheVariants.{Share};
 ghost use Rattle.basket_sets.specs.Worked.{six_sets};
 
 /// Nine baskets in two parts: what is counted in each, and the sets of a share of a third of all.
+#[tactic(auto, using(std::proofs::lemmas::Grind::common_steps))]
 pub fn nine_in_two_parts()
     ensures counts { map said_of two_lists ≡ counts_of_parts two_parts asked_sets }
     ensures whole { frequent_in two_lists (Share (1, 3)) ≡ six_sets }
