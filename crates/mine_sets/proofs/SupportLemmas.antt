@@ -1,8 +1,9 @@
 -- Supports over the parts of a list of baskets: those that a seat has added are bounded by the support in the baskets before the next part, and all together are the supports in the baskets.
 use Rattle.std.proofs.Common.{◌≡◌, ℕ, zero, suc, ◌+◌, ◌^◌, ◌<◌, ◌≤◌, List, [], ◌∷◌, ◌++◌, map, take, length, get_or, replicate, Ok, refl, ap, sym, ◌∙◌, subst, arith}
+use Rattle.std.proofs.lemmas.Grind.{common_steps}
 use Rattle.std.specs.Prelude.{All, Any, IsPermutation, slice_index}
 use Rattle.std.specs.List.{range_with_len, sum_by}
-use Rattle.std.proofs.lemmas.List.{ext_get_or, get_or-map, length-map, length-replicate, take-take}
+use Rattle.std.proofs.lemmas.List.{ext_get_or, get_or-map, length-map, take-take}
 use Rattle.std.proofs.lemmas.List.Elements.{All-head}
 use Rattle.std.proofs.lemmas.List.Folds.{flat_map-map}
 use Rattle.std.proofs.lemmas.List.Sorted.{sum_by-IsPermutation}
@@ -26,8 +27,7 @@ module _ (baskets : List Weighted) (pieces : ℕ) (set : List ℕ) where
   front i = support_of (take (shard_start i pieces (length baskets)) baskets) set
 
   front_more : 1 ≤ pieces → (i : ℕ) → front (i + 1) ≡ front i + part_support baskets pieces set i
-  front_more some i =
-      ap (λ l. support_of l set) (shard_more i pieces baskets some) ∙ support-append (take (shard_start i pieces (length baskets)) baskets) (shard_of i pieces baskets) set
+  front_more some i = grind (arith, common_steps, shard_more, support-append)
 
   front-le : 1 ≤ pieces → (i j : ℕ) → i ≤ j → front i ≤ front j
   front-le some i j le =
@@ -36,9 +36,7 @@ module _ (baskets : List Weighted) (pieces : ℕ) (set : List ℕ) where
       omega (arith, part, ap (sum_by (weight_at set)) (take-take low high baskets (shard_start-le i j pieces (length baskets) some le)))
 
   front_is_light : (i : ℕ) → total_of baskets ≤ MOST_WEIGHT → front i ≤ MOST_WEIGHT
-  front_is_light i light =
-      let t = sum_by-take-le (weight_at set) baskets (shard_start i pieces (length baskets)) in
-      let f = support_falls baskets set [] refl in omega arith
+  front_is_light i light = grind (arith, common_steps, sum_by-take-le, support_falls)
 
   -- what was added so far is bounded, and so it is with the next part
   abbrev pub IsBounded : List ℕ → Type 0
@@ -70,11 +68,7 @@ index_zero (suc n) zero = refl
 index_zero (suc n) (suc k) = index_zero n k
 
 pub nothing_added : (baskets : List Weighted) (pieces : ℕ) (sets : List (List ℕ)) → HasAdded baskets pieces sets [] (replicate (length sets) 0)
-nothing_added baskets pieces sets = record {
-  sized = length-replicate (length sets) 0;
-  each = λ k below. index_zero (length sets) k;
-  bounded = λ k below. omega arith;
-}
+nothing_added baskets pieces sets = grind (arith, common_steps)
 
 -- what was added is far below what a counter holds
 pub added_fits : (baskets : List Weighted) (pieces : ℕ) (sets : List (List ℕ)) (claimed added : List ℕ) → HasAdded baskets pieces sets claimed added → total_of baskets ≤ MOST_WEIGHT
@@ -118,11 +112,7 @@ some_seat P Q weaker (seat ∷ seats) some all = (0, seat, omega arith, refl, we
 
 seats_added : (baskets : List Weighted) (pieces : ℕ) (sets : List (List ℕ)) (k : ℕ) → k < length sets → (seats : List SeatView) → All (AddsSupports baskets pieces sets) seats
     → added_by seats k ≡ sum_by (part_support baskets pieces (get_or sets k [])) (claimed_by seats)
-seats_added baskets pieces sets k within seats all =
-    let size = part_support baskets pieces (get_or sets k []) in
-    let low = sums_at_most (λ s. slice_index s.held.added k) (λ s. sum_by size s.held.claimed) seats (λ i d below. let one = (all i d below).added k within in omega (arith, one)) in
-    let high = sums_at_most (λ s. sum_by size s.held.claimed) (λ s. slice_index s.held.added k) seats (λ i d below. let one = (all i d below).added k within in omega (arith, one)) in
-    omega (arith, low, high, sum_by-flat_map size (λ (s : SeatView). s.held.claimed) seats)
+seats_added baskets pieces sets k within seats all = grind (arith, common_steps, sums_at_most, sum_by-flat_map)
 
 -- the totals of the counters are the supports in all baskets
 totals_are_supports : (baskets : List Weighted) (pieces : ℕ) (sets : List (List ℕ)) (seats : List SeatView) (totals : List ℕ) → 1 ≤ pieces → length totals ≡ length sets

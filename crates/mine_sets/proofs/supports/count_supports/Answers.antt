@@ -1,23 +1,14 @@
-use Rattle.std.proofs.Common.{◌≡◌, ◌≤◌, ap, sym, ◌∙◌, subst, arith, map, length, Ok}
+use Rattle.std.proofs.Common.{◌≡◌, ◌≤◌, sym, ◌∙◌, subst, arith, map, length, Ok}
+use Rattle.std.proofs.lemmas.Grind.{common_steps}
 use Rattle.std.specs.Prelude.{IfOk}
 use Rattle.basket_sets.specs.Support.{support_of}
-use Rattle.mine_round.specs.Record.{unused}
-use Rattle.mine_round.specs.SeatView.{SeatView}
 use Rattle.mine_pieces.proofs.theory.Seats.{all_own}
 use Rattle.mine_sets.proofs.SupportLemmas.{shares_are_supports}
 use Rattle.mine_sets.proofs.supports.count_supports.Goals as goal
 use Rattle.mine_sets.proofs.supports.count_supports.Goals.{in-Ok-ended, in-Err}
 
 pub by_workers-requires-clause-accepted : goal.by_workers-requires-clause-accepted
-by_workers-requires-clause-accepted g c κs within i seat below is =
-    let fresh = c.in_ok-round.ensures.unused i seat below in
-    let long = c.len.ensures in (
-      ap (λ (s : SeatView). s.round) is ∙ fresh.0,
-      ap (λ (s : SeatView). s.held) is ∙ fresh.1 ∙ ap (unused 1) long,
-      c.in_ok-round.ensures.round.0,
-      c.in_ok-round.ensures.round.1 ∙ long,
-      c.requires.light,
-    )
+by_workers-requires-clause-accepted g c κs within i seat below is = grind (arith, common_steps)
 
 pub close-requires : goal.close-requires
 close-requires g c = record { own = all_own c.in_ok-round.round c.in_ok-seats.ensures.shares c.in_ok-seats.seats.items c.in_ok-seats.ensures.seats (λ k d below. (c.in_ok-seats.ensures.each k d below).call.met.1.own) }

@@ -1,4 +1,5 @@
-use Rattle.std.proofs.Common.{◌≡◌, ap, sym, ◌∙◌, refl, subst, arith, length, get_or, replicate, slice_index, []}
+use Rattle.std.proofs.Common.{◌≡◌, ap, sym, ◌∙◌, subst, arith, length, get_or, slice_index, []}
+use Rattle.std.proofs.lemmas.Grind.{common_steps}
 use Rattle.std.specs.Prelude.{slice_range}
 use Rattle.std.proofs.lemmas.List.{take_at}
 use Rattle.basket_ranks.specs.Shards.{shard_of}
@@ -8,16 +9,7 @@ use Rattle.mine_sets.proofs.SupportLemmas.{HasAdded, added_fits, index_zero, not
 use Rattle.mine_sets.proofs.supports.SetCounting.add_supports.Goals as goal
 
 pub loop-piece-init : goal.loop-piece-init
-loop-piece-init g c =
-    let sets = c.args.self.now.counter.now in
-    let pieces = c.args.self.now.phase.now.cutting.pieces in
-    record {
-      own = refl;
-      within = let none = ap (λ h. after h.claimed) c.requires.unused in omega arith;
-      none = ap (λ h. h.added) c.requires.unused;
-      counted = subst (λ claimed. HasAdded c.args.self.now.baskets.now pieces sets claimed c.in_ok-counts.counts.items) (sym (ap (λ h. h.claimed) c.requires.unused))
-          (subst (HasAdded c.args.self.now.baskets.now pieces sets []) (sym (c.in_ok-counts.ensures.items_if_clones_equal (λ y e. e) ∙ ap (λ n. replicate n 0) c.len.ensures)) (nothing_added c.args.self.now.baskets.now pieces sets));
-    }
+loop-piece-init g c = grind (arith, common_steps, after, HasAdded, nothing_added)
 
 pub add-requires-clause-light : goal.add-requires-clause-light
 add-requires-clause-light g c k below =
