@@ -1,28 +1,21 @@
 -- Names that are kept with their numbers.
-use Rattle.std.proofs.Common.{◌≡◌, ℕ, true, List, sym, ap, ◌∙◌}
+use Rattle.std.proofs.Common.{◌≡◌, ℕ, List, arith}
+use Rattle.std.proofs.lemmas.Grind.{common_steps}
 use Rattle.std.specs.Str.{IsUtf8}
 use Rattle.std.proofs.lemmas.List.Elements.{All-weaker}
 use Rattle.std.proofs.lemmas.Str.{is_utf8-from_IsUtf8}
 use Rattle.basket_names.specs.declared.recent.Recent.{Recent}
-use Rattle.basket_names.specs.Names.{number_in, with_name, IsKnown, is_among}
+use Rattle.basket_names.specs.Names.{number_in, with_name, IsKnown}
 use Rattle.basket_names.specs.Recent.{HasKnown, KeepsKnown}
 use Rattle.basket_names.proofs.theory.Names.{among_more, among_with, known_name, number_more}
 
 -- a name that was just numbered is known
 pub numbered_known : (old new : List (List ℕ)) (name : List ℕ) (number : ℕ) → IsUtf8 name → new ≡ with_name old name → number ≡ number_in new name → IsKnown new name number
-numbered_known old new name number text more is =
-    let known : is_among new name ≡ true = ap (λ names. is_among names name) more ∙ among_with old name in
-    record { text = is_utf8-from_IsUtf8 name text; stay = sym (known_name new name known); index = is }
+numbered_known old new name number text more is = grind (arith, common_steps, among_with, is_utf8-from_IsUtf8, known_name)
 
 -- a known name stays so, with its number
 known_more : (names : List (List ℕ)) (other name : List ℕ) (number : ℕ) → IsKnown names name number → IsKnown (with_name names other) name number
-known_more names other name number h =
-    let known : is_among names name ≡ true = ap (λ all. is_among all name) h.stay ∙ among_with names name in
-    record {
-      text = h.text;
-      stay = sym (known_name (with_name names other) name (among_more names name other known));
-      index = h.index ∙ sym (number_more names name other known);
-    }
+known_more names other name number h = grind (arith, common_steps, among_with, known_name, among_more, number_more)
 
 -- and so do all that are kept
 pub kept_more : (names : List (List ℕ)) (other : List ℕ) (recent : Recent) → KeepsKnown names recent → KeepsKnown (with_name names other) recent

@@ -1,5 +1,6 @@
 -- Numbers by first appearance.
-use Rattle.std.proofs.Common.{◌≡◌, ℕ, zero, suc, ◌+◌, ◌<◌, Bool, true, false, cond, not, ◌||◌, eqb, ltb, String, List, [], ◌∷◌, ◌++◌, map, length, fold, slice_get, Some, None, is_some, unwrap_or, refl, sym, ap, subst, ◌∙◌, arith}
+use Rattle.std.proofs.Common.{◌≡◌, ℕ, zero, suc, ◌+◌, ◌<◌, Bool, true, false, cond, not, ◌||◌, String, List, [], ◌∷◌, ◌++◌, map, length, fold, slice_get, Some, None, is_some, unwrap_or, refl, sym, ap, ◌∙◌, arith}
+use Rattle.std.proofs.lemmas.Grind.{common_steps}
 use Rattle.std.specs.Bool.{then_some}
 use Rattle.std.specs.Cmp.{IsEquivalence}
 use Rattle.std.specs.List.{IsDistinct, list_any, list_all, position, position_or_len}
@@ -36,26 +37,18 @@ any_at p (x ∷ xs) h = list_any_at p (x ∷ xs) (position_or_len p (x ∷ xs)) 
 
 pub at_any : {X : Type 0} (p : X → Bool) (xs : List X) → list_any p xs ≡ true → position_or_len p xs < length xs
 at_any p [] e = absurd cc
-at_any p (x ∷ xs) e = at (p x) (at_any p xs) e
-  where
-    at : (b : Bool) → (list_any p xs ≡ true → position_or_len p xs < length xs) → (b || list_any p xs) ≡ true → cond (not b) (1 + position_or_len p xs) 0 < suc (length xs)
-    at true later e = omega arith
-    at false later e = let h = later e in omega arith
+at_any p (x ∷ xs) e = grind (arith, common_steps, at_any p xs)
 
 place_found : (b : Bool) (n index : ℕ) → cond b (Some n) None ≡ Some index → (b ≡ true) × (n ≡ index)
-place_found true n index e = (refl, cc)
-place_found false n index e = absurd cc
+place_found h1 h2 h3 h4 = grind (arith, common_steps)
 
 found : {X : Type 0} (p : X → Bool) (xs : List X) (index : ℕ) → position p xs ≡ Some index → (list_any p xs ≡ true) × (position_or_len p xs ≡ index)
-found p xs index e =
-    let h = place_found (ltb (position_or_len p xs) (length xs)) (position_or_len p xs) index e in
-    (any_at p xs (ltb-true (position_or_len p xs) (length xs) h.0), h.1)
+found p xs index e = grind (arith, common_steps, place_found, any_at, ltb-true)
 
 -- ---- names with one more
 
 pub consed : {A : Type 0} (b : Bool) (x y : A) (xs : List A) → cond b (x ∷ xs) (x ∷ xs ++ y ∷ []) ≡ x ∷ cond b xs (xs ++ y ∷ [])
-consed true x y xs = refl
-consed false x y xs = refl
+consed h1 h2 h3 h4 = grind (arith, common_steps)
 
 pub equal_bytes : (name : List ℕ) → bytes_eq name name ≡ true
 equal_bytes name = (bytes_eq-Decides name name).1 refl
@@ -65,23 +58,11 @@ known_name names name e = rw e refl
 
 -- a name has the number that it had or gets
 pub number_stays : (names : List (List ℕ)) (name : List ℕ) → number_in (with_name names name) name ≡ number_in names name
-number_stays names name = at (list_any (bytes_eq name) names)
-  where
-    new : (b : Bool) → eqb (number_in names name) (length names) ≡ b → cond b (length names + cond (bytes_eq name name) 0 1) (number_in names name) ≡ number_in names name
-    new true e = let none = eqb-true (number_in names name) (length names) e in (rw (equal_bytes name) (omega (arith, none)))
-    new false e = refl
-
-    at : (known : Bool) → number_in (cond known names (names ++ name ∷ [])) name ≡ number_in names name
-    at true = refl
-    at false = position_or_len_push (bytes_eq name) names name ∙ new (eqb (number_in names name) (length names)) refl
+number_stays names name = grind (arith, common_steps, eqb-true, equal_bytes, position_or_len_push)
 
 -- a set of texts with one more has the bytes of these names with one more
 pub inserted : {Z : Type 0} (keys : List (String Z)) (key : String Z) → map string_bytes (insert_key string_eq keys key) ≡ with_name (map string_bytes keys) (string_bytes key)
-inserted keys key = (rw (any_of_map string_bytes (bytes_eq (string_bytes key)) keys) (at (list_any (string_eq key) keys)))
-  where
-    at : (b : Bool) → map string_bytes (cond b keys (keys ++ key ∷ [])) ≡ cond b (map string_bytes keys) (map string_bytes keys ++ string_bytes key ∷ [])
-    at true = refl
-    at false = map-append string_bytes keys (key ∷ [])
+inserted keys key = grind (arith, common_steps, any_of_map, map-append)
 
 -- ---- the index of a name among texts
 
@@ -89,19 +70,13 @@ inserted keys key = (rw (any_of_map string_bytes (bytes_eq (string_bytes key)) k
 pub known_place : {Z : Type 0} (keys : List (String Z)) (names : List (List ℕ)) (name : List ℕ) (index : ℕ)
     → names ≡ map string_bytes keys → position (λ key. bytes_eq name (string_bytes key)) keys ≡ Some index
     → (names ≡ with_name names name) × (index ≡ number_in names name)
-known_place keys names name index view e =
-    let h = found (λ key. bytes_eq name (string_bytes key)) keys index e in
-    let among : list_any (bytes_eq name) names ≡ true = ap (list_any (bytes_eq name)) view ∙ any_of_map string_bytes (bytes_eq name) keys ∙ h.0 in
-    (sym (known_name names name among), sym (ap (λ ns. number_in ns name) view ∙ place_of_map string_bytes (bytes_eq name) keys ∙ h.1))
+known_place keys names name index view e = grind (arith, common_steps, found, any_of_map, known_name, place_of_map)
 
 -- the index of a name that was inserted
 pub new_place : {Z : Type 0} (keys new_keys : List (String Z)) (key : String Z) (names : List (List ℕ)) (name : List ℕ) (index : ℕ)
     → names ≡ map string_bytes keys → string_bytes key ≡ name → new_keys ≡ insert_key string_eq keys key → index ≡ position_or_len (string_eq key) keys
     → (map string_bytes new_keys ≡ with_name names name) × (index ≡ number_in (map string_bytes new_keys) name)
-new_place keys new_keys key names name index view text new e =
-    let same : map string_bytes new_keys ≡ with_name names name = ap (map string_bytes) new ∙ inserted keys key ∙ ap (λ ns. with_name ns (string_bytes key)) (sym view) ∙ ap (with_name names) text in
-    let old : index ≡ number_in names name = e ∙ sym (place_of_map string_bytes (bytes_eq (string_bytes key)) keys) ∙ ap (λ ns. number_in ns (string_bytes key)) (sym view) ∙ ap (number_in names) text in
-    (same, old ∙ sym (number_stays names name) ∙ ap (λ ns. number_in ns name) (sym same))
+new_place keys new_keys key names name index view text new e = grind (arith, common_steps, inserted, place_of_map, number_stays)
 
 -- among keys of which no two are equal, a key's index is the one at which it is found
 own_place : {K : Type 0} {eq : K → K → Bool} → IsEquivalence eq → (keys : List K) (index : ℕ) (key : K) → IsDistinct eq keys → slice_get keys index ≡ Some key → position_or_len (eq key) keys ≡ index
@@ -129,31 +104,15 @@ place_of_key keys names key index view distinct e =
 pub place_if_same : {Z : Type 0} (keys : List (String Z)) (names : List (List ℕ)) (name : List ℕ) (key : String Z) (index : ℕ) (same : Bool)
     → names ≡ map string_bytes keys → IsDistinct string_eq keys → slice_get keys index ≡ Some key → IsUtf8 (string_bytes key) → same ≡ bytes_eq (string_bytes key) name
     → IfSome (then_some same index) (IsKnown names name)
-place_if_same keys names name key index true view distinct e text is =
-    let found = place_of_key keys names key index view distinct e in
-    subst (λ bytes. IsKnown names bytes index) ((bytes_eq-Decides (string_bytes key) name).0 (sym is))
-    (record { text = is_utf8-from_IsUtf8 (string_bytes key) text; stay = found.0; index = found.1 })
-place_if_same keys names name key index false view distinct e text is = tt
+place_if_same h1 h2 h3 h4 h5 h6 h7 h8 h9 h10 h11 = grind (arith, common_steps, found, place_of_key, bytes_eq-Decides, is_utf8-from_IsUtf8)
 
 -- ---- a name keeps its number
 
 pub among_more : (names : List (List ℕ)) (name other : List ℕ) → is_among names name ≡ true → is_among (with_name names other) name ≡ true
-among_more names name other e = at (list_any (bytes_eq other) names)
-  where
-    at : (b : Bool) → is_among (cond b names (names ++ other ∷ [])) name ≡ true
-    at true = e
-    at false = list_any-append (bytes_eq name) names (other ∷ []) ∙ or_left _ _ e
+among_more names name other e = grind (arith, common_steps)
 
 pub number_more : (names : List (List ℕ)) (name other : List ℕ) → is_among names name ≡ true → number_in (with_name names other) name ≡ number_in names name
-number_more names name other e = at (list_any (bytes_eq other) names)
-  where
-    new : (b : Bool) → eqb (number_in names name) (length names) ≡ b → cond b (length names + cond (bytes_eq name other) 0 1) (number_in names name) ≡ number_in names name
-    new true f = let end = eqb-true (number_in names name) (length names) f in let below = at_any (bytes_eq name) names e in absurd (omega arith)
-    new false f = refl
-
-    at : (known : Bool) → number_in (cond known names (names ++ other ∷ [])) name ≡ number_in names name
-    at true = refl
-    at false = position_or_len_push (bytes_eq name) names other ∙ new (eqb (number_in names name) (length names)) refl
+number_more names name other e = grind (arith, common_steps, eqb-true, at_any, position_or_len_push)
 
 pub among_all : (names others : List (List ℕ)) (name : List ℕ) → is_among names name ≡ true → is_among (fold with_name names others) name ≡ true
 among_all names [] name e = e
@@ -165,11 +124,7 @@ number_in_all names (other ∷ others) name e = number_in_all (with_name names o
 
 -- a name is among the names with it
 pub among_with : (names : List (List ℕ)) (name : List ℕ) → is_among (with_name names name) name ≡ true
-among_with names name = at (list_any (bytes_eq name) names) refl
-  where
-    at : (b : Bool) → list_any (bytes_eq name) names ≡ b → is_among (cond b names (names ++ name ∷ [])) name ≡ true
-    at true e = e
-    at false e = list_any-append (bytes_eq name) names (name ∷ []) ∙ or_right (is_among names name) _ (or_left _ _ (equal_bytes name))
+among_with names name = grind (arith, common_steps, list_any-append, or_right, or_left, equal_bytes)
 
 -- names keep their numbers
 pub numbers_stay : (names others some : List (List ℕ)) → are_among names some ≡ true → map (number_in (fold with_name names others)) some ≡ map (number_in names) some
@@ -181,5 +136,4 @@ numbers_stay names others (name ∷ some) e =
 -- all names are among themselves
 pub all_among : (names some : List (List ℕ)) → list_all (is_among (fold with_name names some)) some ≡ true
 all_among names [] = refl
-all_among names (name ∷ some) =
-    and_from (is_among (fold with_name (with_name names name) some) name) _ (among_all (with_name names name) some name (among_with names name)) (all_among (with_name names name) some)
+all_among names (name ∷ some) = grind (arith, common_steps, all_among (with_name names name) some, and_from, among_all, among_with)

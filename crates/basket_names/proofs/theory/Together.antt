@@ -1,9 +1,9 @@
 -- The names of parts, numbered together.
-use Rattle.std.proofs.Common.{◌≡◌, ℕ, suc, ◌+◌, Bool, true, false, cond, ltb, not, ◌||◌, List, [], ◌∷◌, ◌++◌, map, length, fold, get_or, refl, sym, ap, ◌∙◌, subst, arith}
+use Rattle.std.proofs.Common.{◌≡◌, ℕ, true, ltb, List, [], ◌∷◌, ◌++◌, map, length, fold, get_or, refl, sym, ap, ◌∙◌, arith}
+use Rattle.std.proofs.lemmas.Grind.{common_steps}
 use Rattle.std.specs.List.{list_all}
 use Rattle.std.specs.Str.{bytes_eq}
 use Rattle.std.proofs.lemmas.Bool.{and_parts, and_from, lt-ltb}
-use Rattle.std.proofs.lemmas.List.{map-append}
 use Rattle.std.proofs.lemmas.List.Sums.{fold-append}
 use Rattle.std.proofs.lemmas.Slice.Eq.{bytes_eq-Decides}
 use Rattle.basket_names.specs.Names.{with_name, in_order, number_in, is_among, are_among}
@@ -14,20 +14,10 @@ use Rattle.basket_names.proofs.theory.Names.{known_name, among_with, among_all, 
 -- a name of some that were added is among all
 among_added : (names others : List (List ℕ)) (name : List ℕ) → is_among others name ≡ true → is_among (fold with_name names others) name ≡ true
 among_added names [] name e = absurd cc
-among_added names (other ∷ others) name e = at (bytes_eq name other) refl (among_added (with_name names other) others name)
-  where
-    at : (b : Bool) → bytes_eq name other ≡ b → (is_among others name ≡ true → is_among (fold with_name (with_name names other) others) name ≡ true) → is_among (fold with_name (with_name names other) others) name ≡ true
-    at true same later =
-        let is : name ≡ other = (bytes_eq-Decides name other).0 same in
-        subst (λ n. is_among (fold with_name (with_name names other) others) n ≡ true) (sym is) (among_all (with_name names other) others other (among_with names other))
-    at false apart later = later (ap (λ b. b || is_among others name) (sym apart) ∙ e)
+among_added names (other ∷ others) name e = grind (arith, common_steps, among_added (with_name names other) others name, bytes_eq-Decides, among_all, among_with)
 
 add_one : (names known : List (List ℕ)) (name : List ℕ) → fold with_name names (with_name known name) ≡ with_name (fold with_name names known) name
-add_one names known name = at (is_among known name) refl
-  where
-    at : (b : Bool) → is_among known name ≡ b → fold with_name names (cond b known (known ++ name ∷ [])) ≡ with_name (fold with_name names known) name
-    at true e = sym (known_name (fold with_name names known) name (among_added names known name e))
-    at false e = fold-append with_name names known (name ∷ [])
+add_one names known name = grind (arith, common_steps, known_name, among_added, fold-append)
 
 add_all : (names known others : List (List ℕ)) → fold with_name names (fold with_name known others) ≡ fold with_name (fold with_name names known) others
 add_all names known [] = refl
@@ -42,13 +32,7 @@ add_in_order names others = add_all names [] others
 module _ (all : List (List ℕ)) where
   number_at : (own : List (List ℕ)) (name : List ℕ) → is_among own name ≡ true → get_or (map (number_in all) own) (number_in own name) 0 ≡ number_in all name
   number_at [] name e = absurd cc
-  number_at (other ∷ own) name e = at (bytes_eq name other) refl (number_at own name)
-    where
-      at : (b : Bool) → bytes_eq name other ≡ b → (is_among own name ≡ true → get_or (map (number_in all) own) (number_in own name) 0 ≡ number_in all name) → get_or (number_in all other ∷ map (number_in all) own) (cond (not b) (1 + number_in own name) 0) 0 ≡ number_in all name
-      at true same later = ap (number_in all) (sym ((bytes_eq-Decides name other).0 same))
-      at false apart later =
-          let more : 1 + number_in own name ≡ suc (number_in own name) = omega arith in
-          ap (λ k. get_or (number_in all other ∷ map (number_in all) own) k 0) more ∙ later (ap (λ b. b || is_among own name) (sym apart) ∙ e)
+  number_at (other ∷ own) name e = grind (arith, common_steps, number_at own name, bytes_eq-Decides)
 
   -- the numbers of names by those of the names that they were numbered among
   pub numbers_at : (own some : List (List ℕ)) → are_among own some ≡ true → map (λ number. get_or (map (number_in all) own) number 0) (map (number_in own) some) ≡ map (number_in all) some
@@ -80,8 +64,5 @@ pub name_added : (before now new done next : List (List ℕ)) (name : List ℕ) 
     → (new ≡ fold with_name before next) × (more ≡ map (number_in new) next)
 name_added before now new done next name numbers more number is names numbered with number_is all =
     let among : are_among now done ≡ true = ap (λ n. are_among n done) names ∙ all_among before done in
-    let stay : map (number_in new) done ≡ numbers = ap (λ n. map (number_in n) done) with ∙ numbers_stay now (name ∷ []) done among ∙ sym numbered in (
-      with ∙ ap (λ n. with_name n name) names ∙ sym (fold-append with_name before done (name ∷ [])) ∙ ap (fold with_name before) (sym is),
-      all ∙ ap (λ k. k ++ number ∷ []) (sym stay) ∙ ap (λ n. map (number_in new) done ++ n ∷ []) number_is
-          ∙ sym (map-append (number_in new) done (name ∷ [])) ∙ ap (map (number_in new)) (sym is),
-    )
+    let stay : map (number_in new) done ≡ numbers = ap (λ n. map (number_in n) done) with ∙ numbers_stay now (name ∷ []) done among ∙ sym numbered in
+    grind (arith, common_steps)

@@ -1,6 +1,6 @@
-use Rattle.std.proofs.Common.{◌≡◌, length, map, slice_get, refl, sym, ap, subst, ◌∙◌}
-use Rattle.std.specs.Option.{IfSome}
-use Rattle.std.specs.Str.{IsUtf8, bytes_eq}
+use Rattle.std.proofs.Common.{◌≡◌, length, map, refl, ap, subst, ◌∙◌, arith}
+use Rattle.std.proofs.lemmas.Grind.{common_steps}
+use Rattle.std.specs.Str.{bytes_eq}
 use Rattle.std.specs.String.{string_bytes}
 use Rattle.std.proofs.lemmas.Option.{slice_get_read}
 use Rattle.basket_names.specs.Names.{IsKnown}
@@ -17,9 +17,7 @@ returns c =
     let at = slice_get_read keys (length keys) number key refl c.in_ok-known.ensures.lookup.3.0 c.in_ok-known.ensures.lookup.1 in
     let text : c.as_str.result.now ≡ string_bytes key = c.as_str.ensures.value in
     let equal : c.eq.result ≡ bytes_eq (string_bytes key) name = c.eq.ensures ∙ ap (λ t. bytes_eq t name) (c.as_bytes.ensures.value ∙ text) in
-    subst (λ found. IfSome found (IsKnown names name)) (sym c.then_some.ensures)
-    (place_if_same c.self.inside.names.keys names name key number c.eq.result
-    (sym c.self.view_is) c.as_slice.ensures.unique (ap (λ l. slice_get l number) (sym c.as_slice.ensures.keys) ∙ at) (subst IsUtf8 text c.as_str.utf8) equal)
+    grind (arith, common_steps, place_if_same)
 
 pub returns-then-is_whole : goal.returns-then-is_whole
 returns-then-is_whole c =
