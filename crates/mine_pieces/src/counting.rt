@@ -50,6 +50,7 @@ impl PartWork<Counts> for ItemCounting<'_> {
         Ok(())
     }
 
+    #[tactic(auto, using(std::proofs::lemmas::Grind::common_steps, crate::proofs::theory::Parts::shard_is_light, crate::proofs::theory::Parts::part_is))]
     fn value(&self, alloc: Global, _tools: &mut (), part: u32) -> Result<Counts, AllocError> {
         let (start, end) = shard(part, self.parts, self.baskets.len());
         count_items(alloc, &self.baskets[start..end])

@@ -93,6 +93,7 @@ impl<P, G: Gate> Pieces<'_, '_, '_, P, G> {
     }
 
     /// Adds the value of each part that a piece has.
+    #[tactic(auto, using(std::proofs::lemmas::Grind::common_steps, crate::proofs::theory::Numbers::numbers_are))]
     fn add_values<V: Drop>(
         &self,
         alloc: Global,

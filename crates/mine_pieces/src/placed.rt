@@ -9,6 +9,7 @@ use mine_round::Collector;
 use std::alloc::{AllocError, Global};
 
 /// The values by their numbers, of which there are this many.
+#[tactic(auto, using(std::proofs::lemmas::Grind::common_steps))]
 pub fn collected<X: Drop>(
     alloc: Global,
     count: u32,

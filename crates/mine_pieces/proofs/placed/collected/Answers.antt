@@ -1,5 +1,4 @@
 use Rattle.std.proofs.Common.{◌≡◌, ap, sym, ◌∙◌, subst, length, None, replicate, arith}
-use Rattle.std.proofs.lemmas.Grind.{common_steps}
 use Rattle.std.specs.List.{flat_map}
 use Rattle.std.specs.Vec.Iter.{into_iter_items}
 use Rattle.std.proofs.lemmas.List.{length-replicate, nil_from_length}
@@ -23,9 +22,6 @@ loop-list-init g c =
           (subst (λ n. HoldsNumbersBelow n (flat_map (λ list. numbers_of list.items) c.args.lists.items)) (sym count) c.requires));
       rest = ap (λ l. placed places (flat_map (λ list. list.items) l)) all ∙ ap (λ p. placed p (flat_map (λ list. list.items) c.args.lists.items)) vacant;
     }
-
-pub put_all-requires : goal.put_all-requires
-put_all-requires g c = grind (arith, common_steps)
 
 pub loop-list-preserved : goal.loop-list-preserved
 loop-list-preserved g c =
