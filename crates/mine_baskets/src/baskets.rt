@@ -44,13 +44,12 @@ impl<'a> Baskets<'a> {
         (span.of(self.ranks), span.weight)
     }
 
-    /// The greater of the ranks at the ends of each of the next baskets. These lie far apart, and such
-    /// reads don't wait for one another.
-    pub fn read_ahead(self, first: usize) -> [u32; BASKETS_AHEAD]
-        requires { first < length (baskets_in self) }
-    {
+    /// The greater of the ranks at the ends of each of the next baskets, from the one at an index on.
+    /// These lie far apart, and such reads don't wait for one another.
+    pub fn read_ahead(self, first: usize) -> [u32; BASKETS_AHEAD] {
         let mut end_ranks = [0u32; BASKETS_AHEAD];
-        for (rank, basket) in end_ranks.iter_mut().zip(&self.spans[first..]) {
+        let next = self.spans.get(first..).unwrap_or(&[]);
+        for (rank, basket) in end_ranks.iter_mut().zip(next) {
             *rank = self.rank_at(basket.start).max(self.rank_at(basket.end));
         }
         end_ranks

@@ -21,7 +21,7 @@ fn rank_counts(alloc: Global, count: usize, ranks: &[u32]) -> Result<Vec<usize>,
     Ok(counts)
 }
 
-/// An empty cover for each number, with room for this many places.
+/// An empty cover for each number, with room for this many tids.
 fn no_covers(alloc: Global, counts: &[usize]) -> Result<Vec<Vec<u32>>, AllocError>
     ensures { IfOk result (λ covers. covers_in covers.items ≡ replicate (length counts.now) []) }
 {

@@ -1,9 +1,9 @@
 //! Baskets of up to 64 ranks, kept as words.
-ghost use Rattle.std.specs.Prelude.{◌≡◌, ◌≤◌, ◌+◌, ◌++◌, [], ◌∷◌, ℕ, Bool, List, All, IfOk, OnOk, if◌then◌else◌, length, nat_lt, sum_by};
+ghost use Rattle.std.specs.Prelude.{◌≡◌, ◌≤◌, All, IfOk, length, sum_by};
 ghost use Rattle.basket_sets.specs.Counts.{AllBelow};
 ghost use Rattle.basket_sets.specs.Database.{MOST_WEIGHT};
 ghost use Rattle.mine_baskets.specs.declared.words.Word.{Word as Bits};
-ghost use Rattle.mine_baskets.specs.ListBaskets.{AreRankBaskets, HaveSameWeights, weight_where};
+ghost use Rattle.mine_baskets.specs.ListBaskets.{AreRankBaskets, HaveSameWeights};
 ghost use Rattle.mine_baskets.specs.Words.{AreInOrder, rank_bits, word_places};
 
 use crate::list_baskets::ListBaskets;
@@ -62,28 +62,6 @@ impl WordBaskets {
         WordBaskets { count, words }
     }
 
-    /// Baskets of one rank, or of none. The baskets with the rank weigh this much together, and
-    /// those without it that much.
-    pub fn of_one_rank(
-        alloc: Global,
-        count: u32,
-        with: u64,
-        without: u64,
-    ) -> Result<Self, AllocError>
-        requires few { count ≤ 1 }
-        requires none { count ≡ 0 → with ≡ 0 }
-        requires light { with + without ≤ MOST_WEIGHT }
-        ensures ranks { IfOk result (λ baskets. baskets.ranks ≡ count) }
-        ensures ranked { IfOk result AreRankBaskets }
-        ensures weights { IfOk result (λ baskets. (test : List ℕ → Bool) → weight_where test baskets.baskets
-            ≡ (if test (0 ∷ []) then with else 0) + (if test [] then without else 0)) }
-    {
-        let mut words = Vec::with_capacity(alloc, 2)?;
-        push_weighing(&mut words, 0, without)?;
-        push_weighing(&mut words, bit_of(0), with)?;
-        Ok(WordBaskets::of_ordered(count, words))
-    }
-
     /// The coded baskets, which have no more ranks than a word has bits for.
     pub fn of_coded(alloc: Global, coded: &Coded) -> Result<Self, AllocError>
         requires few { length coded.now.items ≤ WORD_RANKS }
@@ -118,16 +96,6 @@ impl WordBaskets {
     {
         &self.words
     }
-}
-
-/// Adds a word, unless it has no weight.
-fn push_weighing(words: &mut Vec<Word>, bits: u64, weight: u64) -> Result<(), AllocError>
-    ensures { OnOk result (words.new.items ≡ (if nat_lt 0 weight then words.old.items ++ record { bits = bits; weight = weight } ∷ [] else words.old.items)) }
-{
-    if weight > 0 {
-        words.push(Word { bits, weight })?;
-    }
-    Ok(())
 }
 
 /// Baskets of this many ranks as words.

@@ -3,5 +3,4 @@ mod BitLemmas
 mod BranchLemmas
 mod NumberLemmas
 mod RankSumLemmas
-mod ShiftLemmas
 mod WordPathLemmas

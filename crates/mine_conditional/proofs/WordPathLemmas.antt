@@ -1,7 +1,11 @@
 -- Words of bits: their ranks, and what they weigh.
-use Rattle.std.proofs.Common.{◌≡◌, ℕ, ◌+◌, ◌-◌, ◌<◌, ◌≤◌, Bool, true, false, ◌&&◌, List, [], ◌∷◌, ◌++◌, length, take, get_or, map, cond, refl, sym, ap, ◌∙◌, subst, inl, inr, arith, add-zero, zero, suc}
+use Rattle.std.proofs.Common.{◌≡◌, ℕ, ◌+◌, ◌-◌, ◌*◌, ◌%◌, ◌^◌, ◌<◌, ◌≤◌, eqb, ltb, Bool, true, false, ◌&&◌, List, [], ◌∷◌, ◌++◌, length, take, get_or, map, cond, refl, sym, ap, ◌∙◌, subst, inl, inr, arith, add-zero, zero, suc}
 use Rattle.std.specs.List.{filter, flat_map, list_all, range_with_len, sum_by}
+use Rattle.std.specs.Prelude.{bit_or, bool_byte}
 use Rattle.std.proofs.lemmas.Bool.{and_from, cases_Bool, true≢false}
+use Rattle.std.proofs.lemmas.Bool.Decides.{nat_tests}
+use Rattle.std.proofs.lemmas.Nat.{one_shl}
+use Rattle.std.proofs.lemmas.Nat.Bits.{bit_at-zero}
 use Rattle.std.proofs.lemmas.List.{append-nil, append_assoc, get_or_default, map-append, take_more}
 use Rattle.std.proofs.lemmas.List.Sums.{sum_by_push}
 use Rattle.basket_ranks.specs.Codes.{decoded, decoded_place}
@@ -16,10 +20,12 @@ use Rattle.basket_sets.proofs.theory.Merging.{sum_by-same}
 use Rattle.basket_sets.proofs.theory.Rising.{Member-from_has, contains_each, has-from_Member, has_each, rising-rises, same_rising, same_test}
 use Rattle.basket_sets.proofs.theory.Tests.{Member-at, all_of, each_of}
 use Rattle.basket_sets.proofs.theory.Ranges.{Member-into_range, Member-range, filter_rises, filtered_range_rises}
+use Rattle.mine_baskets.specs.declared.words.TheConstants.{WORD_RANKS}
 use Rattle.mine_baskets.specs.declared.words.Word.{Word}
 use Rattle.mine_classes.specs.Conditional.{kept_place}
 use Rattle.mine_baskets.specs.ListBaskets.{HaveSameWeights, weight_where}
 use Rattle.mine_baskets.specs.Words.{has_rank, ranks_in, word_place, word_places}
+use Rattle.mine_baskets.proofs.theory.Bits.{has_either, one_rank}
 use Rattle.mine_baskets.proofs.theory.Weights.{changed_weight, word_sum}
 use Rattle.mine_conditional.specs.WordPaths.{pair_weight, rank_weight}
 use Rattle.mine_conditional.specs.Paths.{is_branch}
@@ -33,6 +39,21 @@ has_in count bits rank low = same_test (has (ranks_in count bits) rank) (has_ran
 
 pub in_below : (count bits rank : ℕ) → Member rank (ranks_in count bits) → rank < count
 in_below count bits rank m = let high = (Member-range 0 count rank (Member-filter (has_rank bits) rank (range_with_len 0 count) m).0).1 in omega arith
+
+-- ---- bits that are moved
+
+one_bit : (own : Bool) (at index : ℕ) → at < WORD_RANKS → index < WORD_RANKS → has_rank (bool_byte own * 2 ^ (63 - at) % 18446744073709551616) index ≡ (own && eqb at index)
+one_bit true at index low within = ap (λ n. has_rank n index) (one_shl (63 - at) 64 (omega arith)) ∙ one_rank at index low within
+one_bit false at index low within = ap (λ n. eqb n 1) (bit_at-zero (63 - index))
+
+-- those of the indexes so far, with one more
+pub bits_more : (own : ℕ → Bool) (bits at new : ℕ) → at < WORD_RANKS → new ≡ bit_or bits (bool_byte (own at) * 2 ^ (63 - at) % 18446744073709551616)
+    → ((index : ℕ) → index < WORD_RANKS → has_rank bits index ≡ (ltb index at && own index)) → (index : ℕ) → index < WORD_RANKS → has_rank new index ≡ (ltb index (at + 1) && own index)
+bits_more own bits at new low is before index within =
+    let part = ap (λ n. has_rank n index) is ∙ has_either bits (bool_byte (own at) * 2 ^ (63 - at) % 18446744073709551616) index in
+    let one = one_bit (own at) at index low within in
+    let old = before index within in
+    grind (arith, nat_tests, part, one, old)
 
 -- ---- what words weigh
 

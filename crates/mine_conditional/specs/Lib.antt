@@ -1,7 +1,6 @@
 pub mod BitTable
 pub mod Paths
 pub mod LocalNumbers
-pub mod Shift
 pub mod ClassScratch
 pub mod WordPaths
 pub mod Conditional

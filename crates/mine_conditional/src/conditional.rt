@@ -1,10 +1,8 @@
 //! The conditional database of a rank.
-ghost use Rattle.std.specs.Prelude.{◌≡◌, ◌≤◌, ◌<◌, ◌∷◌, [], ℕ, IfOk, length, map};
-ghost use Rattle.basket_sets.specs.Database.{MOST_WEIGHT};
-ghost use Rattle.basket_sets.specs.Support.{support_of};
-ghost use Rattle.mine_baskets.specs.ListBaskets.{AreRankBaskets, HaveSameWeights, RankBaskets};
+ghost use Rattle.std.specs.Prelude.{◌≡◌, ◌≤◌, ◌<◌, IfOk, map};
+ghost use Rattle.mine_baskets.specs.ListBaskets.{AreRankBaskets, HaveSameWeights};
 ghost use Rattle.mine_conditional.specs.Conditional.{conditional_baskets};
-ghost use Rattle.mine_pairs.specs.Pairs.{first_support, pairs_of};
+ghost use Rattle.mine_pairs.specs.Pairs.{pairs_of};
 ghost use Rattle.mine_conditional.specs.Paths.{IsConditional};
 
 use crate::local_numbers::LocalNumbers;
@@ -41,50 +39,21 @@ impl Conditional {
     pub fn below(
         runs: &Runs,
         alloc: Global,
-        places: &mut LocalNumbers,
+        numbers: &mut LocalNumbers,
         rank: u32,
         least: u64,
         pairs: &[(u32, u64)],
     ) -> Result<Conditional, AllocError>
         requires rank { rank < runs.now.ranks }
-        requires places { runs.now.ranks ≤ places.old }
+        requires numbers { runs.now.ranks ≤ numbers.old }
         requires pairs { pairs.now ≡ pairs_of runs.now.baskets least rank }
         ensures below { IfOk result (λ below. IsConditional runs.now.baskets least rank (conditional_baskets below)) }
-        ensures places { places.new ≡ places.old }
+        ensures numbers { numbers.new ≡ numbers.old }
     {
         let paths = runs.of_rank(rank);
-        if pairs.len() <= 1 {
-            let below = below_few(alloc, runs.support(rank), pairs)?;
-            return Ok(Conditional::Words(below));
-        }
         let kept = ranks_of(alloc, pairs)?;
-        let below = places.coded(alloc, &kept, paths)?;
+        let below = numbers.coded(alloc, &kept, paths)?;
         Ok(below)
-    }
-}
-
-/// The conditional database of a rank with this support and at most one pair. Its baskets have one
-/// rank or none, so their weights are known and no path is looked at.
-fn below_few(alloc: Global, support: u64, pairs: &[(u32, u64)]) -> Result<WordBaskets, AllocError>
-    requires few { length pairs.now ≤ 1 }
-    requires falls { first_support pairs.now ≤ support }
-    requires light { support ≤ MOST_WEIGHT }
-    ensures { (all : RankBaskets) (least rank : ℕ) → AreRankBaskets all → pairs.now ≡ pairs_of all.baskets least rank → support ≡ support_of all.baskets (rank ∷ [])
-        → IfOk result (IsConditional all.baskets least rank) }
-{
-    let with = first_support(pairs);
-    let without = support - with;
-    let below = WordBaskets::of_one_rank(alloc, pairs.len() as u32, with, without)?;
-    Ok(below)
-}
-
-/// The support of the first pair, or 0.
-fn first_support(pairs: &[(u32, u64)]) -> u64
-    ensures { result ≡ first_support pairs.now }
-{
-    match pairs.first() {
-        Some((_, support)) => *support,
-        None => 0,
     }
 }
 

@@ -106,19 +106,19 @@ impl Paths {
     pub fn below(
         &self,
         alloc: Global,
-        places: &mut LocalNumbers,
+        numbers: &mut LocalNumbers,
         rank: u32,
         least: u64,
         pairs: &[(u32, u64)],
     ) -> Result<Conditional, AllocError>
         requires rank { rank < self.now.ranks }
-        requires places { self.now.ranks ≤ places.old }
+        requires numbers { self.now.ranks ≤ numbers.old }
         requires pairs { pairs.now ≡ pairs_of self.now.baskets least rank }
         ensures below { IfOk result (λ below. IsConditional self.now.baskets least rank (conditional_baskets below)) }
-        ensures places { places.new ≡ places.old }
+        ensures numbers { numbers.new ≡ numbers.old }
     {
         match &self.form {
-            PathsForm::Runs(runs) => Conditional::below(runs, alloc, places, rank, least, pairs),
+            PathsForm::Runs(runs) => Conditional::below(runs, alloc, numbers, rank, least, pairs),
             PathsForm::Words(baskets) => {
                 let below = below_words(alloc, baskets, rank, least, pairs)?;
                 Ok(Conditional::Words(below))

@@ -10,7 +10,7 @@ use std::alloc::{AllocError, Global};
 #[derive(Debug, Drop)]
 pub struct ClassScratch {
     pub sums: Sums,
-    pub places: LocalNumbers,
+    pub numbers: LocalNumbers,
 }
 
 impl ClassScratch {
@@ -20,7 +20,7 @@ impl ClassScratch {
     {
         Ok(ClassScratch {
             sums: Sums::new(alloc, count)?,
-            places: LocalNumbers::new(alloc, count)?,
+            numbers: LocalNumbers::new(alloc, count)?,
         })
     }
 }

@@ -36,7 +36,7 @@ branch_has baskets h place m i j less n =
 pub slots_below : {base below : PatternBase} {number : ℕ} {before after : ClassScratch} → IsBelow base number below → number < base.paths.ranks → HaveSlots before base → KeepSlots before after → HaveSlots after below
 slots_below {base} {below} {number} is less slots kept =
     let short = kept_short base.paths.baskets base.least number in
-    record { sums = omega (arith, is.conditional.ranks, short, less, slots.sums, kept.0); places = omega (arith, is.conditional.ranks, short, less, slots.places, kept.1) }
+    record { sums = omega (arith, is.conditional.ranks, short, less, slots.sums, kept.0); numbers = omega (arith, is.conditional.ranks, short, less, slots.numbers, kept.1) }
 
 module _ {base : PatternBase} {node : Node} (is : IsBase base node) where
   abbrev baskets : List Weighted

@@ -1,4 +1,4 @@
-//! Rows that represent covers. A tid is the number of a basket, and the cover of a set has the tids
+//! Rows that represent covers. A tid is the index of a basket, and the cover of a set has the tids
 //! of the baskets that contain it: `tids` lists them, `diffs` lists what they lack, and `bit_rows` has
 //! a bit for each tid. Two rows are joined to the row of what their covers share.
 #![tactic(auto)]

@@ -9,7 +9,6 @@ use Rattle.mine_baskets.specs.declared.words.Word.{Word}
 use Rattle.mine_classes.specs.Conditional.{kept_place}
 use Rattle.mine_baskets.specs.ListBaskets.{HaveSameWeights}
 use Rattle.mine_baskets.specs.Words.{word_places}
-use Rattle.mine_conditional.proofs.ShiftLemmas.{bits_brought}
 use Rattle.mine_conditional.proofs.WordPathLemmas.{below_with, below_without, none}
 use Rattle.mine_conditional.proofs.word_paths.words_below.Goals as goal
 use Rattle.mine_conditional.proofs.word_paths.words_below.Goals.{then-has+in_ok-add, else-has}
@@ -34,8 +33,8 @@ loop-word-preserved c =
             weights = λ count low.
                 subst (λ l. HaveSameWeights (flat_map (kept_place (has kept) rank) (word_places count (take (i + 1) words))) (map (decoded_place kept) (word_places (length kept) l))) items
                 (below_with kept count rank words i here low (sym c.has.ensures ∙ w.if-has.true) (λ other h. let less = c.requires.below other h in omega (arith, less, low))
-                old w.add.new.words.items w.shift_all-bits.result
-                (bits_brought kept c.in_ok-shifts.shifts.items w.as_slice.result.now (get_or words i none).bits w.shift_all-bits.result c.in_ok-shifts.ensures w.as_slice.ensures (omega (arith, c.requires.few, length-map c.args.pairs.now (λ (pair : ℕ × ℕ). pair.0))) w.shift_all-bits.ensures)
+                old w.add.new.words.items w.local_bits-bits.result
+                (λ number less. w.local_bits-bits.ensures number (omega (arith, less, length-map c.args.pairs.now (λ (pair : ℕ × ℕ). pair.0))))
                 (so_far.weights count low) (now.weights (length kept)));
           })
       | else-has w ↦

@@ -2,14 +2,12 @@ use Rattle.std.proofs.Common.{◌≡◌, ℕ, List, [], ◌∷◌, length, map, 
 use Rattle.basket_sets.specs.declared.weighted.Weighted.{Weighted}
 use Rattle.basket_sets.specs.Counts.{AllBelow}
 use Rattle.basket_sets.specs.Itemset.{IsRising}
-use Rattle.basket_sets.proofs.theory.Support.{support_falls}
 use Rattle.basket_ranks.specs.Codes.{coded_place}
 use Rattle.mine_conditional.specs.Conditional.{conditional_baskets}
 use Rattle.mine_baskets.specs.Baskets.{baskets_in}
 use Rattle.mine_baskets.specs.ListBaskets.{HaveSameWeights}
-use Rattle.mine_pairs.specs.Pairs.{first_support, kept_ranks, pairs_of}
+use Rattle.mine_pairs.specs.Pairs.{kept_ranks, pairs_of}
 use Rattle.mine_pairs.proofs.theory.Coded.{conditional_weights}
-use Rattle.mine_pairs.proofs.theory.Few.{first_falls}
 use Rattle.mine_pairs.proofs.theory.Kept.{kept_below, kept_rises, pair_ranks}
 use Rattle.mine_conditional.proofs.conditional.Conditional.below.Goals as goal
 
@@ -25,18 +23,8 @@ coded-requires-clause-rises c =
 pub coded-requires-clause-below : goal.coded-requires-clause-below
 coded-requires-clause-below c =
     let kept = firsts c.args.runs.now.baskets c.args.least c.args.rank c.args.pairs.now c.in_ok-kept.kept.items c.requires.pairs c.in_ok-kept.ensures in
-    subst (AllBelow c.args.places.now) (sym (c.deref.ensures.value ∙ kept))
-    (λ item h. let less = kept_below c.args.runs.now.baskets c.args.least c.args.rank item h in omega (arith, less, c.requires.rank, c.requires.places))
-
-pub below_few-requires-clause-falls : goal.below_few-requires-clause-falls
-below_few-requires-clause-falls c =
-    let falls = first_falls c.args.runs.now.baskets c.args.least c.args.rank in
-    omega (arith, falls, c.support.ensures, ap first_support c.requires.pairs)
-
-pub below_few-requires-clause-light : goal.below_few-requires-clause-light
-below_few-requires-clause-light c =
-    let all = support_falls c.args.runs.now.baskets (c.args.rank ∷ []) [] refl in
-    omega (arith, all, c.support.ensures, c.of_rank-paths.ensures.ranked.light)
+    subst (AllBelow c.args.numbers.now) (sym (c.deref.ensures.value ∙ kept))
+    (λ item h. let less = kept_below c.args.runs.now.baskets c.args.least c.args.rank item h in omega (arith, less, c.requires.rank, c.requires.numbers))
 
 pub returns-clause-below : goal.returns-clause-below
 returns-clause-below c =
