@@ -1,7 +1,8 @@
 -- Words of bits: their ranks, and what they weigh.
 use Rattle.std.proofs.Common.{◌≡◌, ℕ, ◌+◌, ◌-◌, ◌*◌, ◌%◌, ◌^◌, ◌<◌, ◌≤◌, eqb, ltb, Bool, true, false, ◌&&◌, List, [], ◌∷◌, ◌++◌, length, take, get_or, map, cond, refl, sym, ap, ◌∙◌, subst, inl, inr, arith, add-zero, zero, suc}
 use Rattle.std.specs.List.{filter, flat_map, list_all, range_with_len, sum_by}
-use Rattle.std.specs.Prelude.{bit_or, bool_byte}
+use mir.Val.{bool_byte}
+use Rattle.std.specs.Prelude.{bit_or}
 use Rattle.std.proofs.lemmas.Bool.{and_from, cases_Bool, true≢false}
 use Rattle.std.proofs.lemmas.Bool.Decides.{nat_tests}
 use Rattle.std.proofs.lemmas.Nat.{one_shl}
@@ -44,7 +45,7 @@ in_below count bits rank m = let high = (Member-range 0 count rank (Member-filte
 
 one_bit : (own : Bool) (at index : ℕ) → at < WORD_RANKS → index < WORD_RANKS → has_rank (bool_byte own * 2 ^ (63 - at) % 18446744073709551616) index ≡ (own && eqb at index)
 one_bit true at index low within = ap (λ n. has_rank n index) (one_shl (63 - at) 64 (omega arith)) ∙ one_rank at index low within
-one_bit false at index low within = ap (λ n. eqb n 1) (bit_at-zero (63 - index))
+one_bit false at index low within = let none : 0 * 2 ^ (63 - at) % 18446744073709551616 ≡ 0 = omega arith in ap (λ n. has_rank n index) none ∙ ap (λ n. eqb n 1) (bit_at-zero (63 - index))
 
 -- those of the indexes so far, with one more
 pub bits_more : (own : ℕ → Bool) (bits at new : ℕ) → at < WORD_RANKS → new ≡ bit_or bits (bool_byte (own at) * 2 ^ (63 - at) % 18446744073709551616)

@@ -31,10 +31,10 @@ returns-clause-below c =
     let baskets = c.args.runs.now.baskets in
     let paths = c.of_rank-paths.result in
     let kept = c.deref.ensures.value ∙ firsts baskets c.args.least c.args.rank c.args.pairs.now c.in_ok-kept.kept.items c.requires.pairs c.in_ok-kept.ensures in
-    let others = (conditional_baskets c.in_ok-below-2.below).baskets in
-    let same = subst (λ l. HaveSameWeights (map (coded_place l) (baskets_in paths)) others) kept c.in_ok-below-2.ensures.weights in
+    let others = (conditional_baskets c.in_ok-below.below).baskets in
+    let same = subst (λ l. HaveSameWeights (map (coded_place l) (baskets_in paths)) others) kept c.in_ok-below.ensures.weights in
     record {
-      ranks = c.in_ok-below-2.ensures.ranks ∙ ap length kept;
-      ranked = c.in_ok-below-2.ensures.ranked;
+      ranks = c.in_ok-below.ensures.ranks ∙ ap length kept;
+      ranked = c.in_ok-below.ensures.ranked;
       weights = conditional_weights baskets c.args.least c.args.rank paths.count (baskets_in paths) c.of_rank-paths.ensures.weights paths.ranked.places others same;
     }
