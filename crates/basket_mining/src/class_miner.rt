@@ -24,7 +24,7 @@ impl<R: Row> ClassMiner for EclatMiner<'_, R> {
 
     ghost work_of = { λ miner. class_joins miner.vertical };
 
-    ghost exact = { λ miner. RanksAreFrequent miner.vertical };
+    ghost rests_on = { λ miner. RanksAreFrequent miner.vertical };
 
     fn class<T: Tally>(
         &self,

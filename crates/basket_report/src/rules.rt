@@ -34,7 +34,7 @@ struct Unions<'a> {
     frequent: &'a Frequent,
     confidence: Share,
     style: Style<'a>,
-    places: &'a IndexTable,
+    indexes: &'a IndexTable,
     texts: &'a Texts,
     parts: u32,
 }
@@ -54,7 +54,7 @@ impl<'a> PartWork<Vec<u8>> for Unions<'a> {
     }
 
     fn tools(&self, alloc: Global) -> Result<SetIndex<'a>, AllocError> {
-        Ok(SetIndex::new(alloc, self.places))
+        Ok(SetIndex::new(alloc, self.indexes))
     }
 
     #[tactic(auto, using(std::proofs::lemmas::Grind::common_steps, crate::proofs::RuleLemmas::more_rules))]
@@ -88,7 +88,7 @@ pub fn rules_report<R: Threads + Sync>(
     ensures lists { IfOk result (λ texts. IsConsistent frequent.now.sets → joined texts.items ≡ rules_report_of (wording_of style.entry) (rules_among frequent.now confidence)) }
 {
     let sets = frequent.sets();
-    let places = index_table_of(alloc, sets)?;
+    let indexes = index_table_of(alloc, sets)?;
     let texts = ReportSize::of(sets).texts(alloc)?;
     let workers = workers.clamp(1, 64);
     let parts = part_count(sets.len(), workers);
@@ -96,7 +96,7 @@ pub fn rules_report<R: Threads + Sync>(
         frequent,
         confidence,
         style,
-        places: &places,
+        indexes: &indexes,
         texts: &texts,
         parts,
     };

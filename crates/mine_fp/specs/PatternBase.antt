@@ -57,8 +57,8 @@ pub record IsBelow (base : PatternBase) (number : ℕ) (below : PatternBase) : T
 -- scratch memory has a slot for each rank of a pattern base
 pub record HaveSlots (scratch : ClassScratch) (base : PatternBase) : Type 0 where
   pub sums : base.paths.ranks ≤ scratch.sums
-  pub places : base.paths.ranks ≤ scratch.places
+  pub numbers : base.paths.ranks ≤ scratch.numbers
 
 -- scratch memory has as many slots as before
 abbrev pub KeepSlots : ClassScratch → ClassScratch → Type 0
-KeepSlots before after = (after.sums ≡ before.sums) × (after.places ≡ before.places)
+KeepSlots before after = (after.sums ≡ before.sums) × (after.numbers ≡ before.numbers)

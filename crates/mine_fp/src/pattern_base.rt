@@ -62,8 +62,8 @@ impl<'a> PatternBase<'a> {
         if ranks.is_empty() {
             return Ok(None);
         }
-        let places = &mut scratch.places;
-        let conditional = self.paths.below(alloc, places, number, self.least, &ranks)?;
+        let numbers = &mut scratch.numbers;
+        let conditional = self.paths.below(alloc, numbers, number, self.least, &ranks)?;
         let paths = Paths::of(alloc, conditional)?;
         rename(&mut ranks, &self.ranks);
         Ok(Some(PatternBase {
@@ -135,7 +135,7 @@ impl<'a> Projected for PatternBase<'a> {
 
     ghost used_twice = { λ base first second third earlier later. (later.0 ∙ earlier.0, later.1 ∙ earlier.1) };
 
-    ghost lent_again = { λ base before after kept lent. record { sums = subst (λ n. base.paths.ranks ≤ n) (sym kept.0) lent.sums; places = subst (λ n. base.paths.ranks ≤ n) (sym kept.1) lent.places } };
+    ghost lent_again = { λ base before after kept lent. record { sums = subst (λ n. base.paths.ranks ≤ n) (sym kept.0) lent.sums; numbers = subst (λ n. base.paths.ranks ≤ n) (sym kept.1) lent.numbers } };
 }
 
 /// Replaces each number by the rank that has it.

@@ -1,6 +1,5 @@
 -- What the proofs of every crate may cite of runs and of what is frequent together with a rank.
 pub mod Coded
-pub mod Few
 pub mod Kept
 pub mod PairSums
 pub mod Pairs

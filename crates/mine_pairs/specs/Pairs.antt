@@ -21,11 +21,6 @@ pairs_of baskets least rank = map (λ other. (other, support_of baskets (other �
 abbrev pub lists_of : {X : Type 0} → List (Vec X Global) → List (List X)
 lists_of lists = map (λ list. list.items) lists
 
--- the support of the first of some pairs, or 0
-abbrev pub first_support : List (ℕ × ℕ) → ℕ
-first_support [] = 0
-first_support (pair ∷ pairs) = pair.1
-
 -- for each rank below a number the ranks below it that are frequent together with it, by a least support, each with the support of the pair
 abbrev pub pairs_by_greater : List Weighted → ℕ → ℕ → List (List (ℕ × ℕ))
 pairs_by_greater baskets least count = map (pairs_of baskets least) (range_with_len 0 count)

@@ -92,18 +92,18 @@ module _ (coding : Coding) (pieces : ℕ) (some : 1 ≤ pieces) where
         omega (arith, told, seen, sum_by-flat_map size (λ (s : SeatView). s.held.claimed) seats, all_claimed_have (claimed_by seats) same, sum, greatest)
 
     -- the fault to tell is that there are too many only where there are
-    pub too_many_are : (round : RoundView) (exact : Type 0) (work : ℕ → ℕ) (limit : ℕ) (shares : List (WorkerResult (Vec (ℕ × (List Counted × ℕ)) Global))) (seats : List SeatView) (most total count : ℕ)
-        → seats ≡ map (λ share. share.seat) shares → All (IsClassShare round coding exact work limit pieces) shares
+    pub too_many_are : (round : RoundView) (rests_on : Type 0) (work : ℕ → ℕ) (limit : ℕ) (shares : List (WorkerResult (Vec (ℕ × (List Counted × ℕ)) Global))) (seats : List SeatView) (most total count : ℕ)
+        → seats ≡ map (λ share. share.seat) shares → All (IsClassShare round coding rests_on work limit pieces) shares
         → IsPermutation (claimed_by seats) (range_with_len 0 count) → count ≤ pieces → total ≡ added_by seats 0 → total ≡ seen_by seats 0
         → fault_of (map (λ share. share.values) shares) ≡ Some (TooMany most) → (most ≡ limit) × (limit < length (frequent_of_coding coding))
-    too_many_are round exact work limit shares seats most total count are all same within sum greatest fault =
+    too_many_are round rests_on work limit shares seats most total count are all same within sum greatest fault =
         let size = claimed_size coding pieces in
         let AtMost : SeatView → Type 0 = λ seat. slice_index seat.held.added 0 ≤ sum_by size seat.held.claimed in
         let told = sums_at_most (λ s. slice_index s.held.added 0) (λ s. sum_by size s.held.claimed) seats (All-same AtMost _ _ are (All-map AtMost (λ share. share.seat) shares (λ k d below. (all k d below).at_most))) in
         let moved = sum_by-flat_map size (λ (s : SeatView). s.held.claimed) seats in
         let claimed = claimed_have_at_most (claimed_by seats) count same within in
         let seen = greatest ∙ ap (λ l. seen_by l 0) are in
-        let Told : WorkerResult (Vec (ℕ × (List Counted × ℕ)) Global) → Type 0 = λ share. IsClassShare round coding exact work limit pieces share × (slice_index share.seat.held.seen 0 ≤ total) in
+        let Told : WorkerResult (Vec (ℕ × (List Counted × ℕ)) Global) → Type 0 = λ share. IsClassShare round coding rests_on work limit pieces share × (slice_index share.seat.held.seen 0 ≤ total) in
         let Too : Type 0 = (most ≡ limit) × (limit < length (frequent_of_coding coding)) in
         elim (fault_from Told Too most
         (λ share says here.
@@ -121,7 +121,7 @@ module _ (coding : Coding) (pieces : ℕ) (some : 1 ≤ pieces) where
 
 -- ---- the classes of all ranks
 
-module _ (coding : Coding) (exact : Type 0) (work : ℕ → ℕ) where
+module _ (coding : Coding) (rests_on : Type 0) (work : ℕ → ℕ) where
   work_is_few : (first : ℕ) (classes : List (List Counted × ℕ)) → ((k : ℕ) → k < length classes → (get_or classes k ([], 0)).1 ≤ class_size coding (first + k) * MOST_SET_WORK)
       → sum (map (λ class. class.1) classes) ≤ sum_by (class_size coding) (range_with_len first (length classes)) * MOST_SET_WORK
   work_is_few first [] each = omega arith
@@ -135,7 +135,7 @@ module _ (coding : Coding) (exact : Type 0) (work : ℕ → ℕ) where
       let sizes = ap (λ n. n * MOST_SET_WORK) (sum_by-cons (class_size coding) first (range_with_len (first + 1) (length classes))) in
       omega (arith, few, rest, works, sizes)
 
-  module _ (classes : List (List Counted × ℕ)) (has : HasEach (IsMined coding exact work) (length coding.items) classes) where
+  module _ (classes : List (List Counted × ℕ)) (has : HasEach (IsMined coding rests_on work) (length coding.items) classes) where
     -- the work of all classes fits a number
     pub work_fits : (limit : ℕ) → IsCoding coding → length (frequent_of_coding coding) ≤ limit → limit < 2 ^ 32 → sum (map (λ class. class.1) classes) < 2 ^ 64
     work_fits limit is within small =
@@ -143,7 +143,7 @@ module _ (coding : Coding) (exact : Type 0) (work : ℕ → ℕ) where
         let all = ap (λ n. n * MOST_SET_WORK) (ap (λ n. sum_by (class_size coding) (range_with_len 0 n)) has.count ∙ class_sizes_add_up coding is) in
         omega (arith, few, all, within, small)
 
-    pub work_of_all : (total : ℕ) → total ≡ sum (map (λ class. class.1) classes) → exact → total ≡ sum_by work (range_with_len 0 (length coding.items))
+    pub work_of_all : (total : ℕ) → total ≡ sum (map (λ class. class.1) classes) → rests_on → total ≡ sum_by work (range_with_len 0 (length coding.items))
     work_of_all total added known =
         let all = fill_by_all work (map (λ class. class.1) classes) (length coding.items) 0 (length-map classes (λ class. class.1) ∙ has.count)
         (λ k below. get_or-map (λ class. class.1) classes k ([], 0) 0 (omega (arith, has.count, below)) ∙ (has.each k ([], 0) below).worked known) in

@@ -27,15 +27,15 @@ ranks_of coding pieces claimed = map (rank_from_end (length coding.items)) (inde
 abbrev pub claimed_size : Coding → ℕ → ℕ → ℕ
 claimed_size coding pieces claimed = sum_by (class_size coding) (ranks_of coding pieces claimed)
 
--- the class of a rank, and the work that it took: that of the rank, if it is exact, and no more than its sets can take
-pub record IsMined (coding : Coding) (exact : Type 0) (work : ℕ → ℕ) (rank : ℕ) (class : List Counted × ℕ) : Type 0 where
+-- the class of a rank, and the work that it took: that of the rank, if it is rests_on, and no more than its sets can take
+pub record IsMined (coding : Coding) (rests_on : Type 0) (work : ℕ → ℕ) (rank : ℕ) (class : List Counted × ℕ) : Type 0 where
   pub listed : ListsClassItems coding rank class.0
-  pub worked : exact → class.1 ≡ work rank
+  pub worked : rests_on → class.1 ≡ work rank
   pub few : class.1 ≤ class_size coding rank * MOST_SET_WORK
 
 -- each of these is a rank with its class
 abbrev pub AreMined : Coding → Type 0 → (ℕ → ℕ) → List (ℕ × (List Counted × ℕ)) → Type 0
-AreMined coding exact work values = All (λ value. IsMined coding exact work value.0 value.1) values
+AreMined coding rests_on work values = All (λ value. IsMined coding rests_on work value.0 value.1) values
 
 -- a class alone has more sets than the limit
 pub record HasLargeClass (coding : Coding) (limit : ℕ) : Type 0 where
@@ -49,8 +49,8 @@ pub record ToldAll (size : ℕ → ℕ) (limit : ℕ) (seat : SeatView) : Type 0
   pub within : slice_index seat.held.seen 0 ≤ limit
 
 -- what a worker hands back: its seat, which told no more sets than the pieces have that it claimed, and the classes of their ranks, of which it told each set, or why it stopped
-pub record IsClassShare (round : RoundView) (coding : Coding) (exact : Type 0) (work : ℕ → ℕ) (limit pieces : ℕ) (share : WorkerResult (Vec (ℕ × (List Counted × ℕ)) Global)) : Type 0 where
-  pub of_ranks : IsPieceShare (IsMined coding exact work) (ranks_of coding pieces) round share
+pub record IsClassShare (round : RoundView) (coding : Coding) (rests_on : Type 0) (work : ℕ → ℕ) (limit pieces : ℕ) (share : WorkerResult (Vec (ℕ × (List Counted × ℕ)) Global)) : Type 0 where
+  pub of_ranks : IsPieceShare (IsMined coding rests_on work) (ranks_of coding pieces) round share
   pub at_most : slice_index share.seat.held.added 0 ≤ sum_by (claimed_size coding pieces) share.seat.held.claimed
   pub told : IfOk share.values (λ _. ToldAll (claimed_size coding pieces) limit share.seat)
   pub too_many : (most : ℕ) → share.values ≡ Err (TooMany most) → (most ≡ limit) × ((limit < slice_index share.seat.held.seen 0) ⊎ HasLargeClass coding limit)

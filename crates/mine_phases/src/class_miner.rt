@@ -17,7 +17,7 @@ pub trait ClassMiner {
     ghost work_of: { Self → ℕ → ℕ };
 
     /// What that rests on: nothing, if a miner doesn't say.
-    ghost exact: { Self → Type 0 } = { λ _. Unit {0} };
+    ghost rests_on: { Self → Type 0 } = { λ _. Unit {0} };
 
     /// The sets of the class as items, and how much work they took. Each set is reported to the
     /// tally. The scratch memory is used again from class to class.
@@ -32,6 +32,6 @@ pub trait ClassMiner {
         requires scratch { IsScratchOf (length (coding_of self.now).items) scratch.old }
         requires going { T.is_over tally.old ≡ false }
         ensures class { MinesClass T.told_of T.limit_of T.is_over (coding_of self.now) rank tally.old tally.new result }
-        ensures work { IfOk result (λ mined. exact self.now → mined.1 ≡ work_of self.now rank) }
+        ensures work { IfOk result (λ mined. rests_on self.now → mined.1 ≡ work_of self.now rank) }
         ensures scratch { OnOk result (IsScratchOf (length (coding_of self.now).items) scratch.new) };
 }

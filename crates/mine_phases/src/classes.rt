@@ -56,7 +56,7 @@ impl<M: ClassMiner, G: Gate> Classes<'_, '_, M, G> {
     fn share(&self, alloc: Global, worker: u32, seat: RoundSeat) -> WorkerResult<Vec<(u32, Class)>>
         requires own { seat.round ≡ self.now.round.now.id }
         requires unused { seat.held ≡ unused 1 1 }
-        ensures { IsClassShare self.now.round.now (M.coding_of self.now.miner.now) (M.exact self.now.miner.now) (M.work_of self.now.miner.now) self.now.limit self.now.pieces result }
+        ensures { IsClassShare self.now.round.now (M.coding_of self.now.miner.now) (M.rests_on self.now.miner.now) (M.work_of self.now.miner.now) self.now.limit self.now.pieces result }
     {
         let mut seat = seat;
         let mut values = Vec::new(alloc);
@@ -95,12 +95,12 @@ impl<M: ClassMiner, G: Gate> Classes<'_, '_, M, G> {
         requires few { slice_index seat.held.seen 0 ≤ self.now.limit }
         requires scratch { IsScratchOf self.now.ranks scratch.old }
         requires claimed { claimed < self.now.pieces }
-        requires each { AreMined (M.coding_of self.now.miner.now) (M.exact self.now.miner.now) (M.work_of self.now.miner.now) values.old.items }
+        requires each { AreMined (M.coding_of self.now.miner.now) (M.rests_on self.now.miner.now) (M.work_of self.now.miner.now) values.old.items }
         ensures counts { CountsSets self.now.round.now result.0 }
         ensures same { still result.0 ≡ still seat }
         ensures scratch { OnOk result.1 (IsScratchOf self.now.ranks scratch.new) }
         ensures numbers { OnOk result.1 (numbers_of values.new.items ≡ numbers_of values.old.items ++ ranks_of (M.coding_of self.now.miner.now) self.now.pieces claimed) }
-        ensures each { OnOk result.1 (AreMined (M.coding_of self.now.miner.now) (M.exact self.now.miner.now) (M.work_of self.now.miner.now) values.new.items) }
+        ensures each { OnOk result.1 (AreMined (M.coding_of self.now.miner.now) (M.rests_on self.now.miner.now) (M.work_of self.now.miner.now) values.new.items) }
         ensures told { OnOk result.1 (slice_index result.0.held.added 0 ≡ slice_index seat.held.added 0 + claimed_size (M.coding_of self.now.miner.now) self.now.pieces claimed) }
         ensures at_most { slice_index result.0.held.added 0 ≤ slice_index seat.held.added 0 + claimed_size (M.coding_of self.now.miner.now) self.now.pieces claimed }
         ensures too_many { (most : ℕ) → result.1 ≡ Err (TooMany most)
@@ -126,9 +126,9 @@ impl<M: ClassMiner, G: Gate> Classes<'_, '_, M, G> {
         requires going { tally.old.over ≡ false }
         requires scratch { IsScratchOf self.now.ranks scratch.old }
         requires claimed { claimed < self.now.pieces }
-        requires each { AreMined (M.coding_of self.now.miner.now) (M.exact self.now.miner.now) (M.work_of self.now.miner.now) values.old.items }
+        requires each { AreMined (M.coding_of self.now.miner.now) (M.rests_on self.now.miner.now) (M.work_of self.now.miner.now) values.old.items }
         ensures numbers { OnOk result (numbers_of values.new.items ≡ numbers_of values.old.items ++ ranks_of (M.coding_of self.now.miner.now) self.now.pieces claimed) }
-        ensures each { OnOk result (AreMined (M.coding_of self.now.miner.now) (M.exact self.now.miner.now) (M.work_of self.now.miner.now) values.new.items) }
+        ensures each { OnOk result (AreMined (M.coding_of self.now.miner.now) (M.rests_on self.now.miner.now) (M.work_of self.now.miner.now) values.new.items) }
         ensures told { OnOk result (tally.new.told ≡ tally.old.told + claimed_size (M.coding_of self.now.miner.now) self.now.pieces claimed) }
         ensures going_on { OnOk result (tally.new.over ≡ false) }
         ensures too_many { (most : ℕ) → result ≡ Err (TooMany most)
@@ -167,7 +167,7 @@ fn mined_classes<'a, 'g, R: Threads + Sync, G: Gate + Sync, M: ClassMiner + Sync
     phase: &Phase<'g, G>,
 ) -> Result<Vec<Class>, MineFault>
     requires coding { M.coding_of miner.now ≡ coded.now }
-    ensures each { IfOk result (λ mined. HasEach (IsMined coded.now (M.exact miner.now) (M.work_of miner.now)) (length coded.now.items) mined.items) }
+    ensures each { IfOk result (λ mined. HasEach (IsMined coded.now (M.rests_on miner.now) (M.work_of miner.now)) (length coded.now.items) mined.items) }
     ensures within { IfOk result (λ _. length (frequent_of_coding coded.now) ≤ limit) }
     ensures too_many { (most : ℕ) → result ≡ Err (TooMany most) → (most ≡ limit) × (limit < length (frequent_of_coding coded.now)) }
 {
@@ -190,7 +190,7 @@ fn mined_classes<'a, 'g, R: Threads + Sync, G: Gate + Sync, M: ClassMiner + Sync
         seats,
         &|job: (u32, RoundSeat)| -> WorkerResult<Vec<(u32, Class)>>
             requires { (job.1.round ≡ lent.now.round.now.id) × (job.1.held ≡ unused 1 1) }
-            ensures { IsClassShare lent.entry.now.round.now (M.coding_of lent.entry.now.miner.now) (M.exact lent.entry.now.miner.now) (M.work_of lent.entry.now.miner.now) lent.entry.now.limit lent.entry.now.pieces result }
+            ensures { IsClassShare lent.entry.now.round.now (M.coding_of lent.entry.now.miner.now) (M.rests_on lent.entry.now.miner.now) (M.work_of lent.entry.now.miner.now) lent.entry.now.limit lent.entry.now.pieces result }
         { lent.share(alloc, job.0, job.1) },
     )?;
     let Ok(_) = round.close(seats) else {
@@ -214,7 +214,7 @@ pub fn mine_shared<R: Threads + Sync, G: Gate + Sync, M: ClassMiner + Sync + Dro
     requires coding { M.coding_of miner ≡ coded.now }
     ensures list { IfOk result (λ mined. mined.0 ≡ listing_of coded.now) }
     ensures within { IfOk result (λ mined. length mined.0.sets ≤ limit) }
-    ensures work { IfOk result (λ mined. M.exact miner → mined.1 ≡ sum_by (M.work_of miner) (range_with_len 0 (length coded.now.items))) }
+    ensures work { IfOk result (λ mined. M.rests_on miner → mined.1 ≡ sum_by (M.work_of miner) (range_with_len 0 (length coded.now.items))) }
     ensures too_many { (most : ℕ) → result ≡ Err (TooMany most) → (most ≡ limit) × (limit < length (frequent_of_coding coded.now)) }
 {
     let _baskets = coded.baskets();

@@ -16,7 +16,7 @@ pub struct TidWord {
     pub weight: u64,
 }
 
-/// The number of tids of the same word and weight, to which some more can be added. They are looked for from a number on.
+/// The index of tids of the same word and weight, to which some more can be added. They are looked for from an index on.
 fn joinable(tids: &[TidWord], start: usize, more: TidWord) -> Option<usize>
     ensures { IfSome result (λ at. (at < length tids.now) × IsJoinable (slice_index_or tids.now at more) more) }
 {
@@ -29,7 +29,7 @@ fn joinable(tids: &[TidWord], start: usize, more: TidWord) -> Option<usize>
     None
 }
 
-/// Adds some tids, to those from a number on that they can be added to.
+/// Adds some tids, to those from an index on that they can be added to.
 #[tactic(auto, using(crate::proofs::TidLemmas::added_part))]
 fn add_part(tids: &mut Vec<TidWord>, start: usize, more: TidWord) -> Result<(), AllocError>
     ensures { OnOk result ((row : ℕ → ℕ) → shared_weight row tids.new.items ≡ shared_weight row tids.old.items + part_weight row more) }

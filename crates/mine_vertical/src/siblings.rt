@@ -45,7 +45,7 @@ pub fn class_siblings<R: Row>(
 {
     let pairs = joins.pairs(alloc, runs, &mut scratch.sums, rank, least)?;
     let kept = ranks_of(alloc, &pairs)?;
-    let below = Conditional::below(runs, alloc, &mut scratch.places, rank, least, &pairs)?;
+    let below = Conditional::below(runs, alloc, &mut scratch.numbers, rank, least, &pairs)?;
     let merged = below.merged(alloc)?;
     let unmerged = runs.of_rank(rank).len();
     let made = LocalBaskets::with_siblings(alloc, kept, merged, unmerged)?;

@@ -38,7 +38,7 @@ pub list-requires-clause-lent : goal.list-requires-clause-lent
 list-requires-clause-lent g c = λ inner e.
     let all = c.forest.inside.all in
     let same = ap (λ (v : Coding). length v.items) c.forest.view_is in
-    let slots : HaveSlots c.args.scratch.now all = record { sums = omega (arith, c.requires.scratch.0, same, c.forest.invariant.count); places = omega (arith, c.requires.scratch.1, same, c.forest.invariant.count) } in
+    let slots : HaveSlots c.args.scratch.now all = record { sums = omega (arith, c.requires.scratch.0, same, c.forest.invariant.count); numbers = omega (arith, c.requires.scratch.1, same, c.forest.invariant.count) } in
     slots_below (rw e at c.in_ok-below.ensures.below) (omega (arith, c.requires.rank, same, c.forest.invariant.count)) slots c.below.ensures.kept
 
 pub returns-clause-trees : goal.returns-clause-trees

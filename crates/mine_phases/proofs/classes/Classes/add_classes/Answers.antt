@@ -41,7 +41,7 @@ returns-then-not-look-clause-at_most g c = grind (arith, common_steps, class_fit
 pub loop-index-preserved : goal.loop-index-preserved
 loop-index-preserved g c =
     let coding : Coding = g.M.ClassMiner.coding_of c.args.self.now.miner.now in
-    let Mined : ℕ × (List Counted × ℕ) → Type 0 = λ value. IsMined coding (g.M.ClassMiner.exact c.args.self.now.miner.now) (g.M.ClassMiner.work_of c.args.self.now.miner.now) value.0 value.1 in
+    let Mined : ℕ × (List Counted × ℕ) → Type 0 = λ value. IsMined coding (g.M.ClassMiner.rests_on c.args.self.now.miner.now) (g.M.ClassMiner.work_of c.args.self.now.miner.now) value.0 value.1 in
     let pieces = c.args.self.now.pieces in
     let index = c.loop-index.index in
     let rank = c.args.self.now.ranks - 1 - index in

@@ -14,7 +14,7 @@ invariant-loop-index g l = record {
   limit : l.tally.limit ≡ l.initial.tally.limit;
   turn : l.index % l.self.pieces ≡ l.claimed;
   numbers : numbers_of l.values.items ≡ numbers_of l.initial.values.items ++ ranks_before (g.M.ClassMiner.coding_of l.self.miner.now) l.self.pieces l.claimed l.index;
-  each : AreMined (g.M.ClassMiner.coding_of l.self.miner.now) (g.M.ClassMiner.exact l.self.miner.now) (g.M.ClassMiner.work_of l.self.miner.now) l.values.items;
+  each : AreMined (g.M.ClassMiner.coding_of l.self.miner.now) (g.M.ClassMiner.rests_on l.self.miner.now) (g.M.ClassMiner.work_of l.self.miner.now) l.values.items;
   told : l.tally.told ≡ l.initial.tally.told + sum_by (class_size (g.M.ClassMiner.coding_of l.self.miner.now)) (ranks_before (g.M.ClassMiner.coding_of l.self.miner.now) l.self.pieces l.claimed l.index);
 }
 

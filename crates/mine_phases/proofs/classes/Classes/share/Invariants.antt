@@ -13,7 +13,7 @@ invariant-loop-alloc g l = record {
   scratch : IsScratchOf l.self.ranks l.scratch;
   within : after l.seat.held.claimed ≤ l.self.pieces;
   numbers : numbers_of l.values.items ≡ flat_map (ranks_of (g.M.ClassMiner.coding_of l.self.miner.now) l.self.pieces) l.seat.held.claimed;
-  each : AreMined (g.M.ClassMiner.coding_of l.self.miner.now) (g.M.ClassMiner.exact l.self.miner.now) (g.M.ClassMiner.work_of l.self.miner.now) l.values.items;
+  each : AreMined (g.M.ClassMiner.coding_of l.self.miner.now) (g.M.ClassMiner.rests_on l.self.miner.now) (g.M.ClassMiner.work_of l.self.miner.now) l.values.items;
   told : slice_index l.seat.held.added 0 ≡ sum_by (claimed_size (g.M.ClassMiner.coding_of l.self.miner.now) l.self.pieces) l.seat.held.claimed;
 }
 
