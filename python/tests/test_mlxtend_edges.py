@@ -1,5 +1,6 @@
 """The calls of mlxtend at their edges: time, very many rules, odd labels and numbers that are no floats."""
 
+import functools
 import inspect
 import math
 import pydoc
@@ -13,7 +14,7 @@ import numpy as np
 import pandas as pd
 import pytest
 
-from basket_miner import DataError, TimedOut, _mlxtend
+from basket_miner import DataError, _mlxtend
 from basket_miner.frequent_patterns import (
     apriori,
     association_rules,
@@ -22,7 +23,7 @@ from basket_miner.frequent_patterns import (
     hmine,
 )
 from test_frequent_patterns import BY_NAME, BY_PLACE, FRAME, pairs
-from test_program import SECONDS, is_running, stand_in
+from test_program import SECONDS, ended_at_its_timeout, stand_in
 
 ITEMSETS = apriori(FRAME, min_support=0.6)
 CALLS: list[tuple[Callable[..., pd.DataFrame], Any, dict[str, Any]]] = [
@@ -55,9 +56,8 @@ def test_a_call_ends_at_its_timeout(
         with pytest.raises(DataError, match="timeout is a number of seconds above 0"):
             call(given, timeout=wrong, **words)
     stand_in(monkeypatch, tmp_path, f"echo $$ > {tmp_path}/id; exec sleep 600")
-    with pytest.raises(TimedOut, match="timeout= was over: basket "):
-        call(given, timeout=0.5, **words)
-    assert not is_running(int((tmp_path / "id").read_text()))
+    slow = functools.partial(call, given, **words)
+    ended_at_its_timeout(slow, "basket ", tmp_path / "id")
 
 
 def test_support_only_refuses_more_rules_than_memory_takes(

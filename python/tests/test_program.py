@@ -209,9 +209,8 @@ def test_a_question_ends_at_its_timeout(
                 call(timeout=wrong)
     stand_in(monkeypatch, tmp_path, f"echo $$ > {tmp_path}/id; exec sleep 600")
     for call in calls:
-        with pytest.raises(TimedOut, match="timeout= was over: basket (sets|count) -"):
-            call(timeout=0.5)
-        assert not is_running(int((tmp_path / "id").read_text()))
+        (tmp_path / "id").unlink(missing_ok=True)
+        ended_at_its_timeout(call, "basket (sets|count) -", tmp_path / "id")
 
 
 def test_a_task_that_is_cancelled_ends_its_program(
@@ -245,12 +244,16 @@ def test_an_interrupt_ends_the_program(
     monkeypatch: pytest.MonkeyPatch, tmp_path: Path
 ) -> None:
     stand_in(monkeypatch, tmp_path, f"echo $$ > {tmp_path}/id; exec sleep 60")
-    interrupt = threading.Timer(1, os.kill, (os.getpid(), signal.SIGINT))
-    interrupt.start()
+
+    def interrupt() -> None:
+        told_by(tmp_path / "id")
+        os.kill(os.getpid(), signal.SIGINT)
+
+    threading.Thread(target=interrupt).start()
     with pytest.raises(KeyboardInterrupt):
         _program.run(["sets"])
     with pytest.raises(ProcessLookupError):
-        os.kill(int((tmp_path / "id").read_text()), 0)
+        os.kill(told_by(tmp_path / "id"), 0)
 
 
 def is_running(process: int) -> bool:
@@ -262,13 +265,31 @@ def is_running(process: int) -> bool:
     return stat.rpartition(")")[2].split()[0] not in "ZX"
 
 
+def has_told(file: Path) -> bool:
+    """Whether a process has written its number to a file."""
+    return file.exists() and file.read_text().endswith("\n")
+
+
 def told_by(file: Path) -> int:
     """The number that a process writes to a file sooner or later."""
     until = time.monotonic() + SECONDS
-    while not (file.exists() and file.read_text().endswith("\n")):
+    while not has_told(file):
         assert time.monotonic() < until
         time.sleep(0.02)
     return int(file.read_text())
+
+
+def ended_at_its_timeout(call: Callable[..., Any], words: str, file: Path) -> None:
+    """The call raises `TimedOut` with these words, and the program that tells its number to the file has ended.
+
+    On a busy machine the program may be ended before it tells anything: then it is given more time.
+    """
+    for seconds in (0.5, 5, SECONDS):
+        with pytest.raises(TimedOut, match=f"timeout= was over: {words}"):
+            call(timeout=seconds)
+        if has_told(file):
+            break
+    assert not is_running(told_by(file))
 
 
 @pytest.mark.parametrize("ending", [signal.SIGKILL, signal.SIGTERM])
