@@ -7,13 +7,12 @@ use Rattle.basket_plan.specs.declared.layout.Layout.{Layout}
 use Rattle.basket_read.specs.declared.fault.ReadFault.{ReadFault}
 use Rattle.basket_read.specs.declared.fault.ReadFault.TheVariants.{Memory}
 use Rattle.basket_outcome.specs.declared.contents.Contents.{Contents}
-use Rattle.basket_sets.specs.declared.counted.Counted.{Counted}
 use Rattle.basket_outcome.specs.declared.fault.RunFault.{RunFault}
 use Rattle.basket_outcome.specs.declared.fault.RunFault.TheVariants.{Input, Sets}
 use Rattle.basket_outcome.specs.declared.prepared.PreparedReport.{PreparedReport}
 use Rattle.basket_read.specs.Fault.{Returns, ReturnsBoth}
 use Rattle.basket_outcome.specs.Contents.{asked_in, contents_of}
-use Rattle.basket.specs.Count.{AreReadable, AreReadableSets, IsCountsFault, MakesCounts, OfBoth, count_outcome, counts_in, of_asked, of_contents, text_of_counts, unless_uncounted}
+use Rattle.basket.specs.Count.{AreReadable, AreReadableSets, IsCountsFault, MakesCounts, OfBoth, count_outcome, counts_in, of_asked, of_contents}
 use Rattle.basket_outcome.specs.Prepared.{prepared_text}
 use Rattle.mine_sets.specs.Asked.{asked_of}
 
@@ -26,11 +25,6 @@ was_read x = Ok x
 
 is_read : {X : Type 0} {x : X} {fault : ReadFault} → was_read x ≡ Err fault → ⊥
 is_read is = cc
-
--- what counting comes to is no fault of the sets or of the input
-text_is_readable : (layout : Layout) (names : Option (List (List ℕ))) (list : Result (List Counted) RunFault) (nth : Option ℕ) (sums : List Counted) → list ≡ unless_uncounted nth sums
-    → AreReadable (text_of_counts layout names list)
-text_is_readable h1 h2 h3 h4 h5 h6 = grind (arith, common_steps)
 
 counts_are_readable : (layout : Layout) (sets : List (List ℕ)) (contents : Contents) → AreReadable (counts_in layout sets contents)
 counts_are_readable h1 h2 h3 = grind (arith, common_steps)

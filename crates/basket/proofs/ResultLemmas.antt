@@ -1,8 +1,7 @@
 -- What holds of results.
 use Rattle.std.proofs.Common.{◌≡◌, ◌≢◌, ◌≤◌, ℕ, false, length, arith}
 use Rattle.std.proofs.lemmas.Grind.{common_steps}
-use Rattle.std.specs.Prelude.{OnOk, Result, List, nat_lt}
-use Rattle.std.proofs.lemmas.Bool.Decides.{nat_tests}
+use Rattle.std.specs.Prelude.{OnOk, Result, List}
 use Rattle.basket_sets.specs.declared.minimum.Minimum.{Minimum}
 use Rattle.basket_sets.specs.declared.weighted.Weighted.{Weighted}
 use Rattle.basket_sets.specs.Frequent.{frequent_of}
@@ -13,9 +12,6 @@ use Rattle.basket_outcome.specs.Outcome.{are_too_many}
 -- what holds anyway holds after `Ok`
 pub after_any : {T E P : Type 0} (result : Result T E) → P → OnOk result P
 after_any h1 h2 = grind (arith, common_steps)
-
-not_less : (limit count : ℕ) → count ≤ limit → nat_lt limit count ≡ false
-not_less limit count within = grind (arith, nat_tests)
 
 -- frequent sets within the limit are not too many, whatever but items is asked of them
 pub few_enough : (ask : Ask) (baskets : List Weighted) (minimum : Minimum) (limit : ℕ) → ask ≢ Items → length (frequent_of baskets minimum) ≤ limit → are_too_many ask baskets minimum limit ≡ false

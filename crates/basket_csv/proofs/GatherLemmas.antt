@@ -1,5 +1,5 @@
 -- The baskets of parts, one after another.
-use Rattle.std.proofs.Common.{◌≡◌, ℕ, ◌+◌, ◌≤◌, ◌<◌, Bool, true, List, [], ◌∷◌, ◌++◌, Option, ◌⊎◌, drop, get_or, length, ltb, map, take, unwrap_or, refl, sym, ap, ◌∙◌, subst, append_assoc, append-nil, inl, inr, arith}
+use Rattle.std.proofs.Common.{◌≡◌, ℕ, ◌+◌, ◌≤◌, ◌<◌, Bool, true, List, [], ◌∷◌, ◌++◌, ◌⊎◌, drop, get_or, length, ltb, map, take, unwrap_or, refl, sym, ap, ◌∙◌, subst, append_assoc, append-nil, inl, inr, arith}
 use Rattle.std.proofs.lemmas.Grind.{common_steps}
 use Rattle.std.specs.List.{flat_map, list_all}
 use Rattle.std.proofs.lemmas.Bool.{and_parts, cases_Bool, le-leb}
@@ -17,7 +17,7 @@ use Rattle.basket_read.specs.GatheredBaskets.{AreGathered, Gathers, HasGathered}
 use Rattle.basket_read.specs.declared.gathered.GatheredBaskets.{GatheredBaskets}
 use Rattle.basket_csv.specs.declared.part.RecordSize.{RecordSize}
 use Rattle.basket_csv.specs.declared.renumbered.RenumberedRecords.{RenumberedRecords}
-use Rattle.basket_csv.specs.Csv.{all_names, basket_of, names_in, positive, weight_of}
+use Rattle.basket_csv.specs.Csv.{all_names, basket_of, names_in, weight_of}
 use Rattle.basket_names.specs.Names.{number_in}
 use Rattle.basket_csv.specs.Part.{InParts, Rows, size_of}
 use Rattle.basket_csv.specs.Renumbered.{AreRenumbered}
@@ -32,10 +32,6 @@ cut_images f g (x ∷ left) (y ∷ own) rest e =
     let tail : map f left ≡ map g (own ++ rest) = cc in
     let h = cut_images f g left own rest tail in
     (ap (λ n. n ∷ map f (take (length own) left)) head ∙ ap (λ ns. g y ∷ ns) h.0, h.1)
-
--- a record's weight is at least 1
-some_weight : (number : Option ℕ) → 1 ≤ unwrap_or (positive number) 1
-some_weight h1 = grind (arith, common_steps)
 
 weighs : (weighted : Bool) (row : List (List ℕ)) → 1 ≤ unwrap_or (weight_of weighted row) 1
 weighs h1 h2 = grind (arith, common_steps)
@@ -131,10 +127,6 @@ counts_joined counting first later all baskets more ((a, has_a, is_a), light_a, 
 abbrev pub GathersTo : Bool → List (List ℕ) → Rows → Bool → GatheredBaskets → List RenumberedRecords → Type 0
 GathersTo weighted names rows counting gathered left =
     (done : Rows) × (rest : Rows) × (rows ≡ done ++ rest) × HasGathered gathered counting (flat_map (basket_of weighted names) done) × InParts (AreRenumbered weighted names) left rest
-
-pub part_numbered : (weighted : Bool) (names : List (List ℕ)) (rows : Rows) (counting : Bool) (gathered : GatheredBaskets) (left others : List RenumberedRecords) (part : RenumberedRecords)
-    → left ≡ part ∷ others → GathersTo weighted names rows counting gathered left → (w : Bool) × (ns : List (List ℕ)) × (own : Rows) × AreRenumbered w ns part own
-part_numbered weighted names rows counting gathered left others part is (done, rest, same, has, parts) = grind (arith, common_steps)
 
 pub part_more : (weighted : Bool) (names : List (List ℕ)) (rows : Rows) (counting : Bool) (gathered new : GatheredBaskets) (left others : List RenumberedRecords) (part : RenumberedRecords)
     → left ≡ part ∷ others

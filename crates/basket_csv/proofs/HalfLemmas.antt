@@ -1,8 +1,7 @@
 -- The baskets of two halves of parts.
-use Rattle.std.proofs.Common.{◌≡◌, ◌≢◌, ℕ, ◌≤◌, ◌<◌, Bool, false, List, ◌++◌, Result, Ok, Err, leb, ap, ◌∙◌, subst, inl, inr, arith}
+use Rattle.std.proofs.Common.{◌≡◌, ◌≢◌, ℕ, ◌≤◌, ◌<◌, Bool, List, ◌++◌, Result, Ok, Err, ap, ◌∙◌, subst, arith}
 use Rattle.std.proofs.lemmas.Grind.{common_steps}
 use Rattle.std.specs.List.{flat_map}
-use Rattle.std.proofs.lemmas.Bool.{cases_Bool, leb-true}
 use Rattle.std.proofs.lemmas.List.Concat.{flat_map-append}
 use Rattle.basket_sets.specs.declared.weighted.Weighted.{Weighted}
 use Rattle.basket_sets.specs.Support.{total_of}
@@ -22,9 +21,6 @@ use Rattle.basket_csv.proofs.InPartsLemmas.{in_halves}
 -- baskets that may be had are light
 light_is : (baskets found : List Weighted) → if_light baskets ≡ Ok found → baskets ≡ found
 light_is baskets found e = grind (arith, common_steps)
-
-not_leb : (a b : ℕ) → b < a → leb a b ≡ false
-not_leb a b above = elim (cases_Bool (leb a b)) [ inl e ↦ absurd (let below = leb-true a b e in omega arith) | inr e ↦ e ]
 
 -- what weighs too much does so with more
 heavy_more : (baskets all : List Weighted) (fault : ReadFault) → total_of baskets ≤ total_of all → if_light baskets ≡ Err fault → if_light all ≡ Err fault

@@ -9,10 +9,6 @@ use Rattle.basket_csv.specs.Parts.{IsCut}
 use Rattle.basket_csv.specs.Record.{last_after}
 use Rattle.basket_csv.proofs.LastLemmas.{last_push}
 
--- a text is no longer without its mark
-stripped_mark : (a b c : ℕ) (bytes : List ℕ) (is : Bool) → length (cond is bytes (a ∷ b ∷ c ∷ bytes)) ≤ length (a ∷ b ∷ c ∷ bytes)
-stripped_mark h1 h2 h3 h4 h5 = grind (arith, common_steps)
-
 pub stripped : (bytes : List ℕ) → length (strip_bom bytes) ≤ length bytes
 unfolding strip_bom
 stripped h1 = grind (arith, common_steps)

@@ -1,8 +1,7 @@
 -- A part of a text, none of whose records goes on after it, is read as a text of its own.
 use Rattle.std.proofs.Common.{◌≡◌, ◌⊎◌, inl, inr, ⊎_elim, ℕ, zero, suc, ◌+◌, ◌<◌, Bool, true, false, cond, eqb, ◌||◌, List, [], ◌∷◌, ◌++◌, length, Option, Some, None, refl, sym, ap, ◌∙◌, arith, append-nil}
 use Rattle.std.proofs.lemmas.Grind.{common_steps}
-use Rattle.std.proofs.lemmas.Bool.{eqb-true, or_parts}
-use Rattle.csv.specs.Machine.{Read, next_record, step, in_field, start_field, start_record, ends_at_end, is_end, fields_after, field_after}
+use Rattle.csv.specs.Machine.{Read, next_record, step, ends_at_end, is_end, fields_after, field_after}
 use Rattle.csv.specs.Reading.{records_from, strip_bom}
 use Rattle.csv.specs.declared.parser.State.{State}
 use Rattle.csv.specs.declared.parser.State.TheVariants as st
@@ -17,12 +16,6 @@ use Rattle.basket_csv.proofs.LastLemmas.{last_push}
 use Rattle.basket_csv.proofs.MarkLemmas.{ends_stripped, stripped_part}
 
 -- ---- bytes
-
-other_byte : (c d : ℕ) → eqb d 10 ≡ false → eqb c d ≡ true → eqb c 10 ≡ false
-other_byte c d other same = ap (λ x. eqb x 10) (eqb-true c d same) ∙ other
-
-no_line_feed : (c : ℕ) → (eqb c 13 || eqb c 10) ≡ false → eqb c 10 ≡ false
-no_line_feed c none = (or_parts (eqb c 13) (eqb c 10) none).1
 
 -- ---- the state after a byte, which is a line feed where a record may go on only inside quotes
 
@@ -42,19 +35,6 @@ Follows c fields field (s, act.EndRecord) = Fits c s [] []
 Follows c fields field (s, act.EndField) = Fits c s (fields ++ field ∷ []) []
 Follows c fields field (s, act.Skip) = Fits c s fields field
 Follows c fields field (s, act.Copy) = Fits c s fields (field ++ c ∷ [])
-
-follows_if : (c : ℕ) (fields : List (List ℕ)) (field : List ℕ) (b : Bool) (x y : State × Action)
-    → (b ≡ true → Follows c fields field x) → (b ≡ false → Follows c fields field y) → Follows c fields field (cond b x y)
-follows_if h1 h2 h3 h4 h5 h6 h7 h8 = grind (arith, common_steps)
-
-follows-in_field : (separator c : ℕ) (fields : List (List ℕ)) (field : List ℕ) → eqb separator 10 ≡ false → Follows c fields field (in_field (config_of separator) c)
-follows-in_field separator c fields field other = grind (arith, common_steps)
-
-follows-start_field : (separator c : ℕ) (fields : List (List ℕ)) (field : List ℕ) → eqb separator 10 ≡ false → Follows c fields field (start_field (config_of separator) c)
-follows-start_field separator c fields field other = grind (arith, common_steps)
-
-follows-start_record : (separator c : ℕ) → eqb separator 10 ≡ false → Follows c [] [] (start_record (config_of separator) c)
-follows-start_record separator c other = grind (arith, common_steps)
 
 follows-step : (separator last c : ℕ) (s : State) (fields : List (List ℕ)) (field : List ℕ) → eqb separator 10 ≡ false → Fits last s fields field
     → Follows c fields field (step (config_of separator) s c)

@@ -40,10 +40,6 @@ runs_inside separator text (suc end) within inside =
     subst (λ n. Runs (config_of separator) st.InField (take n text)) one
     (inside_more separator text end (omega arith) (inside end (omega arith)) (runs_inside separator text end (omega arith) (λ index below. inside index (omega arith))))
 
--- and no line feed is its last
-no_feed : (separator byte : ℕ) → ends_field separator byte ≡ false → is_line_feed byte ≡ false
-no_feed separator byte e = grind (arith, nat_tests)
-
 ends_inside : (separator : ℕ) (text : List ℕ) (end : ℕ) → end ≤ length text → ((index : ℕ) → index < end → ends_field separator (get_or text index 0) ≡ false)
     → is_line_feed (last_after 0 (take end text)) ≡ false
 ends_inside h1 h2 h3 h4 h5 = grind (arith, common_steps)
@@ -94,9 +90,6 @@ record_ended separator fields field byte more e f =
 passed_over : (separator byte : ℕ) (more : List ℕ) → is_line_end byte ≡ true
     → next_record (config_of separator) st.StartRecord [] [] (byte ∷ more) ≡ next_record (config_of separator) st.StartRecord [] [] more
 passed_over separator byte more e = grind (arith, common_steps, stepped)
-
-either : (a : Bool) → (a || true) ≡ true
-either h1 = grind (arith, common_steps)
 
 after_return : (separator : ℕ) (more : List ℕ) → next_record (config_of separator) st.AfterCr [] [] more ≡ next_record (config_of separator) st.StartRecord [] [] more
 unfolding next_record

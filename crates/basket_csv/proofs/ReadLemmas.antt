@@ -2,7 +2,6 @@
 use Rattle.std.proofs.Common.{◌≡◌, ◌≢◌, ◌<◌, ℕ, Bool, false, cond, ltb, List, length, Option, Result, Ok, Err, refl, sym, ap, ◌∙◌, arith}
 use Rattle.std.proofs.lemmas.Grind.{common_steps}
 use Rattle.std.specs.Prelude.{IfErr, IfOk, IfSome}
-use Rattle.std.proofs.lemmas.Bool.{lt-ltb}
 use Rattle.basket_read.specs.declared.fault.ReadFault.{ReadFault}
 use Rattle.basket_read.specs.declared.fault.ReadFault.TheVariants.{Read, TooLong}
 use Rattle.basket_read.specs.declared.item_counts.ItemCounts.{ItemCounts}
@@ -23,12 +22,6 @@ module _ {X Y : Type 0} (finds : X → Result Y ReadFault → Type 0) (say : Lis
   -- what bytes say that may be too many
   abbrev said : List ℕ → Result Y ReadFault
   said bytes = cond (ltb MOST_BYTES (length bytes)) (Err TooLong) (say bytes)
-
-  too_long : (bytes : List ℕ) → MOST_BYTES < length bytes → said bytes ≡ Err TooLong
-  too_long bytes more = ap (λ b. cond b (Err TooLong) (say bytes)) (lt-ltb MOST_BYTES (length bytes) more)
-
-  exact : (left : Option (List ℕ)) (bytes items : List ℕ) (result : Result X ReadFault) → bytes ≡ items → IfSome left (AreTakenOf items) → ReturnsBy finds result (said bytes) → IfSome left (λ all. ReturnsBy finds result (said all))
-  exact left bytes items result same taken h = grind (arith, common_steps)
 
   -- bytes of a reader were taken in, all or too many, and the result is what they say
   pub reads : (left : Option (List ℕ)) (failed : Bool) (bytes items : List ℕ) (result : Result X ReadFault) → bytes ≡ items → (failed ≡ false) × IfSome left (AreTakenOf items)

@@ -2,10 +2,9 @@
 use Rattle.std.proofs.Common.{◌≡◌, ℕ, ◌+◌, true, false, List, [], ◌∷◌, length, Option, Some, unwrap_or, Bor, refl, sym, ap, ◌∙◌, arith}
 use Rattle.std.proofs.lemmas.Grind.{common_steps}
 use Rattle.csv.specs.Machine.{ends_at_end}
-use Rattle.csv.specs.Reading.{records, records_from, source_of, ReadRecord, Reached}
+use Rattle.csv.specs.Reading.{records_from, source_of, ReadRecord, Reached}
 use Rattle.csv.specs.declared.reader.Reader.{Reader}
 use Rattle.csv.proofs.ReadFacts.{rows-more, rows-end}
-use Rattle.csv.specs.declared.parser.Config.{Config}
 use Rattle.csv.specs.declared.parser.State.TheVariants as st
 use Rattle.basket_csv.proofs.RecordLemmas.{leaves, records_none, records_some}
 
@@ -48,8 +47,3 @@ read_last a b row e r = records_none a.config a.state (left a) (rows-end (λ (s 
 
 pub known_bytes : (o : Option (List ℕ)) (bytes : List ℕ) → o ≡ Some bytes → o ≡ Some (unwrap_or o [])
 known_bytes o bytes e = e ∙ ap (λ p. Some (unwrap_or p [])) (sym e)
-
--- a new reader of bytes in memory has all their records left
-pub all_left : (r : Reader (Bor (List ℕ))) (cfg : Config) (bytes : List ℕ) → r.config ≡ cfg → r.state ≡ st.StartRecord → source_of (λ s. Some s.now) r ≡ Some bytes
-    → records_from r.config (length (unwrap_or (source_of (λ s. Some s.now) r) []) + 1) r.state (unwrap_or (source_of (λ s. Some s.now) r) []) ≡ records cfg bytes
-all_left r cfg bytes config state e = grind (arith, common_steps)

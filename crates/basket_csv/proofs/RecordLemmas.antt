@@ -1,7 +1,7 @@
 -- A record takes two bytes, except that the last may take one, so that a text has only so many.
 use Rattle.std.proofs.Common.{◌≡◌, ℕ, zero, suc, ◌+◌, ◌-◌, ◌*◌, ◌≤◌, ◌<◌, Bool, true, false, cond, eqb, ◌&&◌, List, [], ◌∷◌, ◌++◌, length, Option, Some, None, refl, sym, ap, ◌∙◌, subst, arith}
 use Rattle.std.proofs.lemmas.Grind.{common_steps}
-use Rattle.csv.specs.Machine.{Read, next_record, step, in_field, start_field, start_record, after_end, ends_with, is_byte, ends_at_end, is_end, fields_after, field_after}
+use Rattle.csv.specs.Machine.{Read, next_record, step, start_record, after_end, ends_with, is_byte, ends_at_end, is_end, fields_after, field_after}
 use Rattle.csv.specs.Reading.{records_from, records_next}
 use Rattle.csv.specs.declared.parser.Config.{Config}
 use Rattle.csv.specs.declared.parser.State.{State}
@@ -18,20 +18,8 @@ use Rattle.basket_csv.proofs.MarkLemmas.{stripped}
 abbrev Ends : State × Action → Type 0
 Ends next = is_end next.1 ≡ true → ends_at_end next.0 ≡ false
 
-ends_if : (b : Bool) (x y : State × Action) → Ends x → Ends y → Ends (cond b x y)
-ends_if h1 h2 h3 h4 h5 = grind (arith, common_steps)
-
 pub ends_after_end : (t : Terminator) (c : ℕ) → ends_at_end (after_end t c) ≡ false
 ends_after_end h1 h2 = grind (arith, common_steps)
-
-ends-in_field : (cfg : Config) (c : ℕ) → Ends (in_field cfg c)
-ends-in_field cfg c = grind (arith, common_steps)
-
-ends-start_field : (cfg : Config) (c : ℕ) → Ends (start_field cfg c)
-ends-start_field cfg c = ends_if (cfg.quoting && eqb c cfg.quote) _ _ (λ e. absurd cc) (ends-in_field cfg c)
-
-ends-start_record : (cfg : Config) (c : ℕ) → Ends (start_record cfg c)
-ends-start_record cfg c = ends_if (ends_with cfg.terminator c) _ _ (λ e. absurd cc) (ends_if (is_byte cfg.comment c) _ _ (λ e. absurd cc) (ends-start_field cfg c))
 
 ends-step : (cfg : Config) (s : State) (c : ℕ) → Ends (step cfg s c)
 ends-step h1 h2 h3 = grind (arith, common_steps)

@@ -1,7 +1,7 @@
 -- The fields of a record, one after another.
-use Rattle.std.proofs.Common.{◌≡◌, ℕ, zero, suc, ◌+◌, ◌≤◌, ◌<◌, Bool, true, false, cond, not, ◌&&◌, List, [], ◌∷◌, ◌++◌, length, map, filter, drop, get_or, Option, Some, None, fold, eqb, Bor, refl, sym, ap, ◌∙◌, arith}
+use Rattle.std.proofs.Common.{◌≡◌, ℕ, zero, suc, ◌+◌, ◌≤◌, ◌<◌, Bool, true, false, cond, ◌&&◌, List, [], ◌∷◌, ◌++◌, length, map, drop, get_or, Option, Some, None, fold, eqb, refl, sym, ap, ◌∙◌, arith}
 use Rattle.std.proofs.lemmas.Grind.{common_steps}
-use Rattle.std.specs.Option.{IfSome, MatchOption, is_some}
+use Rattle.std.specs.Option.{IfSome}
 use Rattle.std.specs.Str.{is_utf8, chars}
 use Rattle.std.proofs.lemmas.Bool.{and_left, and_right}
 use Rattle.std.proofs.lemmas.List.{drop_all, at_drop_more}
@@ -47,14 +47,6 @@ no_text (field ∷ fields) (suc index) e = and_right (is_utf8 field) (is_text fi
 pub text_fault : (nth : ℕ) (fields : List (List ℕ)) (fault : Option ReadFault) (index : ℕ) → is_utf8 (field_in fields index) ≡ false → cond (is_text fields) fault (Some (NotText nth)) ≡ Some (NotText nth)
 text_fault nth fields fault index e = ap (λ b. cond b fault (Some (NotText nth))) (no_text fields index e)
 
-pub text_found : (text : Option (Bor (List ℕ))) (fields : List (List ℕ)) (index : ℕ) → MatchOption text (is_utf8 (field_in fields index) ≡ false) (λ t. (t.now ≡ field_in fields index) × (is_utf8 (field_in fields index) ≡ true))
-    → is_some text ≡ true → is_utf8 (field_in fields index) ≡ true
-text_found h1 h2 h3 h4 h5 = grind (arith, common_steps)
-
-pub text_missing : (text : Option (Bor (List ℕ))) (fields : List (List ℕ)) (index : ℕ) → MatchOption text (is_utf8 (field_in fields index) ≡ false) (λ t. (t.now ≡ field_in fields index) × (is_utf8 (field_in fields index) ≡ true))
-    → is_some text ≡ false → is_utf8 (field_in fields index) ≡ false
-text_missing h1 h2 h3 h4 h5 = grind (arith, common_steps)
-
 -- ---- the fields from an index on
 
 pub text_goes_on : (fields : List (List ℕ)) (index : ℕ) → index < length fields → is_text (drop index fields) ≡ (is_utf8 (get_or fields index []) && is_text (drop (index + 1) fields))
@@ -63,16 +55,9 @@ text_goes_on fields index below = at_drop_more is_text fields index [] below
 pub text_ends : (fields : List (List ℕ)) (index : ℕ) → length fields ≤ index → is_text (drop index fields) ≡ true
 text_ends fields index all = ap is_text (drop_all index fields all)
 
-name_first : (name : List ℕ) (names : List (List ℕ)) (nil : Bool) → is_nil name ≡ nil → filter (λ n. not (is_nil n)) (name ∷ names) ≡ cond nil (filter (λ n. not (is_nil n)) names) (name ∷ filter (λ n. not (is_nil n)) names)
-name_first h1 h2 h3 h4 = grind (arith, common_steps)
-
 pub names_go_on : (fields : List (List ℕ)) (index : ℕ) → index < length fields → is_nil (trimmed (get_or fields index [])) ≡ false
     → names_of (drop index fields) ≡ trimmed (get_or fields index []) ∷ names_of (drop (index + 1) fields)
 names_go_on fields index below e = grind (arith, common_steps)
-
-pub names_pass_over : (fields : List (List ℕ)) (index : ℕ) → index < length fields → is_nil (trimmed (get_or fields index [])) ≡ true
-    → names_of (drop index fields) ≡ names_of (drop (index + 1) fields)
-names_pass_over fields index below e = grind (arith, common_steps)
 
 pub nil_test : (name : List ℕ) (b : Bool) → b ≡ eqb (length name) 0 → is_nil name ≡ b
 nil_test h1 h2 h3 = grind (arith, common_steps)

@@ -1,5 +1,5 @@
 -- Sets whose items are concatenated.
-use Rattle.std.proofs.Common.{◌≡◌, ℕ, ◌+◌, ◌≤◌, List, [], ◌∷◌, ◌++◌, length, drop, get_or, refl, sym, ap, ◌∙◌, arith, Result, OnErr}
+use Rattle.std.proofs.Common.{◌≡◌, ℕ, ◌+◌, ◌≤◌, List, [], ◌∷◌, ◌++◌, length, drop, refl, sym, ap, ◌∙◌, arith, Result, OnErr}
 use Rattle.std.proofs.lemmas.Grind.{common_steps}
 use Rattle.std.specs.Prelude.{All}
 use Rattle.std.specs.List.{slice_range}
@@ -19,13 +19,6 @@ range-append items more start end h = between_is (items ++ more) start end ∙ a
 
 range_at_end : (items more : List ℕ) → slice_range (items ++ more) (length items) (length items + length more) ≡ more
 range_at_end items more = between_to_end (items ++ more) (length items) (length items + length more) (omega (arith, length-append items more)) ∙ drop_at items more (length items) refl
-
--- the spans keep their sets
-span_kept : (items more : List ℕ) (span : SetSpan) → IsSpanOfSet items span → IsSpanOfSet (items ++ more) span
-span_kept items more span is = grind (arith, common_steps)
-
-pub spans_kept : (items more : List ℕ) (spans : List SetSpan) → All (IsSpanOfSet items) spans → All (IsSpanOfSet (items ++ more)) spans
-spans_kept items more spans all k d inside = span_kept items more (get_or spans k d) (all k d inside)
 
 spanned-append : (items more : List ℕ) (span : SetSpan) → IsSpanOfSet items span → spanned (items ++ more) span ≡ spanned items span
 spanned-append items more span is = ap (λ (set : List ℕ). let c : Counted = record { set = set; count = span.count } in c) (range-append items more span.start span.end is.within.within)

@@ -13,7 +13,7 @@ use Rattle.basket_lists.proofs.WordLemmas.{size_is}
 use Rattle.basket_order.specs.declared.index_table.TheConstants.{NOWHERE}
 use Rattle.basket_sets.specs.declared.counted.Counted.{Counted}
 use Rattle.basket_sets.specs.Itemset.{IsRising, with_item}
-use Rattle.basket_sets.proofs.theory.Rising.{Member-from_has, first_below, has_place, rest_rises}
+use Rattle.basket_sets.proofs.theory.Rising.{Member-from_has, first_below, has_at, rest_rises}
 
 -- ---- indexes beside items
 
@@ -29,7 +29,7 @@ put_back [] index up below = absurd (omega (arith, below))
 put_back (x ∷ items) zero up below = with_first x items (λ item m. first_below x items up item m)
 put_back (x ∷ items) (suc index) up below =
     let inside : index < length items = omega (arith, below) in
-    let above = first_below x items up (get_or items index 0) (Member-from_has items (get_or items index 0) (has_place items index inside)) in
+    let above = first_below x items up (get_or items index 0) (Member-from_has items (get_or items index 0) (has_at items index inside)) in
     with_later (get_or items index 0) x (take index items ++ drop (suc index) items) above ∙ ap (λ l. x ∷ l) (put_back items index (rest_rises x items up) inside)
 
 -- ---- a word with one index less

@@ -1,15 +1,9 @@
 -- Names that are identified by their first and last bytes.
-use Rattle.std.proofs.Common.{◌≡◌, ℕ, zero, suc, ◌+◌, ◌-◌, ◌≤◌, ◌<◌, List, [], ◌∷◌, ◌++◌, length, take, drop, refl, ap, arith}
+use Rattle.std.proofs.Common.{◌≡◌, ℕ, zero, suc, ◌+◌, ◌-◌, ◌≤◌, ◌<◌, List, [], ◌∷◌, ◌++◌, length, take, drop, arith}
 use Rattle.std.proofs.lemmas.Grind.{common_steps}
 use Rattle.std.specs.Int.{w32, w64, to_le_bytes}
 use Rattle.std.proofs.lemmas.Bool.{le-leb, lt-leb}
 use Rattle.basket_names.specs.Key.{name_with}
-
-take_less : (few count : ℕ) (bytes : List ℕ) → few ≤ count → take few (take count bytes) ≡ take few bytes
-take_less zero count bytes h = refl
-take_less (suc few) zero bytes h = absurd (omega arith)
-take_less (suc few) (suc count) [] h = refl
-take_less (suc few) (suc count) (byte ∷ bytes) h = ap (λ rest. byte ∷ rest) (take_less few count bytes (omega arith))
 
 -- the two ends of a name, which leave out no byte between them
 joined : (count : ℕ) (name front back : List ℕ) → length name ≤ count + count → front ≡ take count name → back ≡ drop (length name - count) name

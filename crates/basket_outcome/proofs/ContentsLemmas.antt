@@ -4,12 +4,9 @@ use Rattle.std.proofs.lemmas.Grind.{common_steps}
 use Rattle.std.proofs.Common.{◌≡◌, ℕ, Bool, List, Option, Result, Ok, arith}
 use Rattle.basket_read.specs.Fault.{IsDefined, Reads, result_and_then}
 use Rattle.basket_read.specs.declared.fault.ReadFault.{ReadFault}
-use Rattle.basket_read.proofs.theory.Reads.{Says}
 use Rattle.basket_outcome.specs.declared.contents.Contents.{Contents}
 
 module _ {A : Type 0} (say : A → Contents) where
-  as_said : (read : Result A ReadFault) (result : Result Contents ReadFault) → result ≡ result_and_then (λ a. Ok (say a)) read → Says say read result
-  as_said h1 h2 h3 = grind (arith, common_steps)
 
   -- contents that are made of what was read
   pub contents_read : (defined : List ℕ → Result A ReadFault) (fails : ReadFault → Type 0) (left : Option (List ℕ)) (failed : Bool) (read : Result A ReadFault) (result : Result Contents ReadFault)

@@ -6,15 +6,15 @@ use Rattle.std.specs.List.{All, IsDistinct, filter_map}
 use Rattle.std.proofs.lemmas.List.Elements.{All-map, All-from_recursion, recursion_from_All}
 use Rattle.basket_sets.specs.declared.weighted.Weighted.{Weighted}
 use Rattle.basket_sets.specs.declared.minimum.Minimum.{Minimum}
-use Rattle.basket_ranks.specs.Codes.{MOST_RANKS, ranked, rank_of, coded, coded_place, IsCoding, IsCodedPlace, Coding, merged_coding}
+use Rattle.basket_ranks.specs.Codes.{MOST_RANKS, ranked, rank_of, coded, coded_basket, IsCoding, IsCodedBasket, Coding, merged_coding}
 use Rattle.basket_sets.specs.Database.{MOST_WEIGHT, HasWeight, merged_of}
 use Rattle.basket_sets.specs.Itemset.{rising}
 use Rattle.basket_sets.specs.Support.{total_of}
 use Rattle.basket_sets.proofs.theory.Members.{Member}
 use Rattle.basket_ranks.proofs.RankLemmas.{rank_at, rank_from_is}
 use Rattle.basket_sets.proofs.theory.Rising.{rising_is, Member-from_has, has-from_Member}
-use Rattle.basket_ranks.proofs.theory.Coding.{from_ranks, into_ranks, ranks_rise, coded_place_is, coded_total}
-use Rattle.basket_sets.proofs.theory.Merging.{merged_places, merging_keeps_supports}
+use Rattle.basket_ranks.proofs.theory.Coding.{from_ranks, into_ranks, ranks_rise, coded_basket_is, coded_total}
+use Rattle.basket_sets.proofs.theory.Merging.{merged_baskets, merging_keeps_supports}
 
 -- ---- the code finds these ranks
 
@@ -49,22 +49,22 @@ mapped_more f (x ∷ xs) (suc k) d below = ap (λ l. f x ∷ l) (mapped_more f x
 
 -- one place more is coded where it lies
 pub coded_more : (ranked : List ℕ) (baskets now : List Weighted) (k : ℕ) (d place : Weighted) → k < length baskets
-    → now ≡ map (coded_place ranked) (take k baskets) ++ drop k baskets → place ≡ coded_place ranked (get_or now k d)
-    → set now k place ≡ map (coded_place ranked) (take (k + 1) baskets) ++ drop (k + 1) baskets
+    → now ≡ map (coded_basket ranked) (take k baskets) ++ drop k baskets → place ≡ coded_basket ranked (get_or now k d)
+    → set now k place ≡ map (coded_basket ranked) (take (k + 1) baskets) ++ drop (k + 1) baskets
 coded_more ranked baskets now k d place below so_far is =
     let one : k + 1 ≡ suc k = omega arith in
-    let item = is ∙ ap (coded_place ranked) (ap (λ l. get_or l k d) so_far ∙ mapped_at (coded_place ranked) baskets k d below) in
-    (λ i. set (so_far i) k (item i)) ∙ mapped_more (coded_place ranked) baskets k d below
-    ∙ ap (λ n. map (coded_place ranked) (take n baskets) ++ drop n baskets) (sym one)
+    let item = is ∙ ap (coded_basket ranked) (ap (λ l. get_or l k d) so_far ∙ mapped_at (coded_basket ranked) baskets k d below) in
+    (λ i. set (so_far i) k (item i)) ∙ mapped_more (coded_basket ranked) baskets k d below
+    ∙ ap (λ n. map (coded_basket ranked) (take n baskets) ++ drop n baskets) (sym one)
 
 -- what is made of codes and a database is a coding
 pub coding_is : (items : List ℕ) (minimum : Minimum) (database coded : List Weighted) → IsDistinct nat_eq items → length items < MOST_RANKS → total_of database ≤ MOST_WEIGHT
-    → All HasWeight database → coded ≡ map (coded_place items) database → IsCoding (record { items = items; minimum = minimum; baskets = coded })
+    → All HasWeight database → coded ≡ map (coded_basket items) database → IsCoding (record { items = items; minimum = minimum; baskets = coded })
 coding_is items minimum database coded apart few light heavy same = record {
   distinct = apart;
   few = few;
-  places = subst (All (IsCodedPlace items)) (sym same) (All-map (IsCodedPlace items) (coded_place items) database (λ k d below. coded_place_is items (get_or database k d)));
-  weights = subst (All HasWeight) (sym same) (All-map HasWeight (coded_place items) database heavy);
+  places = subst (All (IsCodedBasket items)) (sym same) (All-map (IsCodedBasket items) (coded_basket items) database (λ k d below. coded_basket_is items (get_or database k d)));
+  weights = subst (All HasWeight) (sym same) (All-map HasWeight (coded_basket items) database heavy);
   light = subst (λ n. n ≤ MOST_WEIGHT) (sym (ap total_of same ∙ coded_total items database)) light;
 }
 
@@ -73,8 +73,8 @@ pub merged_is_coding : (coding : Coding) → IsCoding coding → IsCoding (merge
 merged_is_coding coding is = record {
   distinct = is.distinct;
   few = is.few;
-  places = All-from_recursion (IsCodedPlace coding.items) (merged_of coding.baskets)
-      (merged_places (IsCodedPlace coding.items) (λ place more its. its) coding.baskets (recursion_from_All (IsCodedPlace coding.items) coding.baskets is.places));
-  weights = All-from_recursion HasWeight (merged_of coding.baskets) (merged_places HasWeight (λ place more its. omega (arith, its)) coding.baskets (recursion_from_All HasWeight coding.baskets is.weights));
+  places = All-from_recursion (IsCodedBasket coding.items) (merged_of coding.baskets)
+      (merged_baskets (IsCodedBasket coding.items) (λ place more its. its) coding.baskets (recursion_from_All (IsCodedBasket coding.items) coding.baskets is.places));
+  weights = All-from_recursion HasWeight (merged_of coding.baskets) (merged_baskets HasWeight (λ place more its. omega (arith, its)) coding.baskets (recursion_from_All HasWeight coding.baskets is.weights));
   light = subst (λ n. n ≤ MOST_WEIGHT) (sym (merging_keeps_supports coding.baskets [])) is.light;
 }

@@ -11,7 +11,7 @@ use Rattle.std.proofs.lemmas.List.Kept.{IsStrictlySortedBy-filter}
 use Rattle.basket_sets.specs.declared.weighted.Weighted.{Weighted}
 use Rattle.basket_ranks.specs.Codes.{Coding, IsCoding, frequent_of_coding, baskets_of, decoded}
 use Rattle.basket_sets.specs.Database.{weighted, MOST_WEIGHT}
-use Rattle.basket_ranks.specs.Depth.{HasSetOfSize, above, is_long, narrowed, narrowed_place}
+use Rattle.basket_ranks.specs.Depth.{HasSetOfSize, above, is_long, narrowed, narrowed_basket}
 use Rattle.basket_sets.specs.Frequent.{is_frequent, counted}
 use Rattle.basket_sets.specs.Itemset.{IsRising, has, contains}
 use Rattle.basket_sets.proofs.theory.Frequent.{lists_frequent}
@@ -25,10 +25,6 @@ use Rattle.basket_sets.proofs.theory.Tests.{Member-at}
 use Rattle.basket_sets.proofs.theory.Support.{support_falls, support-append, support-cons, in_items, at_least_one, meets_more}
 
 -- ---- baskets kept to the ranks above one that they have
-
-narrowed_more : (rank : ℕ) (baskets : List Weighted) (i : ℕ) (place : Weighted) → i < length baskets → place ≡ get_or baskets i place
-    → narrowed rank (take (i + 1) baskets) ≡ narrowed rank (take i baskets) ++ narrowed_place rank place
-narrowed_more rank baskets i place below is = grind (arith, common_steps)
 
 all_above : (rank : ℕ) (ranks : List ℕ) → ((y : ℕ) → Member y ranks → rank < y) → above rank ranks ≡ ranks
 all_above rank [] h = refl
@@ -61,24 +57,24 @@ one_long least kept weight many = cond-true (leb least (length kept)) (weighted 
 one_short : (least : ℕ) (kept : List ℕ) (weight : ℕ) → length kept < least → filter (is_long least) (weighted kept weight ∷ []) ≡ []
 one_short least kept weight few = cond-false (leb least (length kept)) (weighted kept weight ∷ []) [] (lt-leb least (length kept) few)
 
-pub too_short : (least rank : ℕ) (ranks : List ℕ) (weight : ℕ) → length ranks ≤ least → filter (is_long least) (narrowed_place rank (weighted ranks weight)) ≡ []
+pub too_short : (least rank : ℕ) (ranks : List ℕ) (weight : ℕ) → length ranks ≤ least → filter (is_long least) (narrowed_basket rank (weighted ranks weight)) ≡ []
 too_short least rank ranks weight few = grind (arith, common_steps, cond_both, one_short, fewer_above, Member-from_has)
 
 module _ (rank at : ℕ) (ranks kept : List ℕ) (up : IsRising ranks) (found : IsBinarySearchResult (λ y. nat_cmp y rank) ranks (Ok at)) (made : kept ≡ take (length ranks - (at + 1)) (drop (at + 1) ranks)) where
   kept_above : kept ≡ above rank ranks
   kept_above = let here = found_at ranks rank at up found in made ∙ take_rest ranks (at + 1) ∙ sym (above_is ranks at rank up here.0 here.1)
 
-  found_place : (weight : ℕ) → narrowed_place rank (weighted ranks weight) ≡ weighted kept weight ∷ []
-  found_place weight = let here = found_at ranks rank at up found in grind (arith, common_steps, cond-true, has-from_Member, Member, Member-at, kept_above)
+  found_basket : (weight : ℕ) → narrowed_basket rank (weighted ranks weight) ≡ weighted kept weight ∷ []
+  found_basket weight = let here = found_at ranks rank at up found in grind (arith, common_steps, cond-true, has-from_Member, Member, Member-at, kept_above)
 
   pub kept_rises : IsRising kept
   kept_rises = subst IsRising (sym kept_above) (IsStrictlySortedBy-filter nat_cmp (λ other. ltb rank other) ranks up)
 
-  pub long_place : (least weight : ℕ) → least ≤ length kept → filter (is_long least) (narrowed_place rank (weighted ranks weight)) ≡ weighted kept weight ∷ []
-  long_place least weight many = ap (filter (is_long least)) (found_place weight) ∙ one_long least kept weight many
+  pub long_basket : (least weight : ℕ) → least ≤ length kept → filter (is_long least) (narrowed_basket rank (weighted ranks weight)) ≡ weighted kept weight ∷ []
+  long_basket least weight many = ap (filter (is_long least)) (found_basket weight) ∙ one_long least kept weight many
 
-  pub short_place : (least weight : ℕ) → length kept < least → filter (is_long least) (narrowed_place rank (weighted ranks weight)) ≡ []
-  short_place least weight few = ap (filter (is_long least)) (found_place weight) ∙ one_short least kept weight few
+  pub short_basket : (least weight : ℕ) → length kept < least → filter (is_long least) (narrowed_basket rank (weighted ranks weight)) ≡ []
+  short_basket least weight few = ap (filter (is_long least)) (found_basket weight) ∙ one_short least kept weight few
 
 -- the support of a rank is what was counted
 pub count_is : (baskets : List Weighted) (rank count : ℕ) → Contains (item_supports baskets) (rank, count) → support_of baskets (rank ∷ []) ≡ count
@@ -89,7 +85,7 @@ count_is baskets rank count h =
 narrowed_items : (rank : ℕ) (baskets : List Weighted) (x : ℕ) → Member x (all_items (narrowed rank baskets)) → (rank < x) × Member x (all_items baskets)
 narrowed_items rank baskets x m =
     let kept = Member-flat_map (λ (place : Weighted). place.basket) x (narrowed rank baskets) m in
-    let from = Member-flat_map (narrowed_place rank) kept.0 baskets kept.1 in
+    let from = Member-flat_map (narrowed_basket rank) kept.0 baskets kept.1 in
     cond_both (has from.0.basket rank) (weighted (above rank from.0.basket) from.0.weight ∷ []) [] (λ l. Member kept.0 l → (rank < x) × Member x (all_items baskets))
     (λ has n. elim n [
       | inl is ↦ (let k = Member-filter (λ other. ltb rank other) x from.0.basket (subst (λ (place : Weighted). Member x place.basket) (sym is) kept.2) in
@@ -104,28 +100,28 @@ above_contains rank basket more beyond = grind (arith, common_steps, same_test, 
 narrowed_supports : (rank : ℕ) (baskets : List Weighted) (more : List ℕ) → ((x : ℕ) → Member x more → rank < x) → support_of (narrowed rank baskets) more ≡ support_of baskets (rank ∷ more)
 narrowed_supports rank [] more beyond = refl
 narrowed_supports rank (place ∷ baskets) more beyond =
-    support-append (narrowed_place rank place) (narrowed rank baskets) more
+    support-append (narrowed_basket rank place) (narrowed rank baskets) more
     ∙ omega (arith, here, narrowed_supports rank baskets more beyond, support-cons place baskets (rank ∷ more))
   where
-    here : support_of (narrowed_place rank place) more ≡ weight_at (rank ∷ more) place
+    here : support_of (narrowed_basket rank place) more ≡ weight_at (rank ∷ more) place
     here = cond_both (has place.basket rank) (weighted (above rank place.basket) place.weight ∷ []) [] (λ l. support_of l more ≡ weight_at (rank ∷ more) place)
         (λ e. support-cons (weighted (above rank place.basket) place.weight) [] more ∙ add-zero _
         ∙ ap (λ b. cond b place.weight 0) (above_contains rank place.basket more beyond ∙ sym (ap (λ b. b && contains place.basket more) e)))
         (λ e. ap (λ b. cond (b && contains place.basket more) place.weight 0) (sym e))
 
-missed : (rank place : ℕ) (ranks : List ℕ) (weight : ℕ) → IsRising ranks → IsBinarySearchResult (λ y. nat_cmp y rank) ranks (Err place) → narrowed_place rank (weighted ranks weight) ≡ []
+missed : (rank place : ℕ) (ranks : List ℕ) (weight : ℕ) → IsRising ranks → IsBinarySearchResult (λ y. nat_cmp y rank) ranks (Err place) → narrowed_basket rank (weighted ranks weight) ≡ []
 missed rank place ranks weight up search = elim (cases_Bool (has ranks rank)) [
   | inl e ↦ absurd (let c = Contains-from_Member rank ranks (Member-from_has ranks rank e) in
       found_nowhere ranks rank place up search c.0 c.1 (get_or_default ranks c.0 0 rank c.1 ∙ c.2))
   | inr e ↦ cond-false (has ranks rank) (weighted (above rank ranks) weight ∷ []) [] e
 ]
 
-pub missed_place : (least rank place : ℕ) (ranks : List ℕ) (weight : ℕ) → IsRising ranks → IsBinarySearchResult (λ y. nat_cmp y rank) ranks (Err place)
-    → filter (is_long least) (narrowed_place rank (weighted ranks weight)) ≡ []
-missed_place least rank place ranks weight up search = ap (filter (is_long least)) (missed rank place ranks weight up search)
+pub missed_basket : (least rank place : ℕ) (ranks : List ℕ) (weight : ℕ) → IsRising ranks → IsBinarySearchResult (λ y. nat_cmp y rank) ranks (Err place)
+    → filter (is_long least) (narrowed_basket rank (weighted ranks weight)) ≡ []
+missed_basket least rank place ranks weight up search = ap (filter (is_long least)) (missed rank place ranks weight up search)
 
 pub left_more : (least rank : ℕ) (baskets : List Weighted) (i : ℕ) (place : Weighted) → i < length baskets → place ≡ get_or baskets i place
-    → filter (is_long least) (narrowed rank (take (i + 1) baskets)) ≡ filter (is_long least) (narrowed rank (take i baskets)) ++ filter (is_long least) (narrowed_place rank place)
+    → filter (is_long least) (narrowed rank (take (i + 1) baskets)) ≡ filter (is_long least) (narrowed rank (take i baskets)) ++ filter (is_long least) (narrowed_basket rank place)
 left_more least rank baskets i place below is = grind (arith, common_steps)
 
 -- ---- some of the baskets

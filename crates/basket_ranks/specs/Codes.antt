@@ -75,31 +75,31 @@ pub record Coding : Type 0 where
   pub minimum : Minimum
   pub baskets : List Weighted
 
-abbrev pub coded_place : List ℕ → Weighted → Weighted
-coded_place items place = weighted (coded items place.basket) place.weight
+abbrev pub coded_basket : List ℕ → Weighted → Weighted
+coded_basket items place = weighted (coded items place.basket) place.weight
 
 abbrev pub coding_of : List Weighted → Minimum → Coding
 coding_of baskets minimum =
-    record { items = ranks_of baskets minimum; minimum = minimum; baskets = map (coded_place (ranks_of baskets minimum)) baskets }
+    record { items = ranks_of baskets minimum; minimum = minimum; baskets = map (coded_basket (ranks_of baskets minimum)) baskets }
 
 -- a basket of ranks: they rise, and each is the rank of an item
-abbrev pub IsCodedPlace : List ℕ → Weighted → Type 0
-IsCodedPlace items place = IsRising place.basket × AllBelow (length items) place.basket
+abbrev pub IsCodedBasket : List ℕ → Weighted → Type 0
+IsCodedBasket items place = IsRising place.basket × AllBelow (length items) place.basket
 
 -- what every coding is
 pub record IsCoding (coding : Coding) : Type 0 where
   pub distinct : IsDistinct nat_eq coding.items
   pub few : length coding.items < MOST_RANKS
-  pub places : All (IsCodedPlace coding.items) coding.baskets
+  pub places : All (IsCodedBasket coding.items) coding.baskets
   pub weights : All HasWeight coding.baskets
   pub light : total_of coding.baskets ≤ MOST_WEIGHT
 
 -- the baskets of a coding as items, kept to the items that have ranks
-abbrev pub decoded_place : List ℕ → Weighted → Weighted
-decoded_place items place = weighted (decoded items place.basket) place.weight
+abbrev pub decoded_basket : List ℕ → Weighted → Weighted
+decoded_basket items place = weighted (decoded items place.basket) place.weight
 
 abbrev pub baskets_of : Coding → List Weighted
-baskets_of coding = map (decoded_place coding.items) coding.baskets
+baskets_of coding = map (decoded_basket coding.items) coding.baskets
 
 -- the same with each distinct basket of ranks once
 abbrev pub merged_coding : Coding → Coding

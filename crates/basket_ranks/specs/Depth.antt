@@ -21,12 +21,12 @@ abbrev pub above : ℕ → List ℕ → List ℕ
 above rank basket = filter (λ other. nat_lt rank other) basket
 
 -- a basket that has the rank, kept to the ranks above it
-abbrev pub narrowed_place : ℕ → Weighted → List Weighted
-narrowed_place rank place = if has place.basket rank then weighted (above rank place.basket) place.weight ∷ [] else []
+abbrev pub narrowed_basket : ℕ → Weighted → List Weighted
+narrowed_basket rank place = if has place.basket rank then weighted (above rank place.basket) place.weight ∷ [] else []
 
 -- the baskets that have a rank, kept to the ranks above it
 abbrev pub narrowed : ℕ → List Weighted → List Weighted
-narrowed rank baskets = flat_map (narrowed_place rank) baskets
+narrowed rank baskets = flat_map (narrowed_basket rank) baskets
 
 -- whether a basket has at least so many ranks
 abbrev pub is_long : ℕ → Weighted → Bool

@@ -2,7 +2,7 @@
 ghost use Rattle.std.specs.Prelude.{◌≡◌, ◌<◌, ◌≤◌, List, IfOk, length, map, nat_eq, slice_index_or};
 ghost use Rattle.std.specs.List.{IsDistinct};
 ghost use Rattle.basket_sets.specs.Counts.{AllBelow};
-ghost use Rattle.basket_ranks.specs.Codes.{IsCoding, coded_place, coding_of, decoded, merged_coding, rank_of, ranking_of, ranks_of_counts};
+ghost use Rattle.basket_ranks.specs.Codes.{IsCoding, coded_basket, coding_of, decoded, merged_coding, rank_of, ranking_of, ranks_of_counts};
 ghost use Rattle.basket_sets.specs.Itemset.{IsRising};
 ghost use Rattle.basket_sets.specs.Database.{IsDatabase};
 ghost use Rattle.basket_sets.specs.declared.weighted.Weighted.{Weighted as Basket};
@@ -85,7 +85,7 @@ impl Codes {
     /// Replaces a basket's items by their ranks.
     #[tactic(auto, using(crate::proofs::CodeLemmas::coded_is))]
     fn put_ranks(&self, weighted: &mut Weighted)
-        ensures { weighted.new ≡ coded_place self.now.items weighted.old }
+        ensures { weighted.new ≡ coded_basket self.now.items weighted.old }
     {
         // Nothing is read here: the call brings its contract, which says that no item has two ranks.
         let _items = self.items();
@@ -102,7 +102,7 @@ impl Codes {
 
     /// The coding whose baskets are those of a database as ranks.
     fn with_baskets(self, baskets: Vec<Weighted>) -> Coded
-        requires { (database : List Basket) × IsDatabase database × (self ≡ ranking_of database self.minimum) × (baskets.items ≡ map (coded_place self.items) database) }
+        requires { (database : List Basket) × IsDatabase database × (self ≡ ranking_of database self.minimum) × (baskets.items ≡ map (coded_basket self.items) database) }
         ensures { result ≡ record { items = self.items; minimum = self.minimum; baskets = baskets.items } }
     {
         Coded {
@@ -226,7 +226,7 @@ impl Coded {
 
 /// Replaces the items of each basket by their ranks.
 fn put_codes(codes: &Codes, baskets: &mut [Weighted])
-    ensures { baskets.new ≡ map (coded_place codes.now.items) baskets.old }
+    ensures { baskets.new ≡ map (coded_basket codes.now.items) baskets.old }
 {
     for index in 0..baskets.len() {
         codes.put_ranks(&mut baskets[index]);
@@ -236,14 +236,14 @@ fn put_codes(codes: &Codes, baskets: &mut [Weighted])
 /// Replaces the items of each basket by their ranks, by this many threads.
 fn share_codes<R: Threads + Sync>(rt: &R, codes: &Codes, baskets: &mut [Weighted], threads: u32)
     requires { 1 ≤ threads }
-    ensures { baskets.new ≡ map (coded_place codes.now.items) baskets.old }
+    ensures { baskets.new ≡ map (coded_basket codes.now.items) baskets.old }
 {
     thread::for_each_mut(
         rt,
         baskets,
         threads as usize,
         &|_, weighted: &mut Weighted|
-            ensures { weighted.exit.now ≡ coded_place codes.entry.now.items weighted.entry.now }
+            ensures { weighted.exit.now ≡ coded_basket codes.entry.now.items weighted.entry.now }
         { codes.put_ranks(weighted) },
     );
 }

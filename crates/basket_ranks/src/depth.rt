@@ -4,7 +4,7 @@ ghost use Rattle.std.specs.List.{Contains};
 ghost use Rattle.basket_ranks.specs.Codes.{frequent_of_coding};
 ghost use Rattle.basket_sets.specs.Database.{MOST_WEIGHT, weighted};
 ghost use Rattle.basket_sets.specs.Itemset.{IsRising};
-ghost use Rattle.basket_ranks.specs.Depth.{HasSetOfSize, is_long, narrowed, narrowed_place};
+ghost use Rattle.basket_ranks.specs.Depth.{HasSetOfSize, is_long, narrowed, narrowed_basket};
 ghost use Rattle.basket_sets.specs.Minimum.{meets};
 ghost use Rattle.basket_sets.specs.Support.{support_of, total_of};
 
@@ -90,8 +90,8 @@ fn narrowed_to(
 fn ranks_above(ranks: &[u32], rank: u32, least: u32) -> Option<&[u32]>
     requires { IsRising ranks.now }
     ensures some { IfSome result (λ kept. IsRising kept.now
-        × ((weight : ℕ) → filter (is_long least) (narrowed_place rank (weighted ranks.now weight)) ≡ weighted kept.now weight ∷ [])) }
-    ensures none { IsNone result → (weight : ℕ) → filter (is_long least) (narrowed_place rank (weighted ranks.now weight)) ≡ [] }
+        × ((weight : ℕ) → filter (is_long least) (narrowed_basket rank (weighted ranks.now weight)) ≡ weighted kept.now weight ∷ [])) }
+    ensures none { IsNone result → (weight : ℕ) → filter (is_long least) (narrowed_basket rank (weighted ranks.now weight)) ≡ [] }
 {
     // Most baskets are too short, so this is tested first.
     if ranks.len() <= least as usize {

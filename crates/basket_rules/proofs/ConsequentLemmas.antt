@@ -21,9 +21,6 @@ use Rattle.basket_rules.specs.Rules.{difference}
 
 -- ---- the items at indexes that pass a test
 
-moved_in : (b : Bool) (item : ℕ) (items more : List ℕ) → cond b (item ∷ (items ++ more)) (items ++ more) ≡ cond b (item ∷ items) items ++ more
-moved_in b item items more = grind arith
-
 chosen-append : (test : ℕ → Bool) (index : ℕ) (items : List ℕ) (item : ℕ)
     → chosen_from test index (items ++ item ∷ []) ≡ chosen_from test index items ++ cond (test (index + length items)) (item ∷ []) []
 chosen-append test index [] item = ap (λ n. cond (test n) (item ∷ []) []) (omega arith)

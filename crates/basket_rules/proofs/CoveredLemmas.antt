@@ -46,11 +46,6 @@ pub sees_one_more : (from number items : ℕ) → SeesOneMore (WasSeen from numb
 sees_one_more h1 h2 h3 h4 h5 h6 = grind (arith, common_steps)
 
 module _ (list : List Counted) (supersets : Supersets) where
-  -- the same in other words
-  seen_alike : (seen other : ℕ → ℕ → Type 0) (marks : List Bool)
-      → ((above index : ℕ) → above < length list → index < length (set_at list above) → other above index → seen above index)
-      → AreMarks list supersets seen marks → AreMarks list supersets other marks
-  seen_alike seen other marks alike all = grind (arith, common_steps)
 
   pub all_items : (from number items : ℕ) (marks : List Bool) → length (set_at list number) ≤ items → AreMarks list supersets (WasSeen from number items) marks → AreMarks list supersets (IsBetween from (number + 1)) marks
   all_items from number items marks whole = grind (arith, common_steps)

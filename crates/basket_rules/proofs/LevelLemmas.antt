@@ -1,7 +1,7 @@
 -- Consequents level by level.
 use Rattle.std.specs.Prelude.{bit_or}
 use Rattle.std.proofs.lemmas.Grind.{common_steps}
-use Rattle.std.proofs.Common.{◌≡◌, ℕ, ◌+◌, ◌-◌, ◌<◌, ◌≤◌, ◌^◌, ◌&&◌, Bool, true, false, cond, ltb, List, [], ◌∷◌, ◌++◌, length, take, get_or, map, filter, Some, None, sym, ap, ◌∙◌, subst, arith, add-one}
+use Rattle.std.proofs.Common.{◌≡◌, ℕ, ◌+◌, ◌-◌, ◌<◌, ◌≤◌, ◌^◌, ◌&&◌, Bool, true, cond, ltb, List, [], ◌∷◌, ◌++◌, length, take, get_or, map, filter, Some, None, sym, ap, ◌∙◌, subst, arith, add-one}
 use Rattle.std.specs.List.{AllByRecursion, flat_map}
 use Rattle.std.proofs.lemmas.Bool.{lt-ltb}
 use Rattle.std.proofs.lemmas.List.{append_assoc, append-nil, map-append, take_more}
@@ -41,9 +41,6 @@ module _ (listing : Listing) (confidence : ℕ × ℕ) (number : ℕ) where
 
   some_rule : (b : Bool) (rule expected : Rule) → Some rule ≡ cond b (Some expected) None → (b ≡ true) × (rule ≡ expected)
   some_rule h1 h2 h3 h4 = grind (arith, common_steps)
-
-  no_rule_at : (b : Bool) (expected : Rule) → None ≡ cond b (Some expected) None → b ≡ false
-  no_rule_at h1 h2 h3 = grind (arith, common_steps)
 
   module _ (count : ℕ) (tried : List Consequent) (consequent : Consequent) (below : count < length tried) (here : consequent ≡ get_or tried count consequent) where
     tried_one : AllByRecursion (λ r. IsConsequent listing number (side_of (set_at listing.sets number) r)) tried → IsConsequent listing number (side_of (set_at listing.sets number) consequent)

@@ -1,5 +1,5 @@
 -- Counting items in a table: its slots while the places are added, and the entries that it gives in the end.
-use Rattle.std.proofs.Common.{◌≡◌, ℕ, ◌+◌, ◌<◌, ◌≤◌, true, List, [], ◌∷◌, ◌++◌, length, take, get_or, map, cond, Option, Some, None, unwrap_or, refl, sym, ap, ◌∙◌, inl, inr, arith, add-zero, zero-add, ◌-◌, zero, suc}
+use Rattle.std.proofs.Common.{◌≡◌, ℕ, ◌+◌, ◌<◌, ◌≤◌, true, List, [], ◌∷◌, ◌++◌, length, take, get_or, map, cond, Option, Some, None, refl, sym, ap, ◌∙◌, inl, inr, arith, add-zero, zero-add, ◌-◌, zero, suc}
 use Rattle.std.proofs.lemmas.Grind.{common_steps}
 use Rattle.std.specs.List.{IsDistinct}
 use Rattle.std.specs.Prelude.{nat_eq}
@@ -77,11 +77,6 @@ pub counted_both : (before more : List Weighted) (a b : Tabled) (slots : List (O
     → HasCounted (record { slots = slots; total = total }) (before ++ more)
 counted_both before more a b slots total counted also shorter long sum joined = grind (arith, common_steps, table_knows, tally-append, or_cases, items-append, support-append)
 
--- no support grows by more than the weight of the place
-pub bounded_push : (place : Weighted) (old table : List (Option ℕ)) (item : ℕ) → HasAdded old place.weight place.basket table
-    → unwrap_or (get_or table item None) 0 ≤ unwrap_or (get_or old item None) 0 + place.weight
-bounded_push place old table item added = grind (arith, common_steps)
-
 -- ---- the entries of a table
 
 pub entries-append : (number : ℕ) (front : List (Option ℕ)) (back : List (Option ℕ)) → entries_from number (front ++ back) ≡ entries_from number front ++ entries_from (number + length front) back
@@ -130,6 +125,6 @@ table_entries baskets table is within = supports_are baskets (entries_of table) 
     (λ item. ap (found (entries_of table)) (sym (zero-add item)) ∙ found_entry table 0 item ∙ table_knows baskets table is within item)
 
 -- an item of a basket is among all items
-pub item_of_place : (baskets : List Weighted) (i : ℕ) (place : Weighted) → i < length baskets → place ≡ get_or baskets i place → (x : ℕ) → has place.basket x ≡ true → has (all_items baskets) x ≡ true
-item_of_place baskets i place below is x h =
+pub item_of_basket : (baskets : List Weighted) (i : ℕ) (place : Weighted) → i < length baskets → place ≡ get_or baskets i place → (x : ℕ) → has place.basket x ≡ true → has (all_items baskets) x ≡ true
+item_of_basket baskets i place below is x h =
     has-from_Member (all_items baskets) x (Member-into_flat_map (λ (p : Weighted). p.basket) x place baskets (Member-from_Contains place baskets (i, below, sym is)) (Member-from_has place.basket x h))

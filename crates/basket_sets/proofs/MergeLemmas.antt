@@ -6,14 +6,14 @@ use Rattle.std.specs.Map.{lookup}
 use Rattle.std.proofs.lemmas.List.Elements.{All-from_recursion, recursion_from_All}
 use Rattle.indexmap.specs.IndexMap.{insert_entry}
 use Rattle.basket_sets.specs.declared.weighted.Weighted.{Weighted}
-use Rattle.basket_sets.specs.Database.{weighted, with_basket, merged_of, IsPlace, IsDatabase, MOST_WEIGHT}
+use Rattle.basket_sets.specs.Database.{weighted, with_basket, merged_of, IsBasket, IsDatabase, MOST_WEIGHT}
 use Rattle.basket_sets.specs.Merge.{as_weighted}
 use Rattle.basket_sets.specs.Support.{total_of}
-use Rattle.basket_sets.proofs.theory.Merging.{merged_places, length-merged_of, merging_keeps_supports}
+use Rattle.basket_sets.proofs.theory.Merging.{merged_baskets, length-merged_of, merging_keeps_supports}
 
 pub merged_is_database : (baskets : List Weighted) → IsDatabase baskets → IsDatabase (merged_of baskets)
 merged_is_database baskets are = record {
-  places = All-from_recursion IsPlace (merged_of baskets) (merged_places IsPlace (λ place more its. (its.0, its.1, omega (arith, its.2))) baskets (recursion_from_All IsPlace baskets are.places));
+  places = All-from_recursion IsBasket (merged_of baskets) (merged_baskets IsBasket (λ place more its. (its.0, its.1, omega (arith, its.2))) baskets (recursion_from_All IsBasket baskets are.places));
   few = omega (arith, length-merged_of baskets, are.few);
   light = subst (λ n. n ≤ MOST_WEIGHT) (sym (merging_keeps_supports baskets [])) are.light;
 }

@@ -13,8 +13,8 @@ abbrev pub HasWeight : Weighted → Type 0
 HasWeight place = 1 ≤ place.weight
 
 -- a basket of a database: it is a nonempty set, and its weight is at least 1
-abbrev pub IsPlace : Weighted → Type 0
-IsPlace place = IsRising place.basket × (place.basket ≢ []) × (1 ≤ place.weight)
+abbrev pub IsBasket : Weighted → Type 0
+IsBasket place = IsRising place.basket × (place.basket ≢ []) × (1 ≤ place.weight)
 
 -- how many baskets a database has at most, and how much they weigh together at most
 abbrev pub MOST_BASKETS : ℕ
@@ -25,7 +25,7 @@ MOST_WEIGHT = 1099511627775
 
 -- what every database is
 pub record IsDatabase (baskets : List Weighted) : Type 0 where
-  pub places : All IsPlace baskets
+  pub places : All IsBasket baskets
   pub few : length baskets ≤ MOST_BASKETS
   pub light : total_of baskets ≤ MOST_WEIGHT
 

@@ -11,7 +11,7 @@ use Rattle.basket_sets.specs.Itemset.{IsRising, has, without}
 use Rattle.basket_sets.proofs.theory.Items.{filter_none}
 use Rattle.basket_sets.proofs.theory.Members.{Member, Member-from_Contains, Member-map}
 use Rattle.basket_sets.proofs.theory.Ranges.{filter_members}
-use Rattle.basket_sets.proofs.theory.Rising.{Member-from_has, has-from_Member, has_place, rest_rises}
+use Rattle.basket_sets.proofs.theory.Rising.{Member-from_has, has-from_Member, has_at, rest_rises}
 use Rattle.mine_apriori.specs.Candidates.{is_one_of, has_subsets}
 use Rattle.mine_supports.specs.Extensions.{AreGrouped, Group, lists_of, sets_of, prefixes_of, has_items}
 use Rattle.mine_apriori.specs.Join.{AreParts, has_parts, joined_group}
@@ -46,7 +46,7 @@ module _ (groups : List Group) (prefix items : List ℕ) (parts : AreParts group
   kept_items = filter (has_parts (length prefix) (sets_of groups) set) later
 
   kept_is : kept_items ≡ filter (λ x. has_subsets (suc (length prefix)) (sets_of groups) (set ++ x ∷ [])) later
-  kept_is = grind (arith, common_steps, filter_members, parts_decide, has_place, has-from_Member, Member-from_drop)
+  kept_is = grind (arith, common_steps, filter_members, parts_decide, has_at, has-from_Member, Member-from_drop)
 
   pub join_more : (found : List Group)
       → (found ++ filter has_items (record { prefix = set; items = kept_items } ∷ [])) ++ filter has_items (joined_group (suc (length prefix)) (sets_of groups) prefix later)

@@ -19,7 +19,7 @@ use Rattle.basket_sets.proofs.theory.Tests.{cond_sum, or_false}
 use Rattle.mine_baskets.proofs.MergedLemmas.{other_weights}
 use Rattle.mine_baskets.specs.declared.words.Word.{Word}
 use Rattle.mine_baskets.specs.ListBaskets.{AreRankBaskets, HaveSameWeights, IsRankBasket, weight_where}
-use Rattle.mine_baskets.specs.Words.{AreInOrder, EndsBy, has_rank, rank_bits, ranks_in, word_place, word_places}
+use Rattle.mine_baskets.specs.Words.{AreInOrder, EndsBy, has_rank, rank_bits, ranks_in, word_basket, word_baskets}
 use Rattle.mine_baskets.proofs.theory.Weights.{word_sum}
 use Rattle.mine_baskets.proofs.theory.Bits.{has_either, one_rank}
 use Rattle.mine_baskets.specs.declared.words.TheConstants.{WORD_RANKS}
@@ -30,22 +30,22 @@ module _ (test : List ℕ → Bool) where
 
   -- more weight at a word is as good as an equal word
   pub heavier_word : (count : ℕ) (words : List Word) (i : ℕ) (d word : Word) → i < length words → (get_or words i d).bits ≡ word.bits
-      → weight_where test (word_places count (words ++ word ∷ []))
-      ≡ weight_where test (word_places count (set words i (record { bits = (get_or words i d).bits; weight = (get_or words i d).weight + word.weight })))
+      → weight_where test (word_baskets count (words ++ word ∷ []))
+      ≡ weight_where test (word_baskets count (set words i (record { bits = (get_or words i d).bits; weight = (get_or words i d).weight + word.weight })))
   heavier_word count words i d word here same = grind (arith, common_steps, sum_by-append, sum_by-cons, sum_by-set, cond_sum, word_sum)
 
 -- words in another order have the same weights
-pub moved_words : (count : ℕ) (words moved : List Word) → IsPermutation words moved → HaveSameWeights (word_places count words) (word_places count moved)
-moved_words count words moved permutation = other_weights (word_places count words) (word_places count moved) (IsPermutation-map (word_place count) words moved permutation)
+pub moved_words : (count : ℕ) (words moved : List Word) → IsPermutation words moved → HaveSameWeights (word_baskets count words) (word_baskets count moved)
+moved_words count words moved permutation = other_weights (word_baskets count words) (word_baskets count moved) (IsPermutation-map (word_basket count) words moved permutation)
 
 -- the baskets of words are baskets of ranks
 pub words_ranked : (count : ℕ) (words : List Word) → All (λ word. 1 ≤ word.weight) words → sum_by (λ word. word.weight) words ≤ MOST_WEIGHT
-    → AreRankBaskets (record { ranks = count; baskets = word_places count words })
+    → AreRankBaskets (record { ranks = count; baskets = word_baskets count words })
 words_ranked count words some light = record {
   places = λ k d here.
-      let inside : k < length words = omega (arith, here, length-map words (word_place count)) in
+      let inside : k < length words = omega (arith, here, length-map words (word_basket count)) in
       let bits = (get_or words k none).bits in
-      subst (IsRankBasket count) (sym (get_or-map (word_place count) words k none d inside)) (record {
+      subst (IsRankBasket count) (sym (get_or-map (word_basket count) words k none d inside)) (record {
         rises = filtered_range_rises (has_rank bits) 0 count;
         below = λ rank h.
             let m = Member-filter (has_rank bits) rank (range_with_len 0 count) (Member-from_has (ranks_in count bits) rank h) in
@@ -61,11 +61,11 @@ words_ranked count words some light = record {
     none = record { bits = 0; weight = 0 }
 
 -- and words are so many and so heavy as their baskets are
-module _ (count : ℕ) (words : List Word) (are : AreRankBaskets (record { ranks = count; baskets = word_places count words })) where
+module _ (count : ℕ) (words : List Word) (are : AreRankBaskets (record { ranks = count; baskets = word_baskets count words })) where
   pub some_words : All (λ (word : Word). 1 ≤ word.weight) words
   some_words i d here =
-      let is = are.places i (word_place count d) (omega (arith, here, length-map words (word_place count))) in
-      let same = ap (λ (p : Weighted). p.weight) (get_or-map (word_place count) words i d (word_place count d) here) in
+      let is = are.places i (word_basket count d) (omega (arith, here, length-map words (word_basket count))) in
+      let same = ap (λ (p : Weighted). p.weight) (get_or-map (word_basket count) words i d (word_basket count d) here) in
       omega (arith, is.weighs, same)
 
   pub light_words : sum_by (λ (word : Word). word.weight) words ≤ MOST_WEIGHT
@@ -73,20 +73,13 @@ module _ (count : ℕ) (words : List Word) (are : AreRankBaskets (record { ranks
 
 -- one word more of a list
 pub next_word : (count : ℕ) (words : List Word) (i : ℕ) (d : Word) → i < length words
-    → word_places count (take i words) ++ word_place count (get_or words i d) ∷ [] ≡ word_places count (take (i + 1) words)
+    → word_baskets count (take i words) ++ word_basket count (get_or words i d) ∷ [] ≡ word_baskets count (take (i + 1) words)
 next_word count words i d here = grind (arith, common_steps)
 
 -- ---- words in order
 
--- a word whose bits stay
-bits_stay : (words : List Word) (i : ℕ) (d new : Word) → i < length words → new.bits ≡ (get_or words i d).bits → (k : ℕ) (e : Word) → k < length words → (get_or (set words i new) k e).bits ≡ (get_or words k e).bits
-bits_stay words i d new here same k e low = grind (arith, common_steps)
-
 pub heavier_order : (words : List Word) (i : ℕ) (d new : Word) → i < length words → new.bits ≡ (get_or words i d).bits → AreInOrder words → AreInOrder (set words i new)
 heavier_order words i d new here same order k e low = grind (arith, common_steps)
-
-pub heavier_end : (words : List Word) (i : ℕ) (d new : Word) → i < length words → i ≡ length words - 1 → new.bits ≡ (get_or words i d).bits → EndsBy new.bits (set words i new)
-heavier_end words i d new here last same e some = grind (arith, common_steps)
 
 pub pushed_order : (words : List Word) (word : Word) → AreInOrder words → ((last : Word) → 0 < length words → (get_or words (length words - 1) last).bits < word.bits) → AreInOrder (words ++ word ∷ [])
 pushed_order words word order above k e low = grind (arith, common_steps)

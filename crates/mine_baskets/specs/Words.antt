@@ -16,11 +16,11 @@ abbrev pub ranks_in : ℕ → ℕ → List ℕ
 ranks_in count bits = filter (has_rank bits) (range_with_len 0 count)
 
 -- the basket of a word
-abbrev pub word_place : ℕ → Word → Weighted
-word_place count word = weighted (ranks_in count word.bits) word.weight
+abbrev pub word_basket : ℕ → Word → Weighted
+word_basket count word = weighted (ranks_in count word.bits) word.weight
 
-abbrev pub word_places : ℕ → List Word → List Weighted
-word_places count words = map (word_place count) words
+abbrev pub word_baskets : ℕ → List Word → List Weighted
+word_baskets count words = map (word_basket count) words
 
 -- the words stand in order, no two of them equal
 abbrev pub AreInOrder : List Word → Type 0

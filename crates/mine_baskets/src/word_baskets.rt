@@ -4,7 +4,7 @@ ghost use Rattle.basket_sets.specs.Counts.{AllBelow};
 ghost use Rattle.basket_sets.specs.Database.{MOST_WEIGHT};
 ghost use Rattle.mine_baskets.specs.declared.words.Word.{Word as Bits};
 ghost use Rattle.mine_baskets.specs.ListBaskets.{AreRankBaskets, HaveSameWeights};
-ghost use Rattle.mine_baskets.specs.Words.{AreInOrder, rank_bits, word_places};
+ghost use Rattle.mine_baskets.specs.Words.{AreInOrder, rank_bits, word_baskets};
 
 use crate::list_baskets::ListBaskets;
 use crate::words::{WORD_RANKS, Word, bit_of, merged};
@@ -23,11 +23,11 @@ pub struct WordBaskets {
 
 impl Model for WordBaskets {
     ghost use Rattle.mine_baskets.specs.ListBaskets.{RankBaskets};
-    ghost use Rattle.mine_baskets.specs.Words.{KeepsWords, word_places};
+    ghost use Rattle.mine_baskets.specs.Words.{KeepsWords, word_baskets};
 
     ghost Value = { RankBaskets };
 
-    ghost view = { λ w. record { ranks = w.count; baskets = word_places w.count w.words.items } };
+    ghost view = { λ w. record { ranks = w.count; baskets = word_baskets w.count w.words.items } };
 
     ghost invariant = { λ w. KeepsWords w.count w.words.items };
 }
@@ -41,7 +41,7 @@ impl WordBaskets {
         requires light { sum_by (λ (word : Bits). word.weight) words.items ≤ MOST_WEIGHT }
         ensures ranks { IfOk result (λ baskets. baskets.ranks ≡ count) }
         ensures ranked { IfOk result AreRankBaskets }
-        ensures weights { IfOk result (λ baskets. HaveSameWeights (word_places count words.items) baskets.baskets) }
+        ensures weights { IfOk result (λ baskets. HaveSameWeights (word_baskets count words.items) baskets.baskets) }
     {
         words.sort_unstable_by_key(|word| word.bits);
         let distinct = merged(alloc, &words)?;
@@ -58,7 +58,7 @@ impl WordBaskets {
         requires light { sum_by (λ (word : Bits). word.weight) words.items ≤ MOST_WEIGHT }
         requires order { AreInOrder words.items }
         ensures ranked { AreRankBaskets result }
-        ensures baskets { result ≡ record { ranks = count; baskets = word_places count words.items } }
+        ensures baskets { result ≡ record { ranks = count; baskets = word_baskets count words.items } }
     {
         WordBaskets { count, words }
     }
@@ -91,7 +91,7 @@ impl WordBaskets {
 
     /// The words, in order.
     pub fn words(&self) -> &[Word]
-        ensures baskets { word_places self.now.ranks result.now ≡ self.now.baskets }
+        ensures baskets { word_baskets self.now.ranks result.now ≡ self.now.baskets }
         ensures few { self.now.ranks ≤ WORD_RANKS }
         ensures some { All (λ (word : Bits). 1 ≤ word.weight) result.now }
         ensures light { sum_by (λ (word : Bits). word.weight) result.now ≤ MOST_WEIGHT }
@@ -104,7 +104,7 @@ impl WordBaskets {
 fn words_of_ranks(alloc: Global, count: u32, baskets: &[Weighted]) -> Result<Vec<Word>, AllocError>
     requires few { count ≤ WORD_RANKS }
     requires ranked { AreRankBaskets (record { ranks = count; baskets = baskets.now }) }
-    ensures { IfOk result (λ words. word_places count words.items ≡ baskets.now) }
+    ensures { IfOk result (λ words. word_baskets count words.items ≡ baskets.now) }
 {
     let mut words = Vec::with_capacity(alloc, baskets.len())?;
     for place in baskets {

@@ -4,7 +4,7 @@ ghost use Rattle.std.specs.List.Sorted.{IsNonDecreasingBy};
 ghost use Rattle.basket_sets.specs.Database.{MOST_WEIGHT};
 ghost use Rattle.mine_baskets.specs.declared.words.Word.{Word as Bits};
 ghost use Rattle.mine_baskets.specs.ListBaskets.{HaveSameWeights};
-ghost use Rattle.mine_baskets.specs.Words.{AreInOrder, EndsBy, has_rank, ranks_in, word_places};
+ghost use Rattle.mine_baskets.specs.Words.{AreInOrder, EndsBy, has_rank, ranks_in, word_baskets};
 
 use std::alloc::{AllocError, Global};
 
@@ -91,7 +91,7 @@ pub fn add(words: &mut Vec<Word>, word: Word) -> Result<(), AllocError>
     requires light { sum_by (λ (other : Bits). other.weight) words.old.items + word.weight ≤ MOST_WEIGHT }
     ensures some { OnOk result (All (λ (other : Bits). 1 ≤ other.weight) words.new.items) }
     ensures light { OnOk result (sum_by (λ (other : Bits). other.weight) words.new.items ≡ sum_by (λ (other : Bits). other.weight) words.old.items + word.weight) }
-    ensures weights { OnOk result ((count : ℕ) → HaveSameWeights (word_places count (words.old.items ++ word ∷ [])) (word_places count words.new.items)) }
+    ensures weights { OnOk result ((count : ℕ) → HaveSameWeights (word_baskets count (words.old.items ++ word ∷ [])) (word_baskets count words.new.items)) }
     ensures order { OnOk result (AreInOrder words.old.items → EndsBy word.bits words.old.items → AreInOrder words.new.items) }
     ensures end { OnOk result (EndsBy word.bits words.new.items) }
 {
@@ -112,7 +112,7 @@ pub fn merged(alloc: Global, words: &[Word]) -> Result<Vec<Word>, AllocError>
     ensures order { IfOk result (λ merged. AreInOrder merged.items) }
     ensures some { IfOk result (λ merged. All (λ (word : Bits). 1 ≤ word.weight) merged.items) }
     ensures light { IfOk result (λ merged. sum_by (λ (word : Bits). word.weight) merged.items ≡ sum_by (λ (word : Bits). word.weight) words.now) }
-    ensures weights { IfOk result (λ merged. (count : ℕ) → HaveSameWeights (word_places count words.now) (word_places count merged.items)) }
+    ensures weights { IfOk result (λ merged. (count : ℕ) → HaveSameWeights (word_baskets count words.now) (word_baskets count merged.items)) }
 {
     let mut merged = Vec::with_capacity(alloc, words.len())?;
     for word in words {

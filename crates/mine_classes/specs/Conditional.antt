@@ -13,12 +13,12 @@ abbrev pub is_kept : List Weighted → ℕ → ℕ → ℕ → Bool
 is_kept baskets least rank other = nat_lt other rank && is_frequent baskets (Count least) (other ∷ rank ∷ [])
 
 -- a basket that has the rank, kept to the ranks that a test keeps
-abbrev pub kept_place : (ℕ → Bool) → ℕ → Weighted → List Weighted
-kept_place keeps rank place = if has place.basket rank then weighted (filter keeps place.basket) place.weight ∷ [] else []
+abbrev pub kept_basket : (ℕ → Bool) → ℕ → Weighted → List Weighted
+kept_basket keeps rank place = if has place.basket rank then weighted (filter keeps place.basket) place.weight ∷ [] else []
 
 -- the conditional database of a rank (Han, Pei and Yin 2000): the baskets that have it, kept to the ranks below it that are frequent together with it
 abbrev pub conditional : ℕ → List Weighted → ℕ → List Weighted
-conditional least baskets rank = flat_map (kept_place (is_kept baskets least rank) rank) baskets
+conditional least baskets rank = flat_map (kept_basket (is_kept baskets least rank) rank) baskets
 
 -- each set of kept ranks has in the conditional database the support that it has, with the rank added, in the baskets; each other set has none
 abbrev pub ConditionalSupports : Type 0

@@ -6,7 +6,7 @@ use Rattle.std.specs.List.{AllByRecursion, fold, range_with_len}
 use Rattle.std.proofs.lemmas.Bool.{cases_eq, or_cases, true≢false}
 use Rattle.std.proofs.lemmas.List.Elements.{recursion_from_All}
 use Rattle.std.proofs.lemmas.Nat.Bits.{bit_at-pow_other, bit_at-pow_same, bit_at-zero}
-use Rattle.basket_ranks.specs.Codes.{coded_place, rank_of}
+use Rattle.basket_ranks.specs.Codes.{coded_basket, rank_of}
 use Rattle.basket_sets.specs.declared.weighted.Weighted.{Weighted}
 use Rattle.basket_sets.specs.Database.{weighted}
 use Rattle.basket_sets.specs.Itemset.{IsRising}
@@ -16,7 +16,7 @@ use Rattle.basket_sets.proofs.theory.Ranges.{Member-into_range, Member-range, fi
 use Rattle.basket_sets.proofs.theory.Tests.{or_true}
 use Rattle.mine_baskets.specs.declared.words.TheConstants.{WORD_RANKS}
 use Rattle.mine_baskets.specs.ListBaskets.{IsRankBasket}
-use Rattle.mine_baskets.specs.Words.{has_rank, ranks_in, word_places}
+use Rattle.mine_baskets.specs.Words.{has_rank, ranks_in, word_baskets}
 use Rattle.mine_conditional.specs.BitTable.{AreBits, option_bit, number_bit, table_bits, table_word}
 use Rattle.mine_conditional.proofs.NumberLemmas.{all_coded, from_numbers, into_numbers, placed, numbers_in, numbers_rise, stands, table_at}
 use Rattle.mine_baskets.proofs.theory.Bits.{has_either}
@@ -31,8 +31,8 @@ module _ (kept : List ℕ) (up : IsRising kept) (few : length kept ≤ WORD_RANK
   place_has : (rank place : ℕ) → rank_of kept rank ≡ Some place → has_rank (number_bit kept rank) place ≡ true
   place_has rank place is = ap (λ o. has_rank (option_bit o) place) is ∙ ap (λ n. eqb n 1) (bit_at-pow_same (63 - place))
 
-  has_place : (rank place : ℕ) → place < WORD_RANKS → has_rank (number_bit kept rank) place ≡ true → rank_of kept rank ≡ Some place
-  has_place rank place within h = at (rank_of kept rank) refl h
+  has_at : (rank place : ℕ) → place < WORD_RANKS → has_rank (number_bit kept rank) place ≡ true → rank_of kept rank ≡ Some place
+  has_at rank place within h = at (rank_of kept rank) refl h
     where
       at : (o : Option ℕ) → rank_of kept rank ≡ o → has_rank (option_bit o) place ≡ true → rank_of kept rank ≡ Some place
       at None e h = absurd (true≢false (sym h ∙ ap (λ n. eqb n 1) (bit_at-zero (63 - place))))
@@ -52,7 +52,7 @@ module _ (kept : List ℕ) (up : IsRising kept) (few : length kept ≤ WORD_RANK
   from_bits (first ∷ basket) bits place within h = elim (from_bits basket (with_bit bits first) place within h) [
     | inl e ↦ elim (or_cases (has_rank bits place) (has_rank (number_bit kept first) place) (sym (has_either bits (number_bit kept first) place) ∙ e)) [
       | inl old ↦ inl old
-      | inr new ↦ inr (first, inl refl, has_place first place within new)
+      | inr new ↦ inr (first, inl refl, has_at first place within new)
     ]
     | inr r ↦ inr (r.0, inr r.1, r.2)
   ]
@@ -106,15 +106,15 @@ table_bits_are kept of basket up are = go basket 0
         ∙ ap (λ n. fold (λ bits rank. bit_or bits (number_bit kept rank)) (bit_or bits n) ranks) (table_at option_bit kept up of first are)
 
 words_each : (kept of : List ℕ) (count : ℕ) (baskets : List Weighted) → IsRising kept → length kept ≤ WORD_RANKS → AreBits kept of → AllByRecursion (IsRankBasket count) baskets
-    → word_places (length kept) (map (table_word of) baskets) ≡ map (placed kept) baskets
+    → word_baskets (length kept) (map (table_word of) baskets) ≡ map (placed kept) baskets
 words_each kept of count [] up few are all = refl
 words_each kept of count (place ∷ baskets) up few are all =
-    ap (λ l. weighted l place.weight ∷ word_places (length kept) (map (table_word of) baskets))
+    ap (λ l. weighted l place.weight ∷ word_baskets (length kept) (map (table_word of) baskets))
     (ap (ranks_in (length kept)) (table_bits_are kept of place.basket up are) ∙ bits_are kept up few place.basket all.0.rises)
     ∙ ap (λ rest. placed kept place ∷ rest) (words_each kept of count baskets up few are all.1)
 
 -- the words by the table are the baskets coded by the list
 pub table_words_coded : (kept of : List ℕ) (count : ℕ) (baskets : List Weighted) → IsRising kept → length kept ≤ WORD_RANKS → AreBits kept of → All (IsRankBasket count) baskets
-    → word_places (length kept) (map (table_word of) baskets) ≡ map (coded_place kept) baskets
+    → word_baskets (length kept) (map (table_word of) baskets) ≡ map (coded_basket kept) baskets
 table_words_coded kept of count baskets up few are all =
     words_each kept of count baskets up few are (recursion_from_All (IsRankBasket count) baskets all) ∙ all_coded kept up count baskets all

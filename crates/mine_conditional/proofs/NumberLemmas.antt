@@ -9,8 +9,8 @@ use Rattle.std.proofs.lemmas.Bool.{cases_Bool, cases_eq, cases_lt, eq-eqb, ne_eq
 use Rattle.std.proofs.lemmas.List.{ext_get_or, get_or_default, get_or-set_other, get_or-take, length-replicate, length-take, map-append, take_more}
 use Rattle.std.proofs.lemmas.List.Elements.{All-from_recursion, recursion_from_All}
 use Rattle.basket_sets.specs.declared.weighted.Weighted.{Weighted}
-use Rattle.basket_ranks.specs.Codes.{coded, coded_place, rank_from, rank_of}
-use Rattle.basket_ranks.proofs.theory.Coding.{coded_place_is, coded_total, from_ranks, into_ranks, ranks_rise}
+use Rattle.basket_ranks.specs.Codes.{coded, coded_basket, rank_from, rank_of}
+use Rattle.basket_ranks.proofs.theory.Coding.{coded_basket_is, coded_total, from_ranks, into_ranks, ranks_rise}
 use Rattle.basket_sets.specs.Database.{MOST_WEIGHT, weighted}
 use Rattle.basket_sets.specs.Itemset.{IsRising, has}
 use Rattle.basket_sets.proofs.theory.Members.{Member, Contains-from_Member}
@@ -164,28 +164,28 @@ module _ (kept : List ℕ) (up : IsRising kept) where
       let same : place ≡ r.0 = r.2 ∙ zero-add r.0 in
       into_numbers basket (get_or kept r.0 0) place (Member-from_has basket (get_or kept r.0 0) r.3) (rank_at kept r.0 up r.1 ∙ ap Some (sym same)))
 
-  coded_each : (count : ℕ) (baskets : List Weighted) → AllByRecursion (IsRankBasket count) baskets → map (placed kept) baskets ≡ map (coded_place kept) baskets
+  coded_each : (count : ℕ) (baskets : List Weighted) → AllByRecursion (IsRankBasket count) baskets → map (placed kept) baskets ≡ map (coded_basket kept) baskets
   coded_each count [] all = refl
   coded_each count (place ∷ baskets) all = grind (arith, common_steps, coded_each count baskets all.1, numbers_are_coded)
 
-  pub all_coded : (count : ℕ) (baskets : List Weighted) → All (IsRankBasket count) baskets → map (placed kept) baskets ≡ map (coded_place kept) baskets
+  pub all_coded : (count : ℕ) (baskets : List Weighted) → All (IsRankBasket count) baskets → map (placed kept) baskets ≡ map (coded_basket kept) baskets
   all_coded count baskets all = coded_each count baskets (recursion_from_All (IsRankBasket count) baskets all)
 
   -- and so are the places by a table
-  pub table_coded : (of : List (Option ℕ)) (count : ℕ) (baskets : List Weighted) → AreNumbers kept of → All (IsRankBasket count) baskets → map (by_table of) baskets ≡ map (coded_place kept) baskets
+  pub table_coded : (of : List (Option ℕ)) (count : ℕ) (baskets : List Weighted) → AreNumbers kept of → All (IsRankBasket count) baskets → map (by_table of) baskets ≡ map (coded_basket kept) baskets
   table_coded of count baskets are all = (λ i. map (λ place. weighted (filter_map (λ rank. table_at (λ number. number) kept up of rank are i) place.basket) place.weight) baskets) ∙ all_coded count baskets all
 
 -- coded baskets of ranks are baskets of ranks
 pub coded_rank_baskets : (kept : List ℕ) (count : ℕ) (baskets : List Weighted) → AreRankBaskets (record { ranks = count; baskets = baskets })
-    → AreRankBaskets (record { ranks = length kept; baskets = map (coded_place kept) baskets })
+    → AreRankBaskets (record { ranks = length kept; baskets = map (coded_basket kept) baskets })
 coded_rank_baskets kept count baskets are = record {
-  places = All-from_recursion (IsRankBasket (length kept)) (map (coded_place kept) baskets) (each baskets (recursion_from_All (IsRankBasket count) baskets are.places));
+  places = All-from_recursion (IsRankBasket (length kept)) (map (coded_basket kept) baskets) (each baskets (recursion_from_All (IsRankBasket count) baskets are.places));
   light = subst (λ n. n ≤ MOST_WEIGHT) (sym (coded_total kept baskets)) are.light;
 }
   where
-    each : (places : List Weighted) → AllByRecursion (IsRankBasket count) places → AllByRecursion (IsRankBasket (length kept)) (map (coded_place kept) places)
+    each : (places : List Weighted) → AllByRecursion (IsRankBasket count) places → AllByRecursion (IsRankBasket (length kept)) (map (coded_basket kept) places)
     each [] all = tt
-    each (place ∷ places) all = let is = coded_place_is kept place in (record { rises = is.0; below = is.1; weighs = all.0.weighs }, each places all.1)
+    each (place ∷ places) all = let is = coded_basket_is kept place in (record { rises = is.0; below = is.1; weighs = all.0.weighs }, each places all.1)
 
 -- ---- the loops over baskets
 

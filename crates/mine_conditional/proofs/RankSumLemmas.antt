@@ -10,7 +10,6 @@ use Rattle.std.proofs.lemmas.Nat.Bits.{bit_at_above, bit_at_cat_high}
 use Rattle.mine_baskets.specs.declared.words.Word.{Word}
 use Rattle.mine_baskets.proofs.theory.Bits.{without_lowest, without_lowest_other}
 use Rattle.mine_conditional.specs.WordPaths.{rank_weight}
-use Rattle.mine_conditional.proofs.WordPathLemmas.{rank_weight_le}
 
 -- the weight that is still to come at a rank below a number, where the rest has its bit
 abbrev pub rest_weight : ℕ → ℕ → ℕ → ℕ → ℕ
@@ -44,9 +43,6 @@ module _ (count rest : ℕ) (word : Word) (old new : List ℕ) (few : count ≤ 
     -- its rank is below the number
     pub lowest_below : lowest < count
     lowest_below = grind (arith, common_steps, cases_lt, bit_at_above)
-
-    pub lowest_fits : (most : ℕ) → ((rank : ℕ) → rank < count → get_or old rank 0 + word.weight ≤ most) → get_or new (count - 1 - lowest) 0 + word.weight ≤ most
-    lowest_fits most light = grind (arith, common_steps, lowest_below, rank_weight_le)
 
     pub sums_next : count ≤ length old → HasSums count (bit_and rest (rest - 1)) word old (set new (count - 1 - lowest) (get_or new (count - 1 - lowest) 0 + word.weight))
     sums_next inside = record {

@@ -10,7 +10,7 @@ use Rattle.std.proofs.lemmas.Nat.{one_shl}
 use Rattle.std.proofs.lemmas.Nat.Bits.{bit_at-zero}
 use Rattle.std.proofs.lemmas.List.{append-nil, append_assoc, get_or_default, map-append, take_more}
 use Rattle.std.proofs.lemmas.List.Sums.{sum_by_push}
-use Rattle.basket_ranks.specs.Codes.{decoded, decoded_place}
+use Rattle.basket_ranks.specs.Codes.{decoded, decoded_basket}
 use Rattle.basket_ranks.proofs.theory.Coding.{from_decoded, into_decoded}
 use Rattle.basket_sets.specs.declared.weighted.Weighted.{Weighted}
 use Rattle.basket_sets.specs.Counts.{AllBelow}
@@ -24,9 +24,9 @@ use Rattle.basket_sets.proofs.theory.Tests.{Member-at, all_of, each_of}
 use Rattle.basket_sets.proofs.theory.Ranges.{Member-into_range, Member-range, filter_rises, filtered_range_rises}
 use Rattle.mine_baskets.specs.declared.words.TheConstants.{WORD_RANKS}
 use Rattle.mine_baskets.specs.declared.words.Word.{Word}
-use Rattle.mine_classes.specs.Conditional.{kept_place}
+use Rattle.mine_classes.specs.Conditional.{kept_basket}
 use Rattle.mine_baskets.specs.ListBaskets.{HaveSameWeights, weight_where}
-use Rattle.mine_baskets.specs.Words.{has_rank, ranks_in, word_place, word_places}
+use Rattle.mine_baskets.specs.Words.{has_rank, ranks_in, word_basket, word_baskets}
 use Rattle.mine_baskets.proofs.theory.Bits.{has_either, one_rank}
 use Rattle.mine_baskets.proofs.theory.Weights.{changed_weight, word_sum}
 use Rattle.mine_conditional.specs.WordPaths.{pair_weight, rank_weight}
@@ -59,7 +59,7 @@ two_ranks : (a b : Bool) (weight : ℕ) → cond (a && (b && true)) weight 0 ≡
 two_ranks h1 h2 h3 = grind (arith, common_steps)
 
 pub pair_support : (count rank other : ℕ) (words : List Word) → rank < count → other < rank
-    → support_of (word_places count words) (other ∷ rank ∷ []) ≡ sum_by (pair_weight rank other) words
+    → support_of (word_baskets count words) (other ∷ rank ∷ []) ≡ sum_by (pair_weight rank other) words
 pair_support count rank other words low less = grind (arith, common_steps, word_sum, sum_by-same, two_ranks, has_in)
 
 pub rank_weight_le : (rank : ℕ) (word : Word) → rank_weight rank word ≤ word.weight
@@ -104,17 +104,17 @@ gap_fails count bits rank some low h gap = elim (cases_Bool (fills count bits)) 
   | inr e ↦ e
 ]
 
-pub all_fill : (count : ℕ) (words : List Word) → ((k : ℕ) → k < length words → fills count (get_or words k none).bits ≡ true) → is_branch (word_places count words) ≡ true
+pub all_fill : (count : ℕ) (words : List Word) → ((k : ℕ) → k < length words → fills count (get_or words k none).bits ≡ true) → is_branch (word_baskets count words) ≡ true
 all_fill count [] each = refl
 all_fill count (word ∷ words) each =
-    and_from (fills count word.bits) (is_branch (word_places count words)) (each 0 (omega arith)) (all_fill count words (λ k here. each (suc k) (omega arith)))
+    and_from (fills count word.bits) (is_branch (word_baskets count words)) (each 0 (omega arith)) (all_fill count words (λ k here. each (suc k) (omega arith)))
 
 and_false : (b : Bool) → (b && false) ≡ false
 and_false h1 = grind (arith, common_steps)
 
-pub one_fails : (count : ℕ) (words : List Word) (k : ℕ) → k < length words → fills count (get_or words k none).bits ≡ false → is_branch (word_places count words) ≡ false
+pub one_fails : (count : ℕ) (words : List Word) (k : ℕ) → k < length words → fills count (get_or words k none).bits ≡ false → is_branch (word_baskets count words) ≡ false
 one_fails count [] k here e = absurd (omega arith)
-one_fails count (word ∷ words) zero here e = ap (λ b. b && is_branch (word_places count words)) e
+one_fails count (word ∷ words) zero here e = ap (λ b. b && is_branch (word_baskets count words)) e
 one_fails count (word ∷ words) (suc k) here e = ap (λ b. fills count word.bits && b) (one_fails count words k (omega arith) e) ∙ and_false (fills count word.bits)
 
 -- ---- words kept to some ranks
@@ -153,7 +153,7 @@ flat_map_push f (x ∷ xs) y = ap (λ l. f x ++ l) (flat_map_push f xs y) ∙ sy
 
 module _ (kept : List ℕ) (count rank : ℕ) (words : List Word) (i : ℕ) where
   abbrev pub below_words : List Word → List Weighted
-  below_words list = flat_map (kept_place (has kept) rank) (word_places count list)
+  below_words list = flat_map (kept_basket (has kept) rank) (word_baskets count list)
 
   abbrev word_at : Word
   word_at = get_or words i none
@@ -168,9 +168,9 @@ module _ (kept : List ℕ) (count rank : ℕ) (words : List Word) (i : ℕ) wher
 
   pub below_with : i < length words → rank < count → has_rank word_at.bits rank ≡ true → AllBelow count kept → (old new : List Word) (bits : ℕ)
       → ((place : ℕ) → place < length kept → has_rank bits place ≡ has_rank word_at.bits (get_or kept place 0))
-      → HaveSameWeights (below_words (take i words)) (map (decoded_place kept) (word_places (length kept) old))
-      → HaveSameWeights (word_places (length kept) (old ++ record { bits = bits; weight = word_at.weight } ∷ [])) (word_places (length kept) new)
-      → HaveSameWeights (below_words (take (i + 1) words)) (map (decoded_place kept) (word_places (length kept) new))
+      → HaveSameWeights (below_words (take i words)) (map (decoded_basket kept) (word_baskets (length kept) old))
+      → HaveSameWeights (word_baskets (length kept) (old ++ record { bits = bits; weight = word_at.weight } ∷ [])) (word_baskets (length kept) new)
+      → HaveSameWeights (below_words (take (i + 1) words)) (map (decoded_basket kept) (word_baskets (length kept) new))
   below_with here low h within old new bits are so_far added test =
       let n = length kept in
       let own = filter (has kept) (ranks_in count word_at.bits) in
@@ -179,8 +179,8 @@ module _ (kept : List ℕ) (count rank : ℕ) (words : List Word) (i : ℕ) wher
       let weigh = λ (t : List ℕ → Bool) (place : Weighted). cond (t place.basket) place.weight 0 in
       ap (weight_where test) (next_below here low true h)
       ∙ sum_by_push (weigh test) (below_words (take i words)) (weighted own word_at.weight)
-      ∙ ap (λ m. m + cond (test own) word_at.weight 0) (so_far test ∙ changed_weight test (decoded kept) (word_places n old))
-      ∙ ap (λ l. weight_where inner (word_places n old) + cond (test l) word_at.weight 0) (kept_decoded kept count word_at.bits bits within are)
-      ∙ sym (ap (weight_where inner) (map-append (word_place n) old (word ∷ [])) ∙ sum_by_push (weigh inner) (word_places n old) (word_place n word))
+      ∙ ap (λ m. m + cond (test own) word_at.weight 0) (so_far test ∙ changed_weight test (decoded kept) (word_baskets n old))
+      ∙ ap (λ l. weight_where inner (word_baskets n old) + cond (test l) word_at.weight 0) (kept_decoded kept count word_at.bits bits within are)
+      ∙ sym (ap (weight_where inner) (map-append (word_basket n) old (word ∷ [])) ∙ sum_by_push (weigh inner) (word_baskets n old) (word_basket n word))
       ∙ added inner
-      ∙ sym (changed_weight test (decoded kept) (word_places n new))
+      ∙ sym (changed_weight test (decoded kept) (word_baskets n new))

@@ -1,7 +1,7 @@
 -- Baskets of ranks, in whichever form they are kept: when they are a single branch, and the conditional database of a rank.
 use Rattle.std.specs.Prelude.{◌≡◌, ◌≤◌, ℕ, Bool, List, length, map}
 use Rattle.std.specs.List.{list_all, range_with_len}
-use Rattle.basket_ranks.specs.Codes.{decoded_place}
+use Rattle.basket_ranks.specs.Codes.{decoded_basket}
 use Rattle.basket_sets.specs.declared.weighted.Weighted.{Weighted}
 use Rattle.basket_sets.specs.Itemset.{contains}
 use Rattle.mine_baskets.specs.declared.span.Span.{Span}
@@ -27,4 +27,4 @@ IsOrdered run = run.start ≤ run.end
 pub record IsConditional (all : List Weighted) (least rank : ℕ) (below : RankBaskets) : Type 0 where
   pub ranks : below.ranks ≡ length (kept_ranks all least rank)
   pub ranked : AreRankBaskets below
-  pub weights : HaveSameWeights (conditional least all rank) (map (decoded_place (kept_ranks all least rank)) below.baskets)
+  pub weights : HaveSameWeights (conditional least all rank) (map (decoded_basket (kept_ranks all least rank)) below.baskets)

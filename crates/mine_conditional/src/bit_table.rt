@@ -7,7 +7,7 @@ ghost use Rattle.basket_sets.specs.Itemset.{IsRising};
 ghost use Rattle.mine_baskets.specs.declared.words.Word.{Word as Bits};
 ghost use Rattle.mine_baskets.specs.Baskets.{baskets_in};
 ghost use Rattle.mine_baskets.specs.ListBaskets.{HaveSameWeights};
-ghost use Rattle.mine_baskets.specs.Words.{word_places};
+ghost use Rattle.mine_baskets.specs.Words.{word_baskets};
 ghost use Rattle.mine_conditional.specs.BitTable.{AreBits, table_bits, table_word};
 
 use mine_baskets::words::{WORD_RANKS, Word, add, bit_of};
@@ -47,7 +47,7 @@ pub fn words_of(alloc: Global, of: &[u64], baskets: Baskets<'_>) -> Result<Vec<W
     requires { baskets.count ≤ length of.now }
     ensures some { IfOk result (λ words. All (λ (word : Bits). 1 ≤ word.weight) words.items) }
     ensures light { IfOk result (λ words. sum_by (λ (word : Bits). word.weight) words.items ≤ MOST_WEIGHT) }
-    ensures weights { IfOk result (λ words. (count : ℕ) → HaveSameWeights (word_places count (map (table_word of.now) (baskets_in baskets.entry))) (word_places count words.items)) }
+    ensures weights { IfOk result (λ words. (count : ℕ) → HaveSameWeights (word_baskets count (map (table_word of.now) (baskets_in baskets.entry))) (word_baskets count words.items)) }
 {
     let mut words = Vec::with_capacity(alloc, baskets.len())?;
     let mut end_ranks = [0u32; BASKETS_AHEAD];

@@ -1,6 +1,6 @@
 //! Baskets of the ranks of a list, by their indexes in it: their local numbers.
 ghost use Rattle.std.specs.Prelude.{◌≡◌, ◌≤◌, ◌+◌, ◌++◌, ℕ, [], None, All, IfOk, false, length, map, replicate, slice_index_or, take};
-ghost use Rattle.basket_ranks.specs.Codes.{coded_place};
+ghost use Rattle.basket_ranks.specs.Codes.{coded_basket};
 ghost use Rattle.basket_sets.specs.Counts.{AllBelow};
 ghost use Rattle.basket_sets.specs.Itemset.{IsRising, has};
 ghost use Rattle.mine_baskets.specs.Baskets.{baskets_in};
@@ -62,7 +62,7 @@ impl LocalNumbers {
         requires lower { baskets.count ≤ self.old }
         ensures ranks { IfOk result (λ below. (conditional_baskets below).ranks ≡ length kept.now) }
         ensures ranked { IfOk result (λ below. AreRankBaskets (conditional_baskets below)) }
-        ensures weights { IfOk result (λ below. HaveSameWeights (map (coded_place kept.now) (baskets_in baskets.entry)) (conditional_baskets below).baskets) }
+        ensures weights { IfOk result (λ below. HaveSameWeights (map (coded_basket kept.now) (baskets_in baskets.entry)) (conditional_baskets below).baskets) }
         ensures numbers { self.new ≡ self.old }
     {
         if kept.len() <= WORD_RANKS {
@@ -86,7 +86,7 @@ impl LocalNumbers {
         requires lower { baskets.count ≤ self.old }
         ensures ranks { IfOk result (λ lists. lists.ranks ≡ length kept.now) }
         ensures ranked { IfOk result AreRankBaskets }
-        ensures weights { IfOk result (λ lists. HaveSameWeights (map (coded_place kept.now) (baskets_in baskets.entry)) lists.baskets) }
+        ensures weights { IfOk result (λ lists. HaveSameWeights (map (coded_basket kept.now) (baskets_in baskets.entry)) lists.baskets) }
         ensures numbers { self.new ≡ self.old }
     {
         put(&mut self.of, kept);
@@ -110,7 +110,7 @@ impl LocalNumbers {
         requires lower { baskets.count ≤ self.old }
         ensures ranks { IfOk result (λ words. words.ranks ≡ length kept.now) }
         ensures ranked { IfOk result AreRankBaskets }
-        ensures weights { IfOk result (λ words. HaveSameWeights (map (coded_place kept.now) (baskets_in baskets.entry)) words.baskets) }
+        ensures weights { IfOk result (λ words. HaveSameWeights (map (coded_basket kept.now) (baskets_in baskets.entry)) words.baskets) }
         ensures numbers { self.new ≡ self.old }
     {
         set_bits(&mut self.bits, kept);

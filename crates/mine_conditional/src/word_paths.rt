@@ -1,16 +1,16 @@
 //! Baskets of up to 64 ranks, each as the bits of a word: their pairs, and those of a rank.
 ghost use Rattle.std.specs.Prelude.{◌≡◌, ◌≤◌, ◌<◌, ◌+◌, ℕ, All, IfOk, IsTrue, length, map, slice_index, sum_by};
 ghost use Rattle.std.specs.List.{flat_map, list_all, range_with_len};
-ghost use Rattle.basket_ranks.specs.Codes.{decoded_place};
+ghost use Rattle.basket_ranks.specs.Codes.{decoded_basket};
 ghost use Rattle.basket_sets.specs.Counts.{AllBelow};
 ghost use Rattle.basket_sets.specs.Database.{MOST_WEIGHT};
 ghost use Rattle.basket_sets.specs.Itemset.{IsRising, contains, has};
 ghost use Rattle.mine_baskets.specs.declared.words.TheConstants.{WORD_RANKS};
 ghost use Rattle.mine_baskets.specs.declared.words.Word.{Word as Bits};
-ghost use Rattle.mine_classes.specs.Conditional.{kept_place};
+ghost use Rattle.mine_classes.specs.Conditional.{kept_basket};
 ghost use Rattle.mine_baskets.specs.ListBaskets.{AreRankBaskets, HaveSameWeights};
 ghost use Rattle.mine_pairs.specs.Pairs.{pairs_of};
-ghost use Rattle.mine_baskets.specs.Words.{AreInOrder, has_rank, ranks_in, word_places};
+ghost use Rattle.mine_baskets.specs.Words.{AreInOrder, has_rank, ranks_in, word_baskets};
 ghost use Rattle.mine_conditional.specs.WordPaths.{pair_weight, rank_weight};
 ghost use Rattle.mine_conditional.specs.Paths.{is_branch};
 
@@ -58,8 +58,8 @@ pub fn below(
     requires few { length pairs.now ≤ rank }
     ensures ranks { IfOk result (λ below. below.ranks ≡ length pairs.now) }
     ensures ranked { IfOk result AreRankBaskets }
-    ensures weights { IfOk result (λ below. HaveSameWeights (flat_map (kept_place (has (map (λ pair. pair.0) pairs.now)) rank) baskets.now.baskets)
-        (map (decoded_place (map (λ pair. pair.0) pairs.now)) below.baskets)) }
+    ensures weights { IfOk result (λ below. HaveSameWeights (flat_map (kept_basket (has (map (λ pair. pair.0) pairs.now)) rank) baskets.now.baskets)
+        (map (decoded_basket (map (λ pair. pair.0) pairs.now)) below.baskets)) }
 {
     let count = pairs.len() as u32;
     let words = words_below(alloc, baskets.words(), rank, pairs)?;
@@ -80,7 +80,7 @@ fn are_in_order(words: &[Word]) -> bool
 /// Whether each word has all ranks below its own.
 fn are_fronts(words: &[Word], count: u32) -> bool
     requires { count ≤ WORD_RANKS }
-    ensures { result ≡ is_branch (word_places count words.now) }
+    ensures { result ≡ is_branch (word_baskets count words.now) }
 {
     for word in words {
         if !is_front(word, count) {
@@ -155,8 +155,8 @@ fn words_below(
     ensures some { IfOk result (λ below. All (λ (word : Bits). 1 ≤ word.weight) below.items) }
     ensures light { IfOk result (λ below. sum_by (λ (word : Bits). word.weight) below.items ≤ MOST_WEIGHT) }
     ensures weights { IfOk result (λ below. (count : ℕ) → rank < count
-        → HaveSameWeights (flat_map (kept_place (has (map (λ pair. pair.0) pairs.now)) rank) (word_places count words.now))
-        (map (decoded_place (map (λ pair. pair.0) pairs.now)) (word_places (length (map (λ pair. pair.0) pairs.now)) below.items))) }
+        → HaveSameWeights (flat_map (kept_basket (has (map (λ pair. pair.0) pairs.now)) rank) (word_baskets count words.now))
+        (map (decoded_basket (map (λ pair. pair.0) pairs.now)) (word_baskets (length (map (λ pair. pair.0) pairs.now)) below.items))) }
 {
     let mut below = Vec::with_capacity(alloc, words.len())?;
     for word in words {

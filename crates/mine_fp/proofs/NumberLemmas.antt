@@ -5,7 +5,7 @@ use Rattle.std.specs.List.{range_with_len}
 use Rattle.std.proofs.lemmas.Bool.{cases_order, le-leb, leb-true, lt-ltb}
 use Rattle.std.proofs.lemmas.List.{length-map, map-append}
 use Rattle.std.proofs.lemmas.List.Elements.{recursion_from_All}
-use Rattle.basket_ranks.specs.Codes.{Coding, IsCodedPlace, IsCoding}
+use Rattle.basket_ranks.specs.Codes.{Coding, IsCodedBasket, IsCoding}
 use Rattle.basket_sets.specs.declared.weighted.Weighted.{Weighted}
 use Rattle.basket_sets.specs.declared.minimum.Minimum.TheVariants.{Count}
 use Rattle.basket_sets.specs.Counts.{AllBelow}
@@ -41,7 +41,7 @@ ranks_rise ranks (k ∷ numbers) up over within =
 
 coding_plain : (coding : Coding) → IsCoding coding → ArePlain coding.baskets
 coding_plain coding is place m = (
-  (at_Member (IsCodedPlace coding.items) place coding.baskets (recursion_from_All (IsCodedPlace coding.items) coding.baskets is.places) m).0,
+  (at_Member (IsCodedBasket coding.items) place coding.baskets (recursion_from_All (IsCodedBasket coding.items) coding.baskets is.places) m).0,
   at_Member HasWeight place coding.baskets (recursion_from_All HasWeight coding.baskets is.weights) m,
 )
 

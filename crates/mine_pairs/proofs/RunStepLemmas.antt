@@ -82,11 +82,8 @@ pushed_repeats [] index = (bytes_decides index.basket index.basket).1 refl
 pushed_repeats (first ∷ []) index = (bytes_decides index.basket index.basket).1 refl
 pushed_repeats (first ∷ second ∷ places) index = pushed_repeats (second ∷ places) index
 
-heavier_place : (rank : ℕ) (index : Weighted) (weight : ℕ) → IsRankBasket rank index → IsRankBasket rank (weighted index.basket (index.weight + weight))
-heavier_place rank index weight is = record { rises = is.rises; below = is.below; weighs = (let some = is.weighs in omega arith) }
-
-abbrev weigh : (List ℕ → Bool) → Weighted → ℕ
-weigh test index = cond (test index.basket) index.weight 0
+heavier_basket : (rank : ℕ) (index : Weighted) (weight : ℕ) → IsRankBasket rank index → IsRankBasket rank (weighted index.basket (index.weight + weight))
+heavier_basket rank index weight is = record { rises = is.rises; below = is.below; weighs = (let some = is.weighs in omega arith) }
 
 -- the runs of a rank after a basket that has it at a depth
 module _ (ranks : List ℕ) (rank : ℕ) (done : List Weighted) (index : Weighted) (run : Span) (runs : List Span) (here : has index.basket rank ≡ true) (is : IsRankBasket rank (basket_at ranks run))
@@ -99,7 +96,7 @@ module _ (ranks : List ℕ) (rank : ℕ) (done : List Weighted) (index : Weighte
     within = All-from_recursion (IsWithin (length ranks)) (runs ++ run ∷ []) (pushed_within (length ranks) runs run (recursion_from_All (IsWithin (length ranks)) runs are.within) inside);
     places = subst (All (IsRankBasket rank)) (sym (map-append (basket_at ranks) runs (run ∷ [])))
         (All-from_recursion (IsRankBasket rank) (baskets_at ranks runs ++ basket_at ranks run ∷ [])
-        (pushed_all (IsRankBasket rank) (heavier_place rank) (baskets_at ranks runs) (basket_at ranks run) (recursion_from_All (IsRankBasket rank) (baskets_at ranks runs) are.places) is));
+        (pushed_all (IsRankBasket rank) (heavier_basket rank) (baskets_at ranks runs) (basket_at ranks run) (recursion_from_All (IsRankBasket rank) (baskets_at ranks runs) are.places) is));
     weights = λ test. grind (arith, common_steps);
   }
 
@@ -108,6 +105,6 @@ module _ (ranks : List ℕ) (rank : ℕ) (done : List Weighted) (index : Weighte
     within = All-from_recursion (IsWithin (length ranks)) (with_last_heavier run.weight runs) (heavier_within (length ranks) run.weight runs (recursion_from_All (IsWithin (length ranks)) runs are.within));
     places = subst (All (IsRankBasket rank)) (sym (heavier_baskets ranks run.weight runs))
         (All-from_recursion (IsRankBasket rank) (with_last_raised run.weight (baskets_at ranks runs))
-        (raised_all (IsRankBasket rank) (heavier_place rank) run.weight (baskets_at ranks runs) (recursion_from_All (IsRankBasket rank) (baskets_at ranks runs) are.places)));
+        (raised_all (IsRankBasket rank) (heavier_basket rank) run.weight (baskets_at ranks runs) (recursion_from_All (IsRankBasket rank) (baskets_at ranks runs) are.places)));
     weights = λ test. grind (arith, common_steps, more_weight, heavier_baskets, raised_weight);
   }

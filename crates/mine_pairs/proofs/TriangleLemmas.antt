@@ -1,5 +1,5 @@
 -- Counts of pairs, one basket after another.
-use Rattle.std.proofs.Common.{◌≡◌, ◌≢◌, ℕ, ◌+◌, ◌<◌, ◌≤◌, Bool, true, ◌&&◌, ◌||◌, List, [], ◌∷◌, length, map, take, get_or, set, cond, refl, sym, ap, ◌∙◌, ltb, subst, inl, inr, arith, add-zero}
+use Rattle.std.proofs.Common.{◌≡◌, ◌≢◌, ℕ, ◌+◌, ◌<◌, ◌≤◌, Bool, true, ◌&&◌, ◌||◌, List, [], ◌∷◌, length, map, take, get_or, set, refl, sym, ap, ◌∙◌, ltb, subst, inl, inr, arith, add-zero}
 use Rattle.std.proofs.lemmas.Grind.{common_steps}
 use Rattle.std.proofs.Math.Bool.{or-true}
 use Rattle.std.proofs.lemmas.Bool.{cases_eq, eq-eqb, lt-ltb, ltb-true}
@@ -43,9 +43,6 @@ module _ (ranks : List ℕ) (index : ℕ) (up : IsRising ranks) (here : index < 
       let m = subst (Member lesser) (sym (front_is ranks index up here)) (Member-from_has (take index ranks) lesser h) in
       ltb-true lesser rank (Member-filter (λ other. ltb other rank) lesser ranks m).1
 
-  pub other_front : (greater : ℕ) → greater ≢ rank → has (take index ranks) greater ≡ has (take (index + 1) ranks) greater
-  other_front greater differ = grind (arith, common_steps)
-
 -- ---- the rows, one rank of a basket after another
 
 module _ (first weight : ℕ) (ranks : List ℕ) (old now : List (List ℕ)) where
@@ -83,9 +80,6 @@ none_added first weight ranks rows = record { long = λ k below. refl; added = �
 
 pub zeros_count : (first count : ℕ) → HaveCounts [] first (map zeros (range_with_len first count))
 zeros_count first count = grind (arith, common_steps, length-replicate, get_or-replicate, get_or-map-range_with_len, length-map-range_with_len)
-
-both : (a b : Bool) (ranks : List ℕ) (lesser : ℕ) → has ranks lesser ≡ b → has (cond a ranks []) lesser ≡ (b && (a && true))
-both h1 h2 h3 h4 h5 = grind (arith, common_steps)
 
 module _ (baskets : List Weighted) (i : ℕ) (d : Weighted) (first : ℕ) (now : List (List ℕ)) (here : i < length baskets) (have : HaveCounts (take i baskets) first now) where
   pub counts_light : total_of baskets ≤ MOST_WEIGHT → (k lesser : ℕ) → k < length now → lesser < first + k → get_or (row_at now k) lesser 0 + (get_or baskets i d).weight ≤ MOST_WEIGHT

@@ -5,14 +5,14 @@ use Rattle.std.specs.declared.vec.Vec.{Vec}
 use Rattle.std.specs.declared.alloc.Global.{Global}
 use Rattle.basket_sets.specs.declared.weighted.Weighted.{Weighted}
 use Rattle.mine_baskets.specs.declared.span.Span.{Span}
-use Rattle.mine_classes.specs.Conditional.{kept_place}
+use Rattle.mine_classes.specs.Conditional.{kept_basket}
 use Rattle.mine_baskets.specs.ListBaskets.{HaveSameWeights, IsRankBasket}
 use Rattle.mine_pairs.specs.Pairs.{pairs_of}
 use Rattle.mine_baskets.specs.Span.{IsWithin, baskets_at, span_front}
 
 -- the baskets that have a rank, kept to the ranks below it
 abbrev pub below : ℕ → List Weighted → List Weighted
-below rank baskets = flat_map (kept_place (λ other. nat_lt other rank) rank) baskets
+below rank baskets = flat_map (kept_basket (λ other. nat_lt other rank) rank) baskets
 
 -- runs with more weight at the last
 abbrev pub with_last_heavier : ℕ → List Span → List Span

@@ -1,26 +1,18 @@
 -- Covers: what they share, what they lack, and what they weigh.
-use Rattle.std.proofs.Common.{◌≡◌, ℕ, ◌+◌, ◌<◌, ◌≤◌, Bool, true, false, not, List, [], ◌∷◌, ◌++◌, take, length, get_or, cond, sum, refl, sym, ap, ◌∙◌, inl, inr, arith}
+use Rattle.std.proofs.Common.{◌≡◌, ℕ, ◌+◌, ◌<◌, ◌≤◌, Bool, true, false, not, List, [], ◌∷◌, ◌++◌, length, get_or, sum, refl, sym, ap, ◌∙◌, inl, inr, arith}
 use Rattle.std.proofs.lemmas.Grind.{common_steps}
 use Rattle.std.specs.List.{filter, range_with_len, sum_by}
-use Rattle.std.proofs.lemmas.List.Elements.{filter_more}
-use Rattle.std.proofs.lemmas.List.{append-nil, get_or_default}
+use Rattle.std.proofs.lemmas.List.{get_or_default}
 use Rattle.std.proofs.lemmas.List.Filters.{sum_by-filter_both}
 use Rattle.std.proofs.lemmas.List.FromFn.{fill_by_all}
 use Rattle.std.proofs.lemmas.Bool.{cases_Bool, cases_eq, cases_lt, false_from_ne_true, true≢false}
 use Rattle.std.proofs.lemmas.List.Sums.{sum-map}
 use Rattle.basket_sets.specs.Itemset.{AllBelow, IsRising, contains, has}
 use Rattle.basket_sets.proofs.theory.Members.{Contains-from_Member, Member, Member-filter, Member-from_filter}
-use Rattle.basket_sets.proofs.theory.Rising.{Member-from_has, has-from_Member, same_rising, contains_each, has_each, has_place}
+use Rattle.basket_sets.proofs.theory.Rising.{Member-from_has, has-from_Member, same_rising, contains_each, has_each, has_at}
 use Rattle.basket_sets.proofs.theory.Tests.{rising_at}
 use Rattle.basket_sets.proofs.theory.Ranges.{Member-into_range, Member-range, filter_rises, range_drops, range_keeps, range_rises}
 use Rattle.mine_rows.specs.Cover.{IsCover, all_tids, common, cover_weight, lacking}
-
--- a filter that goes on
-pub filter_keeps : (p : ℕ → Bool) (xs : List ℕ) (i : ℕ) → i < length xs → p (get_or xs i 0) ≡ true → filter p (take (i + 1) xs) ≡ filter p (take i xs) ++ get_or xs i 0 ∷ []
-filter_keeps p xs i here h = filter_more p xs i 0 here ∙ ap (λ b. filter p (take i xs) ++ cond b (get_or xs i 0 ∷ []) []) h
-
-pub filter_drops : (p : ℕ → Bool) (xs : List ℕ) (i : ℕ) → i < length xs → p (get_or xs i 0) ≡ false → filter p (take (i + 1) xs) ≡ filter p (take i xs)
-filter_drops p xs i here h = filter_more p xs i 0 here ∙ ap (λ b. filter p (take i xs) ++ cond b (get_or xs i 0 ∷ []) []) h ∙ append-nil (filter p (take i xs))
 
 -- ---- weights
 
@@ -91,7 +83,7 @@ all_cover weights = record {
 }
 
 pub cover_at : (weights cover : List ℕ) (i : ℕ) → AllBelow (length weights) cover → i < length cover → get_or cover i 0 < length weights
-cover_at weights cover i below here = below (get_or cover i 0) (has_place cover i here)
+cover_at weights cover i below here = below (get_or cover i 0) (has_at cover i here)
 
 -- ---- a rising cover beside the tids below a number
 
@@ -102,7 +94,7 @@ pub record IsReached (cover : List ℕ) (tid at : ℕ) : Type 0 where
   pub after : (i : ℕ) → at ≤ i → i < length cover → tid ≤ get_or cover i 0
 
 pub has_reached : (cover : List ℕ) (tid at : ℕ) → at < length cover → get_or cover at 0 ≡ tid → has cover tid ≡ true
-has_reached cover tid at here e = ap (has cover) (sym e) ∙ has_place cover at here
+has_reached cover tid at here e = ap (has cover) (sym e) ∙ has_at cover at here
 
 module _ (cover : List ℕ) (up : IsRising cover) (tid at : ℕ) (is : IsReached cover tid at) where
   -- the tid stands in the cover

@@ -9,7 +9,7 @@ use Rattle.std.specs.List.{filter, list_any, range_with_len, sum_by}
 use Rattle.std.proofs.lemmas.Bool.{and_parts, eqb-true, false_from_ne_true, lt-ltb, true≢false}
 use Rattle.std.proofs.lemmas.Bool.Decides.{nat_tests}
 use Rattle.std.proofs.lemmas.List.Folds.{list_any_at}
-use Rattle.std.proofs.lemmas.Nat.{div_below, mod-pow-add, or_mod, or_shr, shr_le}
+use Rattle.std.proofs.lemmas.Nat.{div_below, mod-pow-add, or_mod, or_shr}
 use Rattle.std.proofs.lemmas.Grind.{div_ceil_times}
 use Rattle.mine_rows.specs.Weights.{KeepsWeights}
 use Rattle.mine_rows.specs.Bits.{MOST_WORDS, shared_bits, word_count, words_from, words_of}
@@ -88,9 +88,6 @@ tid_apart test i t differ = grind (arith, common_steps)
 
 pub tid_out : (test : ℕ → Bool) (i : ℕ) → test i ≡ false → (t : ℕ) → (ltb t (i + 1) && test t) ≡ (ltb t i && test t)
 tid_out test i h t = grind (arith, common_steps)
-
-zero_has : (bit : ℕ) → has_bit bit 0 ≡ false
-zero_has bit = let le = shr_le 0 bit in let e : 0 / 2 ^ bit ≡ 0 = omega arith in ap (λ n. eqb (n % 2) 1) e
 
 pub plane_end : (weights : List ℕ) (bit n t : ℕ) → length weights ≤ n → (ltb t n && has_bit bit (get_or weights t 0)) ≡ has_bit bit (get_or weights t 0)
 plane_end weights bit n t most = grind (arith, common_steps)

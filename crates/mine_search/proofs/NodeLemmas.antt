@@ -15,7 +15,7 @@ use Rattle.basket_sets.specs.declared.counted.Counted.{Counted}
 use Rattle.basket_lists.specs.CountedSets.{set_at}
 use Rattle.basket_lists.proofs.theory.Places.{set_added, set_kept}
 use Rattle.basket_sets.specs.Itemset.{with_item}
-use Rattle.basket_sets.proofs.theory.Rising.{Member-from_has, has_place}
+use Rattle.basket_sets.proofs.theory.Rising.{Member-from_has, has_at}
 use Rattle.mine_search.specs.Node.{Node, child, is_met, kept, sets_at}
 use Rattle.mine_search.specs.Search.{Adds, AreTooMany, FindsAll, GoesOn, IsDone, IsNode, IsOf, Reached, TellsAtMost, found_at}
 use Rattle.mine_search.specs.Walk.{kept_below}
@@ -31,10 +31,6 @@ pub fails : {P A : Type 0} (gives : P → Node → Type 0) (base : P) (set : Lis
     → ((node : Node) → IsOf gives base set node → ((limit : ℕ) → fault ≡ TooMany limit → AreTooMany limit before after node) × TellsAtMost before after node)
     → after.limit ≡ before.limit → IsDone gives base set before after result
 fails gives base set before after result fault is at limit = grind (arith, common_steps)
-
--- sets that were found one after another
-pub adds_both : {first second : List Counted} {one two : ℕ} {before mid after : Reached} → Adds first one before mid → Adds second two mid after → Adds (first ++ second) (one + two) before after
-adds_both {first} {second} {one} {two} {before} {mid} {after} p q = grind (arith, common_steps)
 
 module _ (node : Node) where
   abbrev test : List ℕ → Bool
@@ -82,7 +78,7 @@ module _ {set : List ℕ} {node : Node} {i rank : ℕ} (turn : IsTurn set node i
   inside = turn.here
 
   pub lower : rank < node.below
-  lower = subst (λ n. n < node.below) (sym rank_is) (kept_lower passes node.below node.set (get_or (kept node) i 0) (Member-from_has (kept node) (get_or (kept node) i 0) (has_place (kept node) i inside)))
+  lower = subst (λ n. n < node.below) (sym rank_is) (kept_lower passes node.below node.set (get_or (kept node) i 0) (Member-from_has (kept node) (get_or (kept node) i 0) (has_at (kept node) i inside)))
 
   -- what it adds is not beyond what is below the node
   pub turn_within : (before now : Reached) → FindsPart node i before now

@@ -9,7 +9,7 @@ use Rattle.basket_lists.specs.CountedSets.{set_at}
 use Rattle.basket_lists.proofs.theory.Places.{set_kept}
 use Rattle.basket_sets.specs.Itemset.{with_item}
 use Rattle.basket_sets.proofs.theory.Members.{Member}
-use Rattle.basket_sets.proofs.theory.Rising.{Member-from_has, has_place, nil_rises}
+use Rattle.basket_sets.proofs.theory.Rising.{Member-from_has, has_at, nil_rises}
 use Rattle.mine_search.specs.Node.{Node, child, is_met, kept, sets_at}
 use Rattle.mine_search.specs.Search.{FindsAll, GoesOn, Reached, found_at}
 use Rattle.mine_search.specs.Straight.{IsStraight, between, chosen}
@@ -48,7 +48,7 @@ module _ {set : List ℕ} {node : Node} {i rank : ℕ} (turn : IsTurn set node i
   stand = grind (arith, common_steps, found_by, kept_before, sets_are_branches)
 
   kept_rank : test (rank ∷ node.set) ≡ true
-  kept_rank = kept_passes test node.below node.set rank (subst (λ r. Member r (kept node)) (sym turn.rank_is) (Member-from_has (kept node) (get_or (kept node) i 0) (has_place (kept node) i turn.here)))
+  kept_rank = kept_passes test node.below node.set rank (subst (λ r. Member r (kept node)) (sym turn.rank_is) (Member-from_has (kept node) (get_or (kept node) i 0) (has_at (kept node) i turn.here)))
 
   below_are : map (found_at node.over) (sets_at (child node rank)) ≡ map (choose straight turn.is.falls rank (lower turn) kept_rank) (found_by node (take i (kept node)))
   below_are =

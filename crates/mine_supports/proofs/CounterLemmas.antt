@@ -90,9 +90,6 @@ module _ (groups : List Group) (number start : ℕ) (d : Group) (below : number 
       → AreAdded (sets_of (take (number + 1) groups)) baskets 0 old new
   group_added baskets old counts new before now = grind (arith, common_steps, sets_next, more_added)
 
-pub some_list : (l : List (List ℕ)) → (l ≡ [] → ⊥) → 1 ≤ length l
-some_list h1 h2 = grind (arith, common_steps)
-
 -- counts that begin with 0
 pub counts_are_supports : (sets : List (List ℕ)) (baskets : List Weighted) (old new : List ℕ) → old ≡ replicate (length sets) 0 → length new ≡ length old → WithSupports sets baskets old new
     → new ≡ map (support_of baskets) sets

@@ -21,9 +21,6 @@ use Rattle.mine_supports.specs.UsedItems.{AreUsed}
 
 -- ---- sets of at least so many items
 
-fewer : (most least : ℕ) → least ≤ most → (set : List ℕ) → IsAtLeast most set → IsAtLeast least set
-fewer most least le set is = grind (arith, common_steps)
-
 -- the sets of one more prefix
 pub at_least_more : (groups : List Group) (i : ℕ) (d : Group) (most least more : ℕ) → i < length groups → least ≤ most → least ≤ more → AreAtLeast most (sets_of (take i groups))
     → AreAtLeast more (extend (get_or groups i d).prefix (get_or groups i d).items) → AreAtLeast least (sets_of (take (i + 1) groups))

@@ -1,12 +1,12 @@
 -- Rows of bits, one after another, whose bits are set one by one.
-use Rattle.std.proofs.Common.{◌≡◌, ℕ, zero, suc, ◌+◌, ◌*◌, ◌/◌, ◌%◌, ◌<◌, ◌≤◌, ◌^◌, Bool, false, ◌&&◌, ◌||◌, List, [], ◌∷◌, ◌++◌, length, take, drop, get_or, map, eqb, refl, sym, ap, ◌∙◌, inl, inr, arith, w64}
+use Rattle.std.proofs.Common.{◌≡◌, ℕ, zero, suc, ◌+◌, ◌*◌, ◌/◌, ◌%◌, ◌<◌, ◌≤◌, ◌^◌, false, ◌&&◌, ◌||◌, List, [], ◌∷◌, ◌++◌, length, take, drop, get_or, eqb, sym, ap, ◌∙◌, inl, inr, arith, w64}
 use Rattle.std.proofs.lemmas.Grind.{common_steps}
 use Rattle.std.specs.Prelude.{bit_or}
 use Rattle.std.specs.Int.{bit_at}
 use Rattle.std.proofs.Math.ListN.{set}
 use Rattle.std.proofs.lemmas.Bool.{and_parts, cases_eq, eqb-true, false_from_ne_true}
 use Rattle.std.proofs.lemmas.Bool.Decides.{nat_tests}
-use Rattle.std.proofs.lemmas.List.{get_or-set_other, get_or_past, length-map, length_push}
+use Rattle.std.proofs.lemmas.List.{get_or-set_other, length_push}
 use Rattle.std.proofs.lemmas.Grind.{get_or-set_at}
 use Rattle.std.proofs.lemmas.Nat.{div-mul-add}
 use Rattle.std.proofs.lemmas.Nat.Bits.{bit_at_set_other, bit_at_set_same}
@@ -23,9 +23,6 @@ use Rattle.mine_supports.proofs.theory.UsedItems.{has_number}
 abbrev pub AreMarkedAt : ℕ → ℕ → List ℕ → List ℕ → List ℕ → Type 0
 AreMarkedAt words tid numbers old new = (number other : ℕ) → other < words * 64
     → bit_in new words number other ≡ (bit_in old words number other || (eqb other tid && has numbers number))
-
-or_grow : (a b c d : Bool) → ((a || (b && c)) || (b && d)) ≡ (a || (b && (c || d)))
-or_grow a b c d = grind arith
 
 -- the bits of rows once that of a tid is set in the row of a number
 abbrev pub IsSetAt : ℕ → ℕ → ℕ → List ℕ → List ℕ → Type 0
@@ -68,15 +65,6 @@ set_bit words tid k at v bits long low stands value number other inside =
     ]
 
 -- ---- the rows of some baskets
-
-past_basket : (baskets : List Weighted) (tid : ℕ) → length baskets ≤ tid → basket_at baskets tid ≡ []
-past_basket baskets tid past = get_or_past (map (λ (b : Weighted). b.basket) baskets) tid [] (omega (arith, length-map baskets (λ (b : Weighted). b.basket)))
-
-set_more : (sets : List (List ℕ)) (set : List ℕ) (tid u : ℕ) → (has (get_or sets tid []) u || (eqb tid (length sets) && has set u)) ≡ has (get_or (sets ++ set ∷ []) tid []) u
-set_more [] set zero u = refl
-set_more [] set (suc tid) u = grind (arith, nat_tests)
-set_more (first ∷ sets) set zero u = grind (arith, nat_tests)
-set_more (first ∷ sets) set (suc tid) u = let rest = set_more sets set tid u in grind (arith, nat_tests)
 
 -- a basket more
 basket_more : (baskets : List Weighted) (basket : Weighted) (tid u : ℕ)

@@ -10,7 +10,7 @@ use Rattle.basket_sets.specs.Itemset.{IsRising, has}
 use Rattle.basket_sets.specs.Support.{support_of}
 use Rattle.basket_sets.proofs.theory.Members.{Member, Member-filter}
 use Rattle.basket_sets.proofs.theory.Ranges.{Member-range, filter_members, filter_rises, range_rises}
-use Rattle.basket_sets.proofs.theory.Rising.{Member-from_has, has-from_Member, has_place}
+use Rattle.basket_sets.proofs.theory.Rising.{Member-from_has, has-from_Member, has_at}
 use Rattle.basket_sets.proofs.theory.Tests.{all_below_at}
 use Rattle.mine_conditional.proofs.theory.Numbers.{named_among, named_twice}
 use Rattle.mine_vertical.proofs.NumberLemmas.{Member-take, filter-map, named_range, take_rises}
@@ -114,7 +114,7 @@ module _ {R : Type 0} {stands : List ℕ → List ℕ → List ℕ → R → Typ
 
   pub lower : rank < node.below
   lower = let named_at : rank ≡ get_or (kept node) at 0 = ap (λ l. get_or l at 0) is.ranks in
-      subst (λ n. n < node.below) (sym named_at) (kept_lower test node.below node.set (get_or (kept node) at 0) (Member-from_has (kept node) (get_or (kept node) at 0) (has_place (kept node) at here)))
+      subst (λ n. n < node.below) (sym named_at) (kept_lower test node.below node.set (get_or (kept node) at 0) (Member-from_has (kept node) (get_or (kept node) at 0) (has_at (kept node) at here)))
 
   before : take at (ranks_in base) ≡ kept_below test rank node.set
   before = ap (take at) is.ranks ∙ kept_before test node.below node.set at here ∙ ap (λ l. kept_below test (get_or l at 0) node.set) (sym is.ranks)

@@ -4,7 +4,7 @@ use Rattle.std.proofs.lemmas.Grind.{common_steps}
 use Rattle.std.specs.List.{filter, range_with_len, sum_by}
 use Rattle.std.proofs.lemmas.Bool.{cases_Bool, true≢false}
 use Rattle.std.proofs.lemmas.List.{append-nil}
-use Rattle.std.proofs.lemmas.List.Elements.{All-from_recursion, filter-append}
+use Rattle.std.proofs.lemmas.List.Elements.{All-from_recursion}
 use Rattle.std.proofs.lemmas.List.Sums.{sum_by-append, sum_by-cons}
 use Rattle.basket_ranks.specs.Codes.{Coding}
 use Rattle.basket_sets.specs.declared.weighted.Weighted.{Weighted}
@@ -27,12 +27,6 @@ many p sets = length (filter p sets)
 
 abbrev one_if : Bool → ℕ
 one_if b = cond b 1 0
-
-many-append : (p : List ℕ → Bool) (xs ys : List (List ℕ)) → many p (xs ++ ys) ≡ many p xs + many p ys
-many-append p xs ys = ap length (filter-append p xs ys) ∙ length-append (filter p xs) (filter p ys)
-
-many-cons : (p : List ℕ → Bool) (x : List ℕ) (xs : List (List ℕ)) → many p (x ∷ xs) ≡ one_if (p x) + many p xs
-many-cons p x xs = grind (arith, common_steps)
 
 -- the joins of a set's least rank with the lower ranks with which the others are frequent
 abbrev pub set_joins : (List ℕ → Bool) → List ℕ → ℕ

@@ -3,7 +3,7 @@ use Rattle.std.proofs.Common.{◌≡◌, ℕ, ◌+◌, ◌<◌, ◌≤◌, true,
 use Rattle.std.specs.Prelude.{All}
 use Rattle.std.proofs.lemmas.List.{get_or-map, length-map}
 use Rattle.std.proofs.lemmas.List.Elements.{All-from_recursion, All-map}
-use Rattle.basket_ranks.specs.Codes.{coded, coded_place}
+use Rattle.basket_ranks.specs.Codes.{coded, coded_basket}
 use Rattle.basket_ranks.proofs.theory.Coding.{from_ranks, into_ranks}
 use Rattle.basket_sets.specs.declared.weighted.Weighted.{Weighted}
 use Rattle.basket_sets.specs.Counts.{AllBelow}
@@ -56,7 +56,7 @@ coded_contains kept basket (k ∷ indexes) low =
         has-from_Member (coded kept basket) k (subst (λ n. Member n (coded kept basket)) same (into_ranks 0 kept basket k (low k (has-from_Member (k ∷ indexes) k (inl refl))) h))
 
 -- so they have the supports of these numbers
-coded_support : (kept : List ℕ) (baskets others : List Weighted) (indexes : List ℕ) → AllBelow (length kept) indexes → HaveSameWeights (map (coded_place kept) baskets) others
+coded_support : (kept : List ℕ) (baskets others : List Weighted) (indexes : List ℕ) → AllBelow (length kept) indexes → HaveSameWeights (map (coded_basket kept) baskets) others
     → support_of others indexes ≡ support_of baskets (named kept indexes)
 coded_support kept baskets others indexes low same =
     sym (same (λ basket. contains basket indexes)) ∙ changed_weight (λ basket. contains basket indexes) (coded kept) baskets
@@ -93,10 +93,10 @@ module _ (local : LocalBaskets) (set : List ℕ) (chosen : List Span) (are : cho
   })
 
   pub narrowed_is : (kept : List ℕ) (inner : LocalBaskets) → inner.ranks.items ≡ named local.ranks.items kept
-      → HaveSameWeights (map (coded_place kept) (baskets_at local.numbers.items chosen)) (baskets_in inner) → IsNarrowed local set kept inner
+      → HaveSameWeights (map (coded_basket kept) (baskets_at local.numbers.items chosen)) (baskets_in inner) → IsNarrowed local set kept inner
   narrowed_is kept inner ranks same = record {
     ranks = ranks;
     supports = λ indexes low.
-        coded_support kept (covered baskets set) (baskets_in inner) indexes low (subst (λ l. HaveSameWeights (map (coded_place kept) l) (baskets_in inner)) chosen_are same)
+        coded_support kept (covered baskets set) (baskets_in inner) indexes low (subst (λ l. HaveSameWeights (map (coded_basket kept) l) (baskets_in inner)) chosen_are same)
         ∙ supports_of baskets set (named kept indexes);
   }

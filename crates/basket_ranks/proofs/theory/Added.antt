@@ -82,9 +82,6 @@ rises_between (w ∷ xs) x y ys zs less up over = cons_rises w (xs ++ x ∷ y �
 swapped : (p q r : Bool) → (q || (p || r)) ≡ (p || (q || r))
 swapped p q r = grind arith
 
-shared : (p q r : Bool) → (p || (q || r)) ≡ ((p || q) || (p || r))
-shared p q r = grind arith
-
 module _ (counts ours theirs a b rest others : List (ℕ × ℕ)) (first other : ℕ × ℕ) (our : ours ≡ first ∷ rest) (their : theirs ≡ other ∷ others) (leaves : Leaves counts ours theirs a b) where
   before : Leaves counts (first ∷ rest) (other ∷ others) a b
   before = subst (λ l. Leaves counts l (other ∷ others) a b) our (subst (λ l. Leaves counts ours l a b) their leaves)

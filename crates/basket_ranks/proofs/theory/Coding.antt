@@ -7,7 +7,7 @@ use Rattle.std.proofs.lemmas.List.Elements.{All-weaker}
 use Rattle.std.proofs.lemmas.List.Folds.{fold-map}
 use Rattle.basket_sets.specs.declared.weighted.Weighted.{Weighted}
 use Rattle.basket_sets.specs.declared.minimum.Minimum.{Minimum}
-use Rattle.basket_ranks.specs.Codes.{ranked, ranks_from, coded, decoded, coded_place, decoded_place, ranks_of, coding_of, IsCodedPlace, baskets_of, CodingKeepsFrequent, merged_coding, MergingKeepsCoded}
+use Rattle.basket_ranks.specs.Codes.{ranked, ranks_from, coded, decoded, coded_basket, decoded_basket, ranks_of, coding_of, IsCodedBasket, baskets_of, CodingKeepsFrequent, merged_coding, MergingKeepsCoded}
 use Rattle.basket_sets.specs.Counts.{item_supports}
 use Rattle.basket_sets.specs.Database.{merged_of}
 use Rattle.basket_sets.specs.Frequent.{is_frequent, frequent_of, ListsFrequent}
@@ -52,21 +52,21 @@ ranks_rise number (x ∷ items) basket =
     cond_both (has basket x) (number ∷ later) later IsRising (λ e. cons_rises number later (λ y m. let r = from_ranks (number + 1) items basket y m in omega (arith, r.2)) rest) (λ e. rest)
 
 -- a place of a coding
-pub coded_place_is : (items : List ℕ) (place : Weighted) → IsCodedPlace items (coded_place items place)
-coded_place_is items place = (
+pub coded_basket_is : (items : List ℕ) (place : Weighted) → IsCodedBasket items (coded_basket items place)
+coded_basket_is items place = (
   ranks_rise 0 items place.basket,
   λ rank h. let r = from_ranks 0 items place.basket rank (Member-from_has (coded items place.basket) rank h) in omega (arith, r.1, r.2),
 )
 
 -- coding keeps the total weight
-pub coded_total : (items : List ℕ) (baskets : List Weighted) → total_of (map (coded_place items) baskets) ≡ total_of baskets
-coded_total items baskets = fold-map (λ n place. n + weight_at [] place) (coded_place items) 0 baskets
+pub coded_total : (items : List ℕ) (baskets : List Weighted) → total_of (map (coded_basket items) baskets) ≡ total_of baskets
+coded_total items baskets = fold-map (λ n place. n + weight_at [] place) (coded_basket items) 0 baskets
 
 -- a rank has the support of its item
 pub coded_support : (items : List ℕ) (baskets : List Weighted) (rank : ℕ) → rank < length items
-    → support_of (map (coded_place items) baskets) (rank ∷ []) ≡ support_of baskets (get_or items rank 0 ∷ [])
+    → support_of (map (coded_basket items) baskets) (rank ∷ []) ≡ support_of baskets (get_or items rank 0 ∷ [])
 coded_support items baskets rank below =
-    fold-map (λ n place. n + weight_at (rank ∷ []) place) (coded_place items) 0 baskets ∙ (λ i. sum_by (λ place. cond (same_test _ _ (there place) (back place) i) place.weight 0) baskets)
+    fold-map (λ n place. n + weight_at (rank ∷ []) place) (coded_basket items) 0 baskets ∙ (λ i. sum_by (λ place. cond (same_test _ _ (there place) (back place) i) place.weight 0) baskets)
   where
     there : (place : Weighted) → contains (coded items place.basket) (rank ∷ []) ≡ true → contains place.basket (get_or items rank 0 ∷ []) ≡ true
     there place h =
@@ -122,13 +122,13 @@ kept_contains items basket set ranked = same_test _ _
 
 -- the support of a set over the baskets as items, told over the baskets of ranks
 decoded_support : (items : List ℕ) (baskets : List Weighted) (set : List ℕ)
-    → support_of (map (decoded_place items) baskets) set ≡ sum_by (λ place. cond (contains (decoded items place.basket) set) place.weight 0) baskets
-decoded_support items baskets set = fold-map (λ n place. n + weight_at set place) (decoded_place items) 0 baskets
+    → support_of (map (decoded_basket items) baskets) set ≡ sum_by (λ place. cond (contains (decoded items place.basket) set) place.weight 0) baskets
+decoded_support items baskets set = fold-map (λ n place. n + weight_at set place) (decoded_basket items) 0 baskets
 
 kept_support : (items : List ℕ) (baskets : List Weighted) (set : List ℕ) → ((item : ℕ) → Member item set → Member item items)
-    → support_of (map (decoded_place items) (map (coded_place items) baskets)) set ≡ support_of baskets set
+    → support_of (map (decoded_basket items) (map (coded_basket items) baskets)) set ≡ support_of baskets set
 kept_support items baskets set ranked =
-    decoded_support items (map (coded_place items) baskets) set ∙ fold-map (λ n place. n + weight_at set (decoded_place items place)) (coded_place items) 0 baskets
+    decoded_support items (map (coded_basket items) baskets) set ∙ fold-map (λ n place. n + weight_at set (decoded_basket items place)) (coded_basket items) 0 baskets
     ∙ (λ i. sum_by (λ place. cond (kept_contains items place.basket set ranked i) place.weight 0) baskets)
 
 -- a frequent item has a rank
@@ -167,9 +167,9 @@ module _ (baskets : List Weighted) (minimum : Minimum) where
   kept_items set h item m =
       let ranked = ranks_of baskets minimum in
       let from = Member-flat_map (λ (place : Weighted). place.basket) item kept (in_items kept set (at_least_one minimum (support_of kept set) (total_of kept) h) item m) in
-      let coded = Member-from_map (decoded_place ranked) from.0 (map (coded_place ranked) baskets) from.1 in
-      let place = Member-from_map (coded_place ranked) coded.0 baskets coded.1 in
-      (kept_from ranked place.0.basket item (subst (λ (w : Weighted). Member item w.basket) (sym (ap (decoded_place ranked) place.2 ∙ coded.2)) from.2)).1
+      let coded = Member-from_map (decoded_basket ranked) from.0 (map (coded_basket ranked) baskets) from.1 in
+      let place = Member-from_map (coded_basket ranked) coded.0 baskets coded.1 in
+      (kept_from ranked place.0.basket item (subst (λ (w : Weighted). Member item w.basket) (sym (ap (decoded_basket ranked) place.2 ∙ coded.2)) from.2)).1
 
   frequent_kept : (set : List ℕ) → is_frequent baskets minimum set ≡ true → is_frequent kept minimum set ≡ true
   frequent_kept set h = grind (arith, common_steps, kept_support, has_ranks, kept_total)

@@ -11,7 +11,7 @@ use Rattle.std.proofs.lemmas.List.Sums.{sum_by-cons}
 use Rattle.std.proofs.lemmas.Map.Keys.{apart_from_distinct}
 use Rattle.basket_sets.specs.declared.weighted.Weighted.{Weighted}
 use Rattle.basket_sets.specs.declared.counted.Counted.{Counted}
-use Rattle.basket_ranks.specs.Codes.{frequent_of_coding, coded, decoded, decoded_place, decoded_set, Coding, IsCoding, IsCodedPlace, baskets_of, DecodingKeepsFrequent}
+use Rattle.basket_ranks.specs.Codes.{frequent_of_coding, coded, decoded, decoded_basket, decoded_set, Coding, IsCoding, IsCodedBasket, baskets_of, DecodingKeepsFrequent}
 use Rattle.basket_sets.specs.Counts.{AllBelow}
 use Rattle.basket_sets.specs.Frequent.{frequent_of, is_frequent, counted}
 use Rattle.basket_sets.specs.Itemset.{IsRising, contains}
@@ -45,12 +45,12 @@ decoded_contains items basket set apart below within = same_test _ _
     (λ h. contains_each (decoded items basket) (decoded items set) (λ item m. let d = from_decoded items set item m in
     subst (λ x. Member x (decoded items basket)) d.2 (into_decoded items basket d.0 (has_each basket set h d.0 d.1))))
 
-decoded_supports : (items : List ℕ) (baskets : List Weighted) (set : List ℕ) → IsDistinct nat_eq items → AllByRecursion (IsCodedPlace items) baskets → AllBelow (length items) set
-    → support_of (map (decoded_place items) baskets) (decoded items set) ≡ support_of baskets set
+decoded_supports : (items : List ℕ) (baskets : List Weighted) (set : List ℕ) → IsDistinct nat_eq items → AllByRecursion (IsCodedBasket items) baskets → AllBelow (length items) set
+    → support_of (map (decoded_basket items) baskets) (decoded items set) ≡ support_of baskets set
 decoded_supports items [] set apart places within = refl
 decoded_supports items (place ∷ baskets) set apart places within =
-    sum_by-cons (weight_at (decoded items set)) (decoded_place items place) (map (decoded_place items) baskets)
-    ∙ ap (λ b. cond b place.weight 0 + support_of (map (decoded_place items) baskets) (decoded items set)) (decoded_contains items place.basket set apart places.0.1 within)
+    sum_by-cons (weight_at (decoded items set)) (decoded_basket items place) (map (decoded_basket items) baskets)
+    ∙ ap (λ b. cond b place.weight 0 + support_of (map (decoded_basket items) baskets) (decoded items set)) (decoded_contains items place.basket set apart places.0.1 within)
     ∙ ap (λ n. weight_at set place + n) (decoded_supports items baskets set apart places.1 within) ∙ sym (sum_by-cons (weight_at set) place baskets)
 
 -- two rising lists of ranks with the same items are equal
@@ -92,7 +92,7 @@ module _ (coding : Coding) (is : IsCoding coding) where
   IsRankSet set = AllBelow (length coding.items) set
 
   support_is : (set : List ℕ) → IsRankSet set → support_of (baskets_of coding) (decoded coding.items set) ≡ support_of coding.baskets set
-  support_is set within = decoded_supports coding.items coding.baskets set is.distinct (recursion_from_All (IsCodedPlace coding.items) coding.baskets is.places) within
+  support_is set within = decoded_supports coding.items coding.baskets set is.distinct (recursion_from_All (IsCodedBasket coding.items) coding.baskets is.places) within
 
   total_is : total_of (baskets_of coding) ≡ total_of coding.baskets
   total_is = support_is [] (λ item h. absurd (true≢false (sym h)))
@@ -100,8 +100,8 @@ module _ (coding : Coding) (is : IsCoding coding) where
   pub test_is : (set : List ℕ) → IsRankSet set → is_frequent (baskets_of coding) coding.minimum (decoded coding.items set) ≡ is_frequent coding.baskets coding.minimum set
   test_is set within = grind (arith, common_steps, support_is, total_is)
 
-  coded_at : (place : Weighted) → Member place coding.baskets → IsCodedPlace coding.items place
-  coded_at place = at_Member (IsCodedPlace coding.items) place coding.baskets (recursion_from_All (IsCodedPlace coding.items) coding.baskets is.places)
+  coded_at : (place : Weighted) → Member place coding.baskets → IsCodedBasket coding.items place
+  coded_at place = at_Member (IsCodedBasket coding.items) place coding.baskets (recursion_from_All (IsCodedBasket coding.items) coding.baskets is.places)
 
   -- a frequent set of ranks has ranks of items
   pub ranks_below : (set : List ℕ) → is_frequent coding.baskets coding.minimum set ≡ true → IsRankSet set
@@ -115,7 +115,7 @@ module _ (coding : Coding) (is : IsCoding coding) where
   items_ranked set h item m =
       let from = Member-flat_map (λ (place : Weighted). place.basket) item (baskets_of coding)
       (in_items (baskets_of coding) set (at_least_one coding.minimum (support_of (baskets_of coding) set) (total_of (baskets_of coding)) h) item m) in
-      let place = Member-from_map (decoded_place coding.items) from.0 coding.baskets from.1 in
+      let place = Member-from_map (decoded_basket coding.items) from.0 coding.baskets from.1 in
       let d = from_decoded coding.items place.0.basket item (subst (λ (other : Weighted). Member item other.basket) (sym place.2) from.2) in
       let below = (coded_at place.0 place.1).1 d.0 (has-from_Member place.0.basket d.0 d.1) in
       Member-from_Contains item coding.items (d.0, below, get_or_default coding.items d.0 item 0 below ∙ d.2)

@@ -28,10 +28,6 @@ of_size size items = length (subsets_of_size size items)
 up_to : ℕ → List ℕ → ℕ
 up_to most items = length (subsets_up_to most items)
 
-of_size-cons : (size x : ℕ) (items : List ℕ) → of_size (suc size) (x ∷ items) ≡ of_size size items + of_size (suc size) items
-unfolding of_size
-of_size-cons size x items = grind (arith, common_steps)
-
 up_to-suc : (most : ℕ) (items : List ℕ) → up_to (suc most) items ≡ up_to most items + of_size (suc most) items
 unfolding of_size up_to
 up_to-suc most items = length-append (subsets_up_to most items) (subsets_of_size (suc most) items)

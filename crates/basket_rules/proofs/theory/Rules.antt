@@ -52,9 +52,6 @@ difference_left set other up over less e = grind (arith, common_steps, length-le
 
 -- ---- confidence
 
-pub scaled : (p s t c : ℕ) → s ≤ t → p * t ≤ c → p * s ≤ c
-scaled p s t c le h = grind arith
-
 pub confidence_falls : ConfidenceFalls
 confidence_falls baskets confidence union consequent part h k =
     let bound = support_falls baskets (difference union part) (difference union consequent) (difference_falls union consequent part h) in

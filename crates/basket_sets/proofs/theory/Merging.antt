@@ -60,9 +60,9 @@ pub merging_keeps_supports : MergingKeepsSupports
 merging_keeps_supports baskets set = merging_keeps_weights (λ basket. contains basket set) baskets
 
 -- what holds of each place, and still does with more weight, holds of each merged one
-pub merged_places : (P : Weighted → Type 0) → ((place : Weighted) (more : ℕ) → P place → P (weighted place.basket (place.weight + more)))
+pub merged_baskets : (P : Weighted → Type 0) → ((place : Weighted) (more : ℕ) → P place → P (weighted place.basket (place.weight + more)))
     → (baskets : List Weighted) → AllByRecursion P baskets → AllByRecursion P (merged_of baskets)
-merged_places P heavier baskets each = all [] baskets tt each
+merged_baskets P heavier baskets each = all [] baskets tt each
   where
     one : (places : List Weighted) (place : Weighted) → AllByRecursion P places → P place → AllByRecursion P (with_basket places place)
     one [] place each its = (its, tt)

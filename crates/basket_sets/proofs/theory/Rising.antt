@@ -215,8 +215,8 @@ pub has_more : (items : List ℕ) (i x : ℕ) → i < length items → has (take
 has_more items i x below = grind (arith, common_steps)
 
 -- a list has what stands in it
-pub has_place : (items : List ℕ) (i : ℕ) → i < length items → has items (get_or items i 0) ≡ true
-has_place items i below = has-from_Member items (get_or items i 0) (Member-from_Contains (get_or items i 0) items (i, below, get_or_default items i (get_or items i 0) 0 below))
+pub has_at : (items : List ℕ) (i : ℕ) → i < length items → has items (get_or items i 0) ≡ true
+has_at items i below = has-from_Member items (get_or items i 0) (Member-from_Contains (get_or items i 0) items (i, below, get_or_default items i (get_or items i 0) 0 below))
 
 -- a list with an item at an index has that item and its own
 pub has-set : (items : List ℕ) (k x z : ℕ) → has (set items k x) z ≡ true → (x ≡ z) ⊎ (has items z ≡ true)
@@ -241,7 +241,7 @@ not_before items i distinct below = false_from_ne_true _ (λ h.
 pub distinct_from_before : (items : List ℕ) → ((i : ℕ) → i < length items → has (take i items) (get_or items i 0) ≡ false) → IsDistinct nat_eq items
 distinct_from_before items apart = IsDistinct-from_apart nat_eq items (λ i j d less below. ne_eqb _ _ (λ same.
     let here : i < length (take j items) = omega (arith, length-take j items) in
-    true≢false (sym (has_place (take j items) i here) ∙ ap (has (take j items)) (get_or_default (take j items) i 0 d here ∙ get_or-take j items i d less ∙ same ∙ get_or_default items j d 0 below) ∙ apart j below)))
+    true≢false (sym (has_at (take j items) i here) ∙ ap (has (take j items)) (get_or_default (take j items) i 0 d here ∙ get_or-take j items i d less ∙ same ∙ get_or_default items j d 0 below) ∙ apart j below)))
 
 pub has-rising : (numbers : List ℕ) (item : ℕ) → has (rising numbers) item ≡ has numbers item
 has-rising numbers item = grind (arith, common_steps, same_test, has-from_Member, Member-rising, Member-from_has, Member-into_rising)

@@ -2,7 +2,7 @@
 ghost use Rattle.std.specs.Prelude.{◌≡◌, ◌≤◌, ◌+◌, All, IfOk, OnOk, length};
 ghost use Rattle.basket_sets.specs.Database.{MOST_WEIGHT, weighted};
 ghost use Rattle.basket_sets.specs.Support.{total_of};
-ghost use Rattle.mine_baskets.specs.Entries.{entry_places};
+ghost use Rattle.mine_baskets.specs.Entries.{entry_baskets};
 ghost use Rattle.mine_baskets.specs.ListBaskets.{AreRankBaskets, neighbours_merged, repeats_last, with_basket};
 ghost use Rattle.mine_baskets.specs.Span.{IsWithin, baskets_at};
 
@@ -19,8 +19,8 @@ pub fn merged(
     count: u32,
     entries: &[KeyedBasket<'_>],
 ) -> Result<ListBaskets, AllocError>
-    requires { AreRankBaskets (record { ranks = count; baskets = entry_places entries.now }) }
-    ensures { IfOk result (λ merged. merged ≡ record { ranks = count; baskets = neighbours_merged (entry_places entries.now) }) }
+    requires { AreRankBaskets (record { ranks = count; baskets = entry_baskets entries.now }) }
+    ensures { IfOk result (λ merged. merged ≡ record { ranks = count; baskets = neighbours_merged (entry_baskets entries.now) }) }
 {
     let mut ranks = Vec::with_capacity(alloc, ranks_among(entries))?;
     let mut baskets = Vec::with_capacity(alloc, entries.len())?;

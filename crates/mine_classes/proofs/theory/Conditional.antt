@@ -1,18 +1,17 @@
 -- Supports in a conditional database.
-use Rattle.std.proofs.Common.{◌≡◌, ℕ, ◌+◌, Bool, true, false, ◌&&◌, List, [], ◌∷◌, ◌++◌, ◌≤◌, cond, refl, sym, ap, ◌∙◌, add-zero, inl, inr, arith}
+use Rattle.std.proofs.Common.{◌≡◌, ℕ, ◌+◌, Bool, true, false, ◌&&◌, List, [], ◌∷◌, ◌++◌, ◌≤◌, cond, sym, ◌∙◌, arith}
 use Rattle.std.proofs.lemmas.Grind.{common_steps}
 use Rattle.std.specs.List.{filter, flat_map, list_all}
 use Rattle.std.proofs.lemmas.Bool.{and_parts, and_from}
 use Rattle.std.proofs.lemmas.List.Folds.{list_all-append}
 use Rattle.basket_sets.specs.declared.weighted.Weighted.{Weighted}
-use Rattle.basket_sets.specs.Database.{weighted}
 use Rattle.basket_sets.specs.Itemset.{has, contains}
 use Rattle.basket_sets.specs.Support.{weight_at, support_of}
 use Rattle.basket_sets.proofs.theory.Members.{Member-filter, Member-from_filter}
 use Rattle.basket_sets.proofs.theory.Rising.{has_each, contains_each}
 use Rattle.basket_sets.proofs.theory.Support.{support-append, support-cons, support_falls}
 use Rattle.basket_sets.proofs.theory.Tests.{all_of, cond_sum, each_of, same_cond}
-use Rattle.mine_classes.specs.Conditional.{is_kept, kept_place, ConditionalSupports}
+use Rattle.mine_classes.specs.Conditional.{is_kept, kept_basket, ConditionalSupports}
 
 -- ---- tests
 
@@ -46,10 +45,10 @@ contains-push : (basket set : List ℕ) (rank : ℕ) → contains basket (set ++
 contains-push basket set rank = list_all-append (has basket) set (rank ∷ []) ∙ and_last (contains basket set) (has basket rank)
 
 module _ (keeps : ℕ → Bool) (rank : ℕ) (set : List ℕ) where
-  weight_kept : (place : Weighted) → support_of (kept_place keeps rank place) set ≡ cond (list_all keeps set) (weight_at (set ++ rank ∷ []) place) 0
+  weight_kept : (place : Weighted) → support_of (kept_basket keeps rank place) set ≡ cond (list_all keeps set) (weight_at (set ++ rank ∷ []) place) 0
   weight_kept place = grind (arith, common_steps, support-cons, contains-filter, both, contains-push, and_every, and_none, same_cond)
 
-  pub kept_support : (baskets : List Weighted) → support_of (flat_map (kept_place keeps rank) baskets) set ≡ cond (list_all keeps set) (support_of baskets (set ++ rank ∷ [])) 0
+  pub kept_support : (baskets : List Weighted) → support_of (flat_map (kept_basket keeps rank) baskets) set ≡ cond (list_all keeps set) (support_of baskets (set ++ rank ∷ [])) 0
   kept_support [] = sym (same_cond (list_all keeps set) 0)
   kept_support (place ∷ baskets) = grind (arith, common_steps, kept_support baskets, support-append, weight_kept, cond_sum, support-cons)
 

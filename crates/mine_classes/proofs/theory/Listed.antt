@@ -10,7 +10,7 @@ use Rattle.basket_sets.specs.Minimum.{meets}
 use Rattle.basket_sets.specs.Support.{support_of, total_of}
 use Rattle.basket_sets.proofs.theory.Merging.{merging_keeps_supports}
 use Rattle.basket_sets.proofs.theory.Members.{Member-from_Contains}
-use Rattle.basket_ranks.specs.Codes.{Coding, DecodingKeepsFrequent, IsCodedPlace, baskets_of, coding_of, decoded_set, merged_coding, ranks_of}
+use Rattle.basket_ranks.specs.Codes.{Coding, DecodingKeepsFrequent, IsCodedBasket, baskets_of, coding_of, decoded_set, merged_coding, ranks_of}
 use Rattle.basket_ranks.proofs.theory.Coding.{coded_support, coded_total, ranked_is_frequent}
 use Rattle.mine_classes.specs.Classes.{ListsClass, class_of}
 use Rattle.mine_classes.specs.Mined.{ClassItemsAreAll, CodedRanksAreFrequent, ListsClassItems, ListsHaveClassSize, RanksAreFrequent}
@@ -64,7 +64,7 @@ class_items_are_all decoding coding classes is long lists =
     subst (ListsOnce (baskets_of coding) coding.minimum) (flat_mapped (decoded_set coding.items) g.of ∙ ap (flat_map (λ class. class)) g.decoded)
     (decoding coding (flat_map (λ class. class) g.of) is
     (classes_are_all coding.baskets coding.minimum g.of
-    (λ rank m. subst (λ n. rank < n) (sym (g.long ∙ long)) (ranks_below coding.items coding.baskets (recursion_from_All (IsCodedPlace coding.items) coding.baskets is.places) rank
+    (λ rank m. subst (λ n. rank < n) (sym (g.long ∙ long)) (ranks_below coding.items coding.baskets (recursion_from_All (IsCodedBasket coding.items) coding.baskets is.places) rank
     (Member-from_Contains rank (flat_map (λ place. place.basket) coding.baskets) m)))
     (λ rank below. subst (λ r. ListsClass coding.baskets coding.minimum r (get_or g.of rank [])) (omega arith) (g.lists rank below))))
 

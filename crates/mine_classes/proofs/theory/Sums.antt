@@ -1,5 +1,5 @@
 -- Sums over lists, and over the parts of a list whose elements have one number each.
-use Rattle.std.proofs.Common.{◌≡◌, ℕ, ◌+◌, ◌<◌, Bool, true, false, List, [], ◌∷◌, cond, eqb, ltb, filter, map, refl, sym, ap, ◌∙◌, arith, zero, suc, zero-add}
+use Rattle.std.proofs.Common.{◌≡◌, ℕ, ◌+◌, ◌<◌, Bool, List, [], ◌∷◌, cond, eqb, ltb, filter, map, refl, sym, ap, ◌∙◌, arith, zero, suc, zero-add}
 use Rattle.std.proofs.lemmas.Grind.{common_steps}
 use Rattle.std.specs.List.{All, range_with_len, sum, sum_by}
 use Rattle.std.proofs.lemmas.Bool.Decides.{nat_tests}

@@ -8,7 +8,7 @@ use Rattle.std.proofs.lemmas.List.Elements.{All-from_recursion, recursion_from_A
 use Rattle.basket_sets.specs.declared.weighted.Weighted.{Weighted}
 use Rattle.basket_sets.specs.declared.counted.Counted.{Counted}
 use Rattle.basket_sets.specs.declared.minimum.Minimum.{Minimum}
-use Rattle.basket_ranks.specs.Codes.{IsCodedPlace}
+use Rattle.basket_ranks.specs.Codes.{IsCodedBasket}
 use Rattle.basket_sets.specs.Frequent.{IsNonemptySet, counted, frequent_of, is_frequent}
 use Rattle.basket_sets.specs.Support.{support_of, total_of}
 use Rattle.basket_sets.proofs.theory.Members.{Member, All-from_Member, at_Member, Member-append, Member-append_left, Member-append_right, Member-filter, Member-from_filter, Member-from_Contains, Contains-from_Member}
@@ -96,7 +96,7 @@ classes_are_all baskets minimum classes below lists = record {
 
 -- ---- coded baskets
 
-pub ranks_below : (items : List ℕ) (places : List Weighted) → AllByRecursion (IsCodedPlace items) places → (rank : ℕ) → Member rank (flat_map (λ place. place.basket) places) → rank < length items
+pub ranks_below : (items : List ℕ) (places : List Weighted) → AllByRecursion (IsCodedBasket items) places → (rank : ℕ) → Member rank (flat_map (λ place. place.basket) places) → rank < length items
 ranks_below items [] coded rank m = absurd m
 ranks_below items (place ∷ places) coded rank m = elim (Member-append rank place.basket (flat_map (λ p. p.basket) places) m) [
   | inl here ↦ coded.0.1 rank (has-from_Member place.basket rank here)

@@ -10,17 +10,17 @@ use Rattle.basket_sets.proofs.theory.Tests.{each_of}
 use Rattle.mine_conditional.specs.Paths.{is_branch}
 
 module _ {X : Type 0} (test : Weighted → Bool) (f : Weighted → X) where
-  abbrev pub picked_place : Weighted → List X
-  picked_place place = cond (test place) (f place ∷ []) []
+  abbrev pub picked_basket : Weighted → List X
+  picked_basket place = cond (test place) (f place ∷ []) []
 
-  pub into_picked : (places : List Weighted) (place : Weighted) → Member place places → test place ≡ true → Member (f place) (flat_map picked_place places)
+  pub into_picked : (places : List Weighted) (place : Weighted) → Member place places → test place ≡ true → Member (f place) (flat_map picked_basket places)
   into_picked [] place m h = absurd m
   into_picked (p ∷ places) place (inl e) h = grind (arith, common_steps)
   into_picked (p ∷ places) place (inr m) h = grind (arith, common_steps, into_picked places place m h)
 
-  pub from_picked : (places : List Weighted) (x : X) → Member x (flat_map picked_place places) → (place : Weighted) × Member place places × (test place ≡ true) × (f place ≡ x)
+  pub from_picked : (places : List Weighted) (x : X) → Member x (flat_map picked_basket places) → (place : Weighted) × Member place places × (test place ≡ true) × (f place ≡ x)
   from_picked [] x m = absurd m
-  from_picked (p ∷ places) x m = elim (Member-append x (picked_place p) (flat_map picked_place places) m) [
+  from_picked (p ∷ places) x m = elim (Member-append x (picked_basket p) (flat_map picked_basket places) m) [
     | inl n ↦ here (test p) refl n
     | inr n ↦ (let r = from_picked places x n in (r.0, inr r.1, r.2, r.3))
   ]

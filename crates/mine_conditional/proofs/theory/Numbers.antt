@@ -4,7 +4,7 @@ use Rattle.std.proofs.lemmas.Grind.{common_steps}
 use Rattle.std.specs.List.{list_all, range_with_len}
 use Rattle.std.proofs.lemmas.List.{get_or-map}
 use Rattle.std.proofs.lemmas.List.Elements.{recursion_from_All}
-use Rattle.basket_ranks.specs.Codes.{decoded, decoded_place}
+use Rattle.basket_ranks.specs.Codes.{decoded, decoded_basket}
 use Rattle.basket_ranks.proofs.theory.Coding.{into_decoded}
 use Rattle.basket_ranks.proofs.theory.Decoding.{rank_from_decoded}
 use Rattle.basket_sets.specs.declared.weighted.Weighted.{Weighted}
@@ -63,10 +63,10 @@ module _ (baskets : List Weighted) (least rank : ℕ) (below : RankBaskets) (is 
         let d = Member-from_map rank_of item numbers m in
         subst (λ x. Member x (decoded kept basket)) d.2 (into_decoded kept basket d.0 (has_each basket numbers h d.0 d.1))))
 
-    decoded_support : (places : List Weighted) → AreWithin places → support_of (map (decoded_place kept) places) (map rank_of numbers) ≡ support_of places numbers
+    decoded_support : (places : List Weighted) → AreWithin places → support_of (map (decoded_basket kept) places) (map rank_of numbers) ≡ support_of places numbers
     decoded_support [] inside = refl
     decoded_support (place ∷ places) inside =
-        support-cons (decoded_place kept place) (map (decoded_place kept) places) (map rank_of numbers)
+        support-cons (decoded_basket kept place) (map (decoded_basket kept) places) (map rank_of numbers)
         ∙ (λ i. cond (contains_ranks place.basket (inside place (inl refl)) i) place.weight 0 + decoded_support places (λ p m. inside p (inr m)) i)
         ∙ sym (support-cons place places numbers)
 

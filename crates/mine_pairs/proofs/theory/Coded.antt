@@ -8,14 +8,14 @@ use Rattle.std.proofs.lemmas.List.{get_or_default}
 use Rattle.std.proofs.lemmas.List.Elements.{recursion_from_All}
 use Rattle.std.proofs.lemmas.List.Kept.{IsStrictlySortedBy-filter}
 use Rattle.std.proofs.lemmas.List.Sums.{sum_by-cons}
-use Rattle.basket_ranks.specs.Codes.{coded, coded_place, decoded, decoded_place}
+use Rattle.basket_ranks.specs.Codes.{coded, coded_basket, decoded, decoded_basket}
 use Rattle.basket_ranks.proofs.theory.Coding.{from_decoded, from_ranks, into_decoded, into_ranks}
 use Rattle.basket_sets.specs.declared.weighted.Weighted.{Weighted}
 use Rattle.basket_sets.specs.Itemset.{IsRising}
 use Rattle.basket_sets.proofs.theory.Members.{Member, Member-filter, Member-from_filter, Contains-from_Member}
 use Rattle.basket_sets.proofs.theory.Rising.{Member-from_has, has-from_Member, rising-rises, same_rising}
 use Rattle.basket_sets.proofs.theory.Tests.{Member-at}
-use Rattle.mine_classes.specs.Conditional.{conditional, is_kept, kept_place}
+use Rattle.mine_classes.specs.Conditional.{conditional, is_kept, kept_basket}
 use Rattle.mine_baskets.specs.ListBaskets.{HaveSameWeights, IsRankBasket, weight_where}
 use Rattle.mine_pairs.specs.Pairs.{kept_ranks}
 use Rattle.mine_pairs.specs.Runs.{below}
@@ -63,12 +63,12 @@ module _ (baskets : List Weighted) (least rank : ℕ) where
   filter_twice [] = refl
   filter_twice (x ∷ basket) = grind (arith, common_steps, filter_twice basket)
 
-  below_weight : (test : List ℕ → Bool) (places : List Weighted) → weight_where (λ basket. test (filter keeps basket)) (below rank places) ≡ weight_where test (flat_map (kept_place keeps rank) places)
+  below_weight : (test : List ℕ → Bool) (places : List Weighted) → weight_where (λ basket. test (filter keeps basket)) (below rank places) ≡ weight_where test (flat_map (kept_basket keeps rank) places)
   below_weight test [] = refl
   below_weight test (index ∷ places) = grind (arith, common_steps, below_weight test places, sum_by-cons, filter_twice)
 
   pub conditional_weights : (count : ℕ) (paths : List Weighted) → HaveSameWeights (below rank baskets) paths → All (IsRankBasket count) paths → (others : List Weighted)
-      → HaveSameWeights (map (coded_place kept) paths) others → HaveSameWeights (conditional least baskets rank) (map (decoded_place kept) others)
+      → HaveSameWeights (map (coded_basket kept) paths) others → HaveSameWeights (conditional least baskets rank) (map (decoded_basket kept) others)
   conditional_weights count paths weights ranked others same test =
       sym (below_weight test baskets)
       ∙ weights (λ basket. test (filter keeps basket))

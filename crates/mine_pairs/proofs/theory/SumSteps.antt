@@ -1,5 +1,5 @@
 -- Sums by rank.
-use Rattle.std.proofs.Common.{◌≡◌, ℕ, ◌+◌, ◌<◌, ◌≤◌, Bool, true, false, List, [], ◌∷◌, ◌++◌, length, take, get_or, set, eqb, refl, sym, ◌∙◌, inl, arith}
+use Rattle.std.proofs.Common.{◌≡◌, ℕ, ◌+◌, ◌<◌, ◌≤◌, Bool, false, List, [], ◌∷◌, ◌++◌, length, take, get_or, set, eqb, sym, ◌∙◌, arith}
 use Rattle.std.proofs.lemmas.Grind.{common_steps}
 use Rattle.std.specs.Prelude.{replicate}
 use Rattle.std.specs.List.{filter}
@@ -8,7 +8,7 @@ use Rattle.std.proofs.lemmas.Bool.{cases_eq, eq-eqb}
 use Rattle.std.proofs.lemmas.List.{ext_get_or, get_or-replicate, get_or-set_same, length-replicate}
 use Rattle.basket_sets.specs.Counts.{AllBelow}
 use Rattle.basket_sets.specs.Itemset.{IsRising, has, rising}
-use Rattle.basket_sets.proofs.theory.Members.{Member-append_left, Member-append_right, Member-filter}
+use Rattle.basket_sets.proofs.theory.Members.{Member-filter}
 use Rattle.basket_sets.proofs.theory.Rising.{Member-from_has, has-from_Member, has_more, not_before, rising_distinct, Member-rising}
 use Rattle.basket_sets.proofs.theory.Tests.{or_true}
 use Rattle.mine_pairs.specs.Sums.{AreSums, WithBasket}
@@ -20,19 +20,6 @@ pub with_more : (basket : List ℕ) (i weight : ℕ) (old now : List ℕ) → Is
 with_more basket i weight old now up here inside long added rank below = grind (arith, common_steps, cases_eq, not_before, rising_distinct, has_more, eq-eqb, or_true, get_or-set_same)
 
 -- ---- the list of the sums that are not 0
-
-sums_more : (count : ℕ) (sums found grown : List ℕ) (rank weight : ℕ) → AreSums count sums found → AllBelow count grown
-    → ((other : ℕ) → has found other ≡ true → has grown other ≡ true) → has grown rank ≡ true → AreSums count (set sums rank (get_or sums rank 0 + weight)) grown
-sums_more count sums found grown rank weight are below more there = grind (arith, common_steps)
-
-has-append_left : (found : List ℕ) (rank other : ℕ) → has found other ≡ true → has (found ++ rank ∷ []) other ≡ true
-has-append_left found rank other h = has-from_Member (found ++ rank ∷ []) other (Member-append_left other found (rank ∷ []) (Member-from_has found other h))
-
-has-append_last : (found : List ℕ) (rank : ℕ) → has (found ++ rank ∷ []) rank ≡ true
-has-append_last found rank = has-from_Member (found ++ rank ∷ []) rank (Member-append_right rank found (rank ∷ []) (inl refl))
-
-below_push : (count : ℕ) (found : List ℕ) (rank : ℕ) → AllBelow count found → rank < count → AllBelow count (found ++ rank ∷ [])
-below_push count found rank below here other h = grind (arith, common_steps)
 
 -- a rank put down after those that are listed, and kept where its sum was 0
 pub listed_more : (count : ℕ) (sums found : List ℕ) (end rank weight more : ℕ) → AreSums count sums (take end found) → rank < count → end < length found

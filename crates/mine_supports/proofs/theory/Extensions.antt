@@ -1,5 +1,5 @@
 -- Sets as prefixes and the items that extend them.
-use Rattle.std.proofs.Common.{◌≡◌, ℕ, suc, ◌+◌, ◌<◌, ◌≤◌, Bool, true, List, [], ◌∷◌, ◌++◌, length, filter, map, get_or, cond, take, drop, append-nil, refl, Some, None, ◌-◌, sym, ap, ◌∙◌, inl, inr, arith}
+use Rattle.std.proofs.Common.{◌≡◌, ℕ, suc, ◌+◌, ◌<◌, ◌≤◌, Bool, List, [], ◌∷◌, ◌++◌, length, filter, map, get_or, cond, take, drop, append-nil, refl, Some, None, ◌-◌, sym, ap, ◌∙◌, inl, inr, arith}
 use Rattle.std.proofs.lemmas.Grind.{common_steps}
 use Rattle.std.proofs.lemmas.Grind.{flat_map-append}
 use Rattle.std.specs.List.{slice_get}
@@ -79,9 +79,6 @@ pub kept_sets : (passes : List ℕ → Bool) (groups : List Group) → sets_of (
 kept_sets passes groups = sets_filled (map (passing passes) groups) ∙ passing_sets passes groups
 
 -- ---- sets, one after another
-
-some_last : (first : List ℕ) (last : ℕ) → is_some (first ++ last ∷ []) ≡ true
-some_last h1 h2 = grind (arith, common_steps)
 
 -- one set more
 pub some_more : (sets : List (List ℕ)) (i : ℕ) (set first : List ℕ) (last : ℕ) (before : List (List ℕ)) → i < length sets → set ≡ get_or sets i set → set ≡ first ++ last ∷ [] → before ≡ filter is_some (take i sets)

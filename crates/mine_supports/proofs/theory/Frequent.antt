@@ -2,7 +2,7 @@
 use Rattle.std.proofs.Common.{◌≡◌, ℕ, ◌+◌, ◌<◌, ◌≤◌, Bool, List, [], ◌∷◌, ◌++◌, length, filter, map, take, drop, get_or, cond, append_assoc, sym, ap, ◌∙◌, subst, arith}
 use Rattle.std.proofs.lemmas.Grind.{common_steps}
 use Rattle.std.specs.List.{All}
-use Rattle.std.proofs.lemmas.List.{drop_more, get_or-map, length-map, map-append, take_more}
+use Rattle.std.proofs.lemmas.List.{get_or-map, length-map, map-append, take_more}
 use Rattle.std.proofs.lemmas.List.Concat.{get_or-flat_map}
 use Rattle.std.proofs.lemmas.List.Elements.{filter-append, filter_more}
 use Rattle.std.proofs.lemmas.List.Folds.{length-flat_map-take}
@@ -43,15 +43,6 @@ extended group = extend group.prefix group.items
 module _ (groups : List Group) (number : ℕ) (d : Group) (below : number < length groups) where
   abbrev group : Group
   group = get_or groups number d
-
-  sets_split : sets_of (drop number groups) ≡ extended group ++ sets_of (drop (number + 1) groups)
-  sets_split = ap sets_of (drop_more groups number d below)
-
-  pub counts_split : (f : List ℕ → ℕ) → map f (sets_of (drop number groups)) ≡ map f (extended group) ++ map f (sets_of (drop (number + 1) groups))
-  counts_split f = ap (map f) sets_split ∙ map-append f (extended group) (sets_of (drop (number + 1) groups))
-
-  extended_long : (f : List ℕ → ℕ) → length (map f (extended group)) ≡ length group.items
-  extended_long f = length-map (extended group) f ∙ length-map group.items (λ item. group.prefix ++ item ∷ [])
 
   pub counts_within : (f : List ℕ → ℕ) (rest : List ℕ) → rest ≡ map f (sets_of (drop number groups)) → length group.items ≤ length rest
   counts_within f rest is = grind (arith, common_steps)

@@ -7,7 +7,7 @@ use Rattle.std.proofs.lemmas.List.Elements.{recursion_from_All}
 use Rattle.std.proofs.lemmas.Map.Keys.{non_decreasing_from_sorted}
 use Rattle.basket_sets.specs.Itemset.{IsRising, has, rising}
 use Rattle.basket_sets.proofs.theory.Members.{Member, Contains-from_Member, Member-filter, Member-from_filter, Member-from_map, Member-map, at_Member}
-use Rattle.basket_sets.proofs.theory.Rising.{Member-from_has, has-from_Member, has-rising, has_place, same_test}
+use Rattle.basket_sets.proofs.theory.Rising.{Member-from_has, has-from_Member, has-rising, has_at, same_test}
 use Rattle.basket_sets.proofs.theory.Tests.{rising_at}
 use Rattle.mine_supports.specs.UsedItems.{AreNumbers}
 
@@ -47,7 +47,7 @@ has_number used items numbers k up are within =
     (λ h. has-from_Member items item (Member-filter (has used) item items
     (subst (Member item) are.named (Member-map (λ n. get_or used n 0) k numbers (Member-from_has numbers k h)))).0)
     (λ h.
-    let m = Member-from_filter (has used) item items (Member-from_has items item h) (has_place used k within) in
+    let m = Member-from_filter (has used) item items (Member-from_has items item h) (has_at used k within) in
     let p = Member-from_map (λ n. get_or used n 0) item numbers (subst (Member item) (sym are.named) m) in
     let below = at_Member (λ n. n < length used) p.0 numbers (recursion_from_All (λ n. n < length used) numbers are.below) p.1 in
     has-from_Member numbers k (subst (λ n. Member n numbers) (one_index used p.0 k up below within p.2) p.1))

@@ -3,7 +3,6 @@ use Rattle.std.proofs.lemmas.Grind.{common_steps}
 use Rattle.std.proofs.lemmas.Bool.{eq-eqb, ne_eqb, false≢true}
 use Rattle.basket_csv.proofs.PartLemmas.{whole_part}
 use Rattle.basket_csv.proofs.collector.add_all.Goals as goal
-use Rattle.basket_csv.proofs.collector.add_all.Goals.{then-dialect-ne10, else-dialect-ne10}
 
 not_so : (b : Bool) → not b ≡ true → b ≡ false
 not_so h1 h2 = grind (arith, common_steps)

@@ -3,7 +3,7 @@ use Rattle.std.proofs.lemmas.Grind.{common_steps}
 use Rattle.basket_csv.specs.Record.{fields_of}
 use Rattle.basket_csv.proofs.RowLemmas.{known_name, nil_test, no_name, one_name}
 use Rattle.basket_csv.proofs.row.number_names.Goals as goal
-use Rattle.basket_csv.proofs.row.number_names.Goals.{then-not-is_empty+in_ok-number+in_ok-push-2, else-not-is_empty}
+use Rattle.basket_csv.proofs.row.number_names.Goals.{then-not-is_empty+in_ok-number+in_ok-push-2}
 
 pub loop-index-preserved-in-Some : goal.loop-index-preserved-in-Some
 loop-index-preserved-in-Some c =

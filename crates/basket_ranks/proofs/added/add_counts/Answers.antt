@@ -4,7 +4,7 @@ use Rattle.std.proofs.lemmas.List.{nil_from_length}
 use Rattle.basket_ranks.specs.Added.{items_of_counts}
 use Rattle.basket_ranks.proofs.theory.Added.{Leaves, put_less, put_greater, put_equal, numbers_fit, none_yet, none_left, added_rise}
 use Rattle.basket_sets.specs.Itemset.{IsRising}
-use Rattle.basket_ranks.proofs.added.add_counts.Goals.{in-Less, in-Equal, in-Greater, in_default, in_default-2}
+use Rattle.basket_ranks.proofs.added.add_counts.Goals.{in-Less, in-Equal, in-Greater}
 use Rattle.basket_ranks.proofs.added.add_counts.Goals as goal
 
 pub loop-first-init : goal.loop-first-init

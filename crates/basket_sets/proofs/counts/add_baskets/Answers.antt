@@ -7,7 +7,7 @@ use Rattle.basket_sets.specs.Counts.{IsTable}
 use Rattle.basket_sets.specs.Itemset.{has}
 use Rattle.basket_sets.specs.Support.{total_of}
 use Rattle.basket_sets.proofs.theory.Rising.{rising_distinct}
-use Rattle.basket_sets.proofs.CountLemmas.{HasAdded, item_of_place, table_push}
+use Rattle.basket_sets.proofs.CountLemmas.{HasAdded, item_of_basket, table_push}
 use Rattle.basket_sets.proofs.counts.add_baskets.Goals as goal
 
 pub add_to_table-requires-clause-distinct : goal.add_to_table-requires-clause-distinct
@@ -16,7 +16,7 @@ add_to_table-requires-clause-distinct c = subst (IsDistinct nat_eq) (sym c.items
 pub add_to_table-requires-clause-within : goal.add_to_table-requires-clause-within
 add_to_table-requires-clause-within c = λ item h.
     let its = ap (λ l. has l item) (sym c.items.ensures.items) ∙ h in
-    let k = c.requires.within item (item_of_place c.args.baskets.now c.loop-weighted.weighted-index c.weighted-item.result c.loop-weighted-test.true c.weighted-item.is item its) in
+    let k = c.requires.within item (item_of_basket c.args.baskets.now c.loop-weighted.weighted-index c.weighted-item.result c.loop-weighted-test.true c.weighted-item.is item its) in
     omega (arith, c.loop-weighted.auto.table)
 
 pub loop-weighted-preserved : goal.loop-weighted-preserved

@@ -4,7 +4,7 @@ use Rattle.std.proofs.lemmas.List.{get_or_default, get_or_past}
 use Rattle.std.proofs.lemmas.Bool.{cases_lt}
 use Rattle.basket_sets.specs.Slot.{slots_joined}
 use Rattle.basket_sets.proofs.counts.add_slots.Goals as goal
-use Rattle.basket_sets.proofs.counts.add_slots.Goals.{in-Some, in_default}
+use Rattle.basket_sets.proofs.counts.add_slots.Goals.{in-Some}
 
 pub add-requires : goal.add-requires
 add-requires c =

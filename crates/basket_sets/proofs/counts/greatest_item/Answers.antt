@@ -8,7 +8,6 @@ use Rattle.basket_sets.proofs.CountLemmas.{all_items_more, below_more, last_is_g
 use Rattle.basket_sets.proofs.theory.Members.{Contains-from_Member}
 use Rattle.basket_sets.proofs.theory.Rising.{Member-from_has}
 use Rattle.basket_sets.proofs.counts.greatest_item.Goals as goal
-use Rattle.basket_sets.proofs.counts.greatest_item.Goals.{in-Some, in_default}
 
 pub returns : goal.returns
 returns c = subst (λ l. AllBelow (c.loop-weighted.greatest + 1) (all_items l)) (take_all c.loop-weighted.weighted-index c.args.baskets.now (omega arith)) c.loop-weighted.invariant

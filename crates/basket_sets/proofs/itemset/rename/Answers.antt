@@ -2,11 +2,11 @@ use Rattle.std.proofs.Common.{◌+◌, ◌∙◌, get_or, set, take, ap, arith}
 use Rattle.std.proofs.lemmas.Grind.{common_steps}
 use Rattle.std.proofs.lemmas.List.{get_or-set_other}
 use Rattle.basket_sets.proofs.RenameLemmas.{named_more}
-use Rattle.basket_sets.proofs.theory.Rising.{has_place}
+use Rattle.basket_sets.proofs.theory.Rising.{has_at}
 use Rattle.basket_sets.proofs.itemset.rename.Goals as goal
 
 pub bounds-names-numbers : goal.bounds-names-numbers
-bounds-names-numbers c = grind (arith, common_steps, has_place c.args.numbers.now c.loop-index.index c.loop-index-test.true)
+bounds-names-numbers c = grind (arith, common_steps, has_at c.args.numbers.now c.loop-index.index c.loop-index-test.true)
 
 pub loop-index-preserved : goal.loop-index-preserved
 loop-index-preserved c =

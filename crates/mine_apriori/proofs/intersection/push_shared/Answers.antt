@@ -2,7 +2,7 @@ use Rattle.std.proofs.Common.{◌≡◌, ◌+◌, ◌∷◌, ◌++◌, [], ℕ, 
 use Rattle.std.proofs.lemmas.Grind.{common_steps}
 use Rattle.std.proofs.lemmas.Bool.{cases_lt}
 use Rattle.basket_sets.specs.Itemset.{has}
-use Rattle.basket_sets.proofs.theory.Rising.{has_place}
+use Rattle.basket_sets.proofs.theory.Rising.{has_at}
 use Rattle.basket_sets.proofs.theory.Tests.{rising_at}
 use Rattle.mine_supports.proofs.theory.Frequent.{kept_more}
 use Rattle.mine_supports.proofs.theory.UsedItems.{missing}
@@ -31,7 +31,7 @@ loop-item-preserved c =
       shared = elim c.if-next-others.branch [
         | then-next-others+then-others-next+in_ok-push w ↦
             ap (λ v. v.items) w.shared-is ∙ w.in_ok-push.ensures.items ∙ ap (λ l. l ++ get_or items i 0 ∷ []) inv.shared
-            ∙ step others items shared i true here (ap (has others) (sym w.if-others-next.true) ∙ has_place others next w.if-next-others.true)
+            ∙ step others items shared i true here (ap (has others) (sym w.if-others-next.true) ∙ has_at others next w.if-next-others.true)
         | else-next-others w ↦
             ap (λ v. v.items) w.shared-is ∙ inv.shared ∙ sym (append-nil (shared ++ filter (has others) (take i items)))
             ∙ step others items shared i false here (missing others (get_or items i 0) next c.requires.others_rise (passed c) (λ inside. elim w.else-next-others.branch [

@@ -1,14 +1,14 @@
 use Rattle.std.proofs.Common.{◌<◌, ◌+◌, drop, get_or, length, subst, sym, arith}
 use Rattle.std.proofs.lemmas.List.{drop_all, drop_more}
 use Rattle.basket_sets.specs.Itemset.{IsRising}
-use Rattle.basket_sets.proofs.theory.Rising.{has_place}
+use Rattle.basket_sets.proofs.theory.Rising.{has_at}
 use Rattle.mine_baskets.specs.Covers.{HasTid, covers_in}
 use Rattle.mine_baskets.proofs.CoversLemmas.{drop_rises, no_tid, pushed_tid}
 use Rattle.mine_baskets.proofs.covers.add_tid.Goals as goal
 
 pub bounds-covers-rank : goal.bounds-covers-rank
 bounds-covers-rank c =
-    let below = c.requires.below (get_or c.args.basket.now c.loop-rank.rank-index 0) (has_place c.args.basket.now c.loop-rank.rank-index c.loop-rank-test.true) in
+    let below = c.requires.below (get_or c.args.basket.now c.loop-rank.rank-index 0) (has_at c.args.basket.now c.loop-rank.rank-index c.loop-rank-test.true) in
     omega (arith, below, c.loop-rank.auto.covers)
 
 pub loop-rank-preserved : goal.loop-rank-preserved
@@ -18,7 +18,7 @@ loop-rank-preserved c = λ end later.
     let here = c.loop-rank-test.true in
     let rank = get_or basket i 0 in
     let covers = c.loop-rank.covers in
-    let below = c.requires.below rank (has_place basket i here) in
+    let below = c.requires.below rank (has_at basket i here) in
     let within : rank < length covers = omega (arith, below, c.loop-rank.auto.covers) in
     let split = drop_more basket i 0 here in
     let up = subst IsRising split (drop_rises basket i c.requires.rises) in

@@ -4,7 +4,7 @@ use Rattle.std.proofs.lemmas.List.{take_more}
 use Rattle.std.proofs.lemmas.List.Sums.{sum_by-append, sum_by-cons}
 use Rattle.mine_baskets.specs.declared.words.Word.{Word}
 use Rattle.mine_baskets.specs.ListBaskets.{HaveSameWeights}
-use Rattle.mine_baskets.specs.Words.{word_place, word_places}
+use Rattle.mine_baskets.specs.Words.{word_basket, word_baskets}
 use Rattle.mine_baskets.proofs.WordLemmas.{next_word}
 use Rattle.mine_baskets.proofs.words.merged.Goals as goal
 use Rattle.mine_baskets.proofs.theory.Weights.{word_more}
@@ -30,6 +30,6 @@ loop-word-preserved c =
           let now = c.in_ok-add.ensures.end last some in
           let next = c.requires.sorted i k none (omega arith) high in
           omega (arith, now, next);
-      weights = λ count. subst (λ l. HaveSameWeights l (word_places count new)) (next_word count words i none here)
-          (word_more count (word_places count (take i words)) (word_place count word) c.loop-word.merged.items new word refl (c.loop-word.invariant.weights count) (c.in_ok-add.ensures.weights count));
+      weights = λ count. subst (λ l. HaveSameWeights l (word_baskets count new)) (next_word count words i none here)
+          (word_more count (word_baskets count (take i words)) (word_basket count word) c.loop-word.merged.items new word refl (c.loop-word.invariant.weights count) (c.in_ok-add.ensures.weights count));
     }

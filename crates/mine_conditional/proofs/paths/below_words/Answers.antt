@@ -2,10 +2,10 @@ use Rattle.std.proofs.Common.{◌≡◌, ℕ, List, length, map, subst, sym, ap,
 use Rattle.std.proofs.lemmas.Grind.{common_steps}
 use Rattle.std.specs.List.{flat_map}
 use Rattle.std.proofs.lemmas.List.{length-map}
-use Rattle.basket_ranks.specs.Codes.{decoded_place}
+use Rattle.basket_ranks.specs.Codes.{decoded_basket}
 use Rattle.basket_sets.specs.declared.weighted.Weighted.{Weighted}
 use Rattle.basket_sets.specs.Itemset.{has}
-use Rattle.mine_classes.specs.Conditional.{kept_place}
+use Rattle.mine_classes.specs.Conditional.{kept_basket}
 use Rattle.mine_baskets.specs.ListBaskets.{HaveSameWeights}
 use Rattle.mine_pairs.specs.Pairs.{kept_ranks, pairs_of}
 use Rattle.mine_pairs.proofs.theory.Kept.{has_kept, kept_below, kept_rises, kept_short, pair_ranks}
@@ -32,7 +32,7 @@ returns c =
     let rank = c.args.rank in
     let kept = are_kept baskets c.args.least rank c.args.pairs.now c.requires.pairs in
     let below = c.in_ok-below.below.baskets in
-    let by_list = subst (λ (l : List ℕ). HaveSameWeights (flat_map (kept_place (has l) rank) baskets) (map (decoded_place l) below)) kept c.in_ok-below.ensures.weights in
+    let by_list = subst (λ (l : List ℕ). HaveSameWeights (flat_map (kept_basket (has l) rank) baskets) (map (decoded_basket l) below)) kept c.in_ok-below.ensures.weights in
     record {
       ranks = c.in_ok-below.ensures.ranks ∙ sym (length-map c.args.pairs.now (λ (pair : ℕ × ℕ). pair.0)) ∙ ap length kept;
       ranked = c.in_ok-below.ensures.ranked;

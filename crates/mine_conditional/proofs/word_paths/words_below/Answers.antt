@@ -3,12 +3,12 @@ use Rattle.std.specs.Prelude.{All}
 use Rattle.std.specs.List.{flat_map, sum_by}
 use Rattle.std.proofs.lemmas.List.{length-map, take_all}
 use Rattle.std.proofs.lemmas.List.Sums.{sum_by_more}
-use Rattle.basket_ranks.specs.Codes.{decoded_place}
+use Rattle.basket_ranks.specs.Codes.{decoded_basket}
 use Rattle.basket_sets.specs.Itemset.{has}
 use Rattle.mine_baskets.specs.declared.words.Word.{Word}
-use Rattle.mine_classes.specs.Conditional.{kept_place}
+use Rattle.mine_classes.specs.Conditional.{kept_basket}
 use Rattle.mine_baskets.specs.ListBaskets.{HaveSameWeights}
-use Rattle.mine_baskets.specs.Words.{word_places}
+use Rattle.mine_baskets.specs.Words.{word_baskets}
 use Rattle.mine_conditional.proofs.WordPathLemmas.{below_with, below_without, none}
 use Rattle.mine_conditional.proofs.word_paths.words_below.Goals as goal
 use Rattle.mine_conditional.proofs.word_paths.words_below.Goals.{then-has+in_ok-add, else-has}
@@ -31,7 +31,7 @@ loop-word-preserved c =
             some = subst (All (λ (word : Word). 1 ≤ word.weight)) items now.some;
             light = subst (λ l. sum_by (λ (word : Word). word.weight) l ≤ sum_by (λ (word : Word). word.weight) (take (i + 1) words)) items (omega (arith, now.light, so_far.light, more));
             weights = λ count low.
-                subst (λ l. HaveSameWeights (flat_map (kept_place (has kept) rank) (word_places count (take (i + 1) words))) (map (decoded_place kept) (word_places (length kept) l))) items
+                subst (λ l. HaveSameWeights (flat_map (kept_basket (has kept) rank) (word_baskets count (take (i + 1) words))) (map (decoded_basket kept) (word_baskets (length kept) l))) items
                 (below_with kept count rank words i here low (sym c.has.ensures ∙ w.if-has.true) (λ other h. let less = c.requires.below other h in omega (arith, less, low))
                 old w.add.new.words.items w.local_bits-bits.result
                 (λ number less. w.local_bits-bits.ensures number (omega (arith, less, length-map c.args.pairs.now (λ (pair : ℕ × ℕ). pair.0))))
@@ -43,13 +43,13 @@ loop-word-preserved c =
             some = subst (All (λ (word : Word). 1 ≤ word.weight)) items so_far.some;
             light = subst (λ l. sum_by (λ (word : Word). word.weight) l ≤ sum_by (λ (word : Word). word.weight) (take (i + 1) words)) items (omega (arith, so_far.light, more));
             weights = λ count low.
-                subst (λ l. HaveSameWeights (flat_map (kept_place (has kept) rank) (word_places count (take (i + 1) words))) (map (decoded_place kept) (word_places (length kept) l))) items
-                (below_without kept count rank words i here low (sym c.has.ensures ∙ w.if-has.false) (map (decoded_place kept) (word_places (length kept) old)) (so_far.weights count low));
+                subst (λ l. HaveSameWeights (flat_map (kept_basket (has kept) rank) (word_baskets count (take (i + 1) words))) (map (decoded_basket kept) (word_baskets (length kept) l))) items
+                (below_without kept count rank words i here low (sym c.has.ensures ∙ w.if-has.false) (map (decoded_basket kept) (word_baskets (length kept) old)) (so_far.weights count low));
           })
     ]
 
 pub returns-clause-weights : goal.returns-clause-weights
 returns-clause-weights c = λ count low.
     let kept = map (λ (pair : ℕ × ℕ). pair.0) c.args.pairs.now in
-    subst (λ l. HaveSameWeights (flat_map (kept_place (has kept) c.args.rank) (word_places count l)) (map (decoded_place kept) (word_places (length kept) c.loop-word.below.items)))
+    subst (λ l. HaveSameWeights (flat_map (kept_basket (has kept) c.args.rank) (word_baskets count l)) (map (decoded_basket kept) (word_baskets (length kept) c.loop-word.below.items)))
     (take_all c.loop-word.word-index c.args.words.now c.loop-word-test.false) (c.loop-word.invariant.weights count low)

@@ -1,15 +1,11 @@
-use Rattle.std.proofs.Common.{◌≡◌, ◌<◌, ◌≤◌, ◌++◌, ◌∷◌, [], ℕ, true, false, cond, get_or, leb, map, sym, ap, ◌∙◌, arith, add-one, zero-add, append-nil}
+use Rattle.std.proofs.Common.{◌≡◌, ◌<◌, ◌≤◌, ◌++◌, ◌∷◌, [], ℕ, false, cond, get_or, map, sym, ap, ◌∙◌, arith, add-one, zero-add, append-nil}
 use Rattle.std.proofs.lemmas.Grind.{common_steps}
 use Rattle.std.specs.List.{filter, range_with_len}
-use Rattle.std.proofs.lemmas.Bool.{and_from, le-leb}
 use Rattle.std.proofs.lemmas.List.Elements.{filter-append}
 use Rattle.mine_pairs.specs.Sums.{is_met}
 use Rattle.mine_pairs.proofs.sums.met_in_order.Goals as goal
 use Rattle.mine_pairs.proofs.sums.met_in_order.Goals.{then-sum-ge1+then-sum-least+in_ok-push, else-sum-ge1, else-sum-ge1-via-then-sum-ge1+else-sum-least, else-sum-ge1-via-else-sum-ge1}
 use Rattle.basket_sets.proofs.theory.Ranges.{range_more}
-
-met_sum : (least sum : ℕ) → 1 ≤ sum → least ≤ sum → is_met least sum ≡ true
-met_sum least sum one enough = and_from (leb 1 sum) (leb least sum) (le-leb 1 sum one) (le-leb least sum enough)
 
 no_sum : (least sum : ℕ) → sum < 1 → is_met least sum ≡ false
 no_sum least sum none = grind (arith, common_steps)

@@ -2,7 +2,7 @@ use Rattle.std.proofs.Common.{◌≡◌, ◌≢◌, ℕ, ◌+◌, ◌<◌, List,
 use Rattle.std.proofs.lemmas.Grind.{common_steps}
 use Rattle.std.proofs.lemmas.Bool.{eq-eqb}
 use Rattle.basket_sets.specs.Itemset.{has}
-use Rattle.basket_sets.proofs.theory.Rising.{has_more, has_place}
+use Rattle.basket_sets.proofs.theory.Rising.{has_more, has_at}
 use Rattle.basket_sets.proofs.theory.Tests.{apart_eqb, or_false, or_true}
 use Rattle.mine_rows.specs.Bits.{word_count, words_from}
 use Rattle.mine_rows.proofs.PlaneLemmas.{word_is_there}
@@ -26,7 +26,7 @@ set-requires c =
     let cover = c.args.cover.now in
     let i = c.loop-tid.tid-index in
     let words = ap length c.loop-tid.invariant ∙ length-words (has (take i cover)) 0 (word_count c.args.tids) in
-    let there = word_is_there (get_or cover i 0) c.args.tids (c.requires (get_or cover i 0) (has_place cover i c.loop-tid-test.true)) in
+    let there = word_is_there (get_or cover i 0) c.args.tids (c.requires (get_or cover i 0) (has_at cover i c.loop-tid-test.true)) in
     omega (arith, words, there)
 
 pub loop-tid-preserved : goal.loop-tid-preserved

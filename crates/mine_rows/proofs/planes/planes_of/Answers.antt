@@ -6,7 +6,7 @@ use Rattle.std.proofs.lemmas.List.{map-append}
 use Rattle.std.proofs.lemmas.List.Elements.{All-push}
 use Rattle.mine_rows.specs.Planes.{bits_of, has_bit}
 use Rattle.mine_rows.proofs.planes.planes_of.Goals as goal
-use Rattle.mine_rows.proofs.planes.planes_of.Goals.{then-bits-bit-eq1+in_ok-plane_of+in_ok-push, else-bits-bit-eq1}
+use Rattle.mine_rows.proofs.planes.planes_of.Goals.{then-bits-bit-eq1+in_ok-plane_of+in_ok-push}
 use Rattle.basket_sets.proofs.theory.Ranges.{range_drops, range_keeps}
 
 pub loop-bit-preserved : goal.loop-bit-preserved

@@ -1,5 +1,5 @@
 use Rattle.std.proofs.Common.{◌≡◌, List, ℕ, length, map, subst, sym, ap, ◌∙◌}
-use Rattle.basket_ranks.specs.Codes.{decoded_place}
+use Rattle.basket_ranks.specs.Codes.{decoded_basket}
 use Rattle.basket_sets.specs.declared.weighted.Weighted.{Weighted}
 use Rattle.mine_baskets.specs.ListBaskets.{HaveSameWeights}
 use Rattle.mine_baskets.proofs.theory.Weights.{decoded_weights}
@@ -32,7 +32,7 @@ returns-clause-siblings g c =
       conditional = record {
         ranks = ap length ranks;
         ranked = local.ranked;
-        weights = subst (λ l. HaveSameWeights (conditional least all rank) (map (decoded_place (kept_ranks all least rank)) l)) (sym c.in_ok-made.ensures.baskets)
+        weights = subst (λ l. HaveSameWeights (conditional least all rank) (map (decoded_basket (kept_ranks all least rank)) l)) (sym c.in_ok-made.ensures.baskets)
             (λ test. below.weights test ∙ decoded_weights (kept_ranks all least rank) (conditional_baskets c.in_ok-below.below).baskets merged c.in_ok-merged.ensures.weights test);
       };
       over = c.in_ok-made.ensures.over;

@@ -1,13 +1,8 @@
-use Rattle.std.proofs.Common.{◌<◌, ◌-◌, ℕ, List, length, map, slice_index_or, get_or, sym, subst, arith}
+use Rattle.std.proofs.Common.{◌<◌, ◌-◌, ℕ, List, length, get_or, sym, subst, arith}
 use Rattle.std.proofs.lemmas.Grind.{common_steps}
 use Rattle.std.proofs.lemmas.List.{drop_more}
-use Rattle.basket_sets.specs.Itemset.{rising}
-use Rattle.basket_sets.proofs.theory.Rising.{has_place}
+use Rattle.basket_sets.proofs.theory.Rising.{has_at}
 use Rattle.basket_lists.proofs.known.KnownItems.pack_renamed.Goals as goal
-
--- the set of the names of some numbers
-abbrev named : List ℕ → List ℕ → List ℕ
-named names numbers = rising (map (λ number. slice_index_or names number 0) numbers)
 
 pub loop-left-init : goal.loop-left-init
 loop-left-init c = grind (arith, common_steps)
@@ -18,7 +13,7 @@ bounds-names-items c =
     let at = c.loop-left.left - 1 in
     let same = c.items-items.ensures.items in
     let inside : at < length numbers = omega (arith, c.loop-left.invariant.3, c.loop-left-test.true) in
-    subst (λ (items : List ℕ). get_or items at 0 < length c.args.names.now) (sym same) (c.requires (get_or numbers at 0) (has_place numbers at inside))
+    subst (λ (items : List ℕ). get_or items at 0 < length c.args.names.now) (sym same) (c.requires (get_or numbers at 0) (has_at numbers at inside))
 
 pub longer-requires : goal.longer-requires
 longer-requires c = c.loop-left.invariant.0

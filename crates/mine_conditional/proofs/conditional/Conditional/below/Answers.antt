@@ -1,7 +1,7 @@
 use Rattle.std.proofs.Common.{◌≡◌, ℕ, List, length, map, subst, ap, ◌∙◌, arith}
 use Rattle.std.proofs.lemmas.Grind.{common_steps}
 use Rattle.basket_sets.specs.declared.weighted.Weighted.{Weighted}
-use Rattle.basket_ranks.specs.Codes.{coded_place}
+use Rattle.basket_ranks.specs.Codes.{coded_basket}
 use Rattle.mine_conditional.specs.Conditional.{conditional_baskets}
 use Rattle.mine_baskets.specs.Baskets.{baskets_in}
 use Rattle.mine_baskets.specs.ListBaskets.{HaveSameWeights}
@@ -26,7 +26,7 @@ returns-clause-below c =
     let paths = c.of_rank-paths.result in
     let kept = c.deref.ensures.value ∙ firsts baskets c.args.least c.args.rank c.args.pairs.now c.in_ok-kept.kept.items c.requires.pairs c.in_ok-kept.ensures in
     let others = (conditional_baskets c.in_ok-below.below).baskets in
-    let same = subst (λ l. HaveSameWeights (map (coded_place l) (baskets_in paths)) others) kept c.in_ok-below.ensures.weights in
+    let same = subst (λ l. HaveSameWeights (map (coded_basket l) (baskets_in paths)) others) kept c.in_ok-below.ensures.weights in
     record {
       ranks = c.in_ok-below.ensures.ranks ∙ ap length kept;
       ranked = c.in_ok-below.ensures.ranked;

@@ -1,9 +1,9 @@
 use Rattle.std.proofs.Common.{length, map, subst, sym, ap, ◌∙◌, arith}
 use Rattle.std.proofs.lemmas.Result.{IfOk-weaker}
-use Rattle.basket_ranks.specs.Codes.{coded_place}
+use Rattle.basket_ranks.specs.Codes.{coded_basket}
 use Rattle.mine_baskets.specs.Baskets.{baskets_in}
 use Rattle.mine_baskets.specs.ListBaskets.{HaveSameWeights, weight_where}
-use Rattle.mine_baskets.specs.Words.{word_places}
+use Rattle.mine_baskets.specs.Words.{word_baskets}
 use Rattle.mine_conditional.specs.BitTable.{AreBits}
 use Rattle.mine_conditional.proofs.BitLemmas.{table_words_coded}
 use Rattle.std.proofs.lemmas.List.{with_items_is}
@@ -16,5 +16,5 @@ returns-clause-weights c =
     let table = c.self.inside.bits in
     let whole = c.deref.ensures.value ∙ with_items_is table c.set_bits.new.of (omega (arith, table.ok, c.set_bits.auto.of, c.deref_mut.ensures.len)) in
     let coded = table_words_coded kept c.deref.result.now c.args.baskets.count baskets c.requires.rises c.requires.few (subst (AreBits kept) (sym whole) c.set_bits.ensures) c.args.baskets.ranked.places in
-    IfOk-weaker c.of.result (λ words. HaveSameWeights (word_places (length kept) c.in_ok-words.field-0.items) words.baskets) (λ words. HaveSameWeights (map (coded_place kept) baskets) words.baskets)
+    IfOk-weaker c.of.result (λ words. HaveSameWeights (word_baskets (length kept) c.in_ok-words.field-0.items) words.baskets) (λ words. HaveSameWeights (map (coded_basket kept) baskets) words.baskets)
     (λ words same test. ap (weight_where test) (sym coded) ∙ c.in_ok-words.ensures.weights (length kept) test ∙ same test) c.of.ensures.weights

@@ -1,14 +1,14 @@
 use Rattle.std.proofs.Common.{◌&&◌, get_or, not, subst, ◌∙◌, arith}
 use Rattle.std.proofs.lemmas.List.{length-set, take_all}
 use Rattle.basket_sets.specs.Itemset.{has}
-use Rattle.basket_sets.proofs.theory.Rising.{has_place}
+use Rattle.basket_sets.proofs.theory.Rising.{has_at}
 use Rattle.mine_rows.specs.Marks.{IsMarked}
 use Rattle.mine_rows.proofs.MarkLemmas.{one_cleared}
 use Rattle.mine_rows.proofs.marks.Marks.clear.Goals as goal
 
 pub index_mut-requires : goal.index_mut-requires
 index_mut-requires c =
-    let below = c.requires (get_or c.args.tids.now c.loop-tid.tid-index 0) (has_place c.args.tids.now c.loop-tid.tid-index c.loop-tid-test.true) in
+    let below = c.requires (get_or c.args.tids.now c.loop-tid.tid-index 0) (has_at c.args.tids.now c.loop-tid.tid-index c.loop-tid-test.true) in
     omega (arith, below, c.loop-tid.invariant.long, c.loop-tid.self.weights.ok.0)
 
 pub loop-tid-preserved : goal.loop-tid-preserved
@@ -18,7 +18,7 @@ loop-tid-preserved c =
     let i = c.loop-tid.tid-index in
     let tid = get_or tids i 0 in
     let here = c.loop-tid-test.true in
-    let below = c.requires tid (has_place tids i here) in
+    let below = c.requires tid (has_at tids i here) in
     record {
       long = length-set items tid 0 ∙ c.loop-tid.invariant.long;
       marked = λ weights test is.

@@ -3,13 +3,13 @@ use mir.Val.{bool_byte}
 use Rattle.std.proofs.Math.ListN.{set}
 use Rattle.std.proofs.lemmas.List.{get_or_default, length-set}
 use Rattle.std.proofs.lemmas.List.Sums.{sum_by_more, sum_by_more_le}
-use Rattle.basket_sets.proofs.theory.Rising.{has_place}
+use Rattle.basket_sets.proofs.theory.Rising.{has_at}
 use Rattle.mine_rows.proofs.MarkLemmas.{most_one, put_down}
 use Rattle.mine_rows.proofs.marks.Marks.keep.Goals as goal
 
 pub index-weight-requires : goal.index-weight-requires
 index-weight-requires c =
-    let below = c.requires.below (get_or c.args.tids.now c.loop-tid.tid-index 0) (has_place c.args.tids.now c.loop-tid.tid-index c.loop-tid-test.true) in
+    let below = c.requires.below (get_or c.args.tids.now c.loop-tid.tid-index 0) (has_at c.args.tids.now c.loop-tid.tid-index c.loop-tid-test.true) in
     omega (arith, below, c.args.self.now.weights.ok.0)
 
 pub overflow_add-sum : goal.overflow_add-sum
@@ -19,7 +19,7 @@ overflow_add-sum c =
     let i = c.loop-tid.tid-index in
     let tid = get_or tids i 0 in
     let here = c.loop-tid-test.true in
-    let below = c.requires.below tid (has_place tids i here) in
+    let below = c.requires.below tid (has_at tids i here) in
     let read = c.index-weight.ensures ∙ get_or_default items tid c.index-weight.result.now 0 below in
     let more = sum_by_more_le (λ p. get_or items p 0) tids i 0 here in
     omega (arith, read, more, c.requires.light, c.loop-tid.invariant.sum)
@@ -33,7 +33,7 @@ loop-tid-preserved c =
     let kept = c.loop-tid.kept.items in
     let tid = get_or tids i 0 in
     let here = c.loop-tid-test.true in
-    let below = c.requires.below tid (has_place tids i here) in
+    let below = c.requires.below tid (has_at tids i here) in
     let read = c.index-weight.ensures ∙ get_or_default items tid c.index-weight.result.now 0 below in
     let test = λ (p : ℕ). ltb 0 (get_or items p 0) in
     let counted : c.from-count.result ≡ bool_byte (test tid) = c.from-count.ensures ∙ ap (λ n. bool_byte (ltb 0 n)) read in
@@ -52,6 +52,6 @@ returns-then-sum-most-clause-more c =
     let i = c.loop-tid.tid-index in
     let tid = get_or tids i 0 in
     let here = c.loop-tid-test.true in
-    let below = c.requires.below tid (has_place tids i here) in
+    let below = c.requires.below tid (has_at tids i here) in
     let read = c.index-weight.ensures ∙ get_or_default items tid c.index-weight.result.now 0 below in
     omega (arith, read, sum_by_more_le (λ p. get_or items p 0) tids i 0 here, c.if-sum-most.true, c.loop-tid.invariant.sum)

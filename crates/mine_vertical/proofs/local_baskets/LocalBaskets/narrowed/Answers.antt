@@ -1,7 +1,7 @@
 use Rattle.std.proofs.Common.{◌≡◌, true, get_or, length, map, subst, sym, ap, ◌∙◌, arith}
 use Rattle.std.specs.Prelude.{All}
 use Rattle.std.proofs.lemmas.List.{length-map}
-use Rattle.basket_ranks.specs.Codes.{coded_place}
+use Rattle.basket_ranks.specs.Codes.{coded_basket}
 use Rattle.basket_sets.specs.Itemset.{has}
 use Rattle.basket_sets.proofs.theory.Rising.{Member-from_has}
 use Rattle.mine_baskets.specs.Covers.{cover_of}
@@ -41,5 +41,5 @@ returns-clause-narrowed g c = λ set cover.
     let chosen = c.deref-4.result.now in
     narrowed_is local set chosen (c.deref-4.ensures.value ∙ c.in_ok-spans.ensures no_span ∙ (λ i. map (λ tid. get_or (c.deref.ensures.value i) tid no_span) (cover i))) kept c.in_ok-made.made.0
     (ap (λ v. v.items) c.in_ok-made.ensures.ranks ∙ c.in_ok-ranks.ensures 0 ∙ ap (λ l. named l kept) c.deref-2.ensures.value)
-    (λ test. ap (λ numbers. weight_where test (map (coded_place kept) (baskets_at numbers chosen))) (sym c.deref-3.ensures.value)
+    (λ test. ap (λ numbers. weight_where test (map (coded_basket kept) (baskets_at numbers chosen))) (sym c.deref-3.ensures.value)
     ∙ c.in_ok-below.ensures.weights test ∙ c.in_ok-merged.ensures.weights test ∙ ap (weight_where test) (sym c.in_ok-made.ensures.baskets))
