@@ -22,7 +22,6 @@ numbers_on = numbers_joined 40 refl refl
 -- ---- a line that is cut at each `(`
 
 module _ (old : SetLine) (line : List ℕ) (so_far : IsLineSoFar old line) where
-
   abbrev last : List ℕ
   last = (cut_at is_open line).last
 

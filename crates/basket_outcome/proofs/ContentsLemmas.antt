@@ -7,7 +7,6 @@ use Rattle.basket_read.specs.declared.fault.ReadFault.{ReadFault}
 use Rattle.basket_outcome.specs.declared.contents.Contents.{Contents}
 
 module _ {A : Type 0} (say : A → Contents) where
-
   -- contents that are made of what was read
   pub contents_read : (defined : List ℕ → Result A ReadFault) (fails : ReadFault → Type 0) (left : Option (List ℕ)) (failed : Bool) (read : Result A ReadFault) (result : Result Contents ReadFault)
       → result ≡ result_and_then (λ a. Ok (say a)) read → Reads IsDefined defined fails left failed read

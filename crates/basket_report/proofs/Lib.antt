@@ -2,6 +2,5 @@ mod BytesLemmas
 mod Fronts
 mod RoomLemmas
 mod RuleLemmas
-mod SetLemmas
 mod TableLemmas
 mod TextLemmas

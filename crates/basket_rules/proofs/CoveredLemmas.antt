@@ -46,7 +46,6 @@ pub sees_one_more : (from number items : ℕ) → SeesOneMore (WasSeen from numb
 sees_one_more h1 h2 h3 h4 h5 h6 = grind (arith, common_steps)
 
 module _ (list : List Counted) (supersets : Supersets) where
-
   pub all_items : (from number items : ℕ) (marks : List Bool) → length (set_at list number) ≤ items → AreMarks list supersets (WasSeen from number items) marks → AreMarks list supersets (IsBetween from (number + 1)) marks
   all_items from number items marks whole = grind (arith, common_steps)
 

@@ -63,7 +63,9 @@ impl<'a> PatternBase<'a> {
             return Ok(None);
         }
         let numbers = &mut scratch.numbers;
-        let conditional = self.paths.below(alloc, numbers, number, self.least, &ranks)?;
+        let conditional = self
+            .paths
+            .below(alloc, numbers, number, self.least, &ranks)?;
         let paths = Paths::of(alloc, conditional)?;
         rename(&mut ranks, &self.ranks);
         Ok(Some(PatternBase {

@@ -1,2 +1,0 @@
--- The lines of sets, one after another.
-use Rattle.std.proofs.Common.{◌≡◌, ℕ, ◌+◌, ◌<◌, [], ◌++◌}
