@@ -4,3 +4,5 @@ mod BranchLemmas
 mod NumberLemmas
 mod RankSumLemmas
 mod WordPathLemmas
+mod FewLemmas
+mod ShiftLemmas

@@ -42,17 +42,6 @@ has_in count bits rank low = same_test (has (ranks_in count bits) rank) (has_ran
 pub in_below : (count bits rank : ℕ) → Member rank (ranks_in count bits) → rank < count
 in_below count bits rank m = let high = (Member-range 0 count rank (Member-filter (has_rank bits) rank (range_with_len 0 count) m).0).1 in omega arith
 
--- ---- bits that are moved
-
-one_bit : (own : Bool) (at index : ℕ) → at < WORD_RANKS → index < WORD_RANKS → has_rank (bool_byte own * 2 ^ (63 - at) % 18446744073709551616) index ≡ (own && eqb at index)
-one_bit true at index low within = ap (λ n. has_rank n index) (one_shl (63 - at) 64 (omega arith)) ∙ one_rank at index low within
-one_bit false at index low within = let none : 0 * 2 ^ (63 - at) % 18446744073709551616 ≡ 0 = omega arith in ap (λ n. has_rank n index) none ∙ ap (λ n. eqb n 1) (bit_at-zero (63 - index))
-
--- those of the indexes so far, with one more
-pub bits_more : (own : ℕ → Bool) (bits at new : ℕ) → at < WORD_RANKS → new ≡ bit_or bits (bool_byte (own at) * 2 ^ (63 - at) % 18446744073709551616)
-    → ((index : ℕ) → index < WORD_RANKS → has_rank bits index ≡ (ltb index at && own index)) → (index : ℕ) → index < WORD_RANKS → has_rank new index ≡ (ltb index (at + 1) && own index)
-bits_more own bits at new low is before index within = grind (arith, common_steps, has_either, one_bit, nat_tests)
-
 -- ---- what words weigh
 
 two_ranks : (a b : Bool) (weight : ℕ) → cond (a && (b && true)) weight 0 ≡ cond b (cond a weight 0) 0

@@ -4,3 +4,5 @@ pub mod LocalNumbers
 pub mod ClassScratch
 pub mod WordPaths
 pub mod Conditional
+pub mod Shift
+pub mod Few

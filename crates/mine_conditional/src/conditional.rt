@@ -5,6 +5,7 @@ ghost use Rattle.mine_conditional.specs.Conditional.{conditional_baskets};
 ghost use Rattle.mine_pairs.specs.Pairs.{pairs_of};
 ghost use Rattle.mine_conditional.specs.Paths.{IsConditional};
 
+use crate::few::below_few;
 use crate::local_numbers::LocalNumbers;
 use mine_baskets::{ListBaskets, WordBaskets};
 use mine_pairs::Runs;
@@ -51,6 +52,10 @@ impl Conditional {
         ensures numbers { numbers.new ≡ numbers.old }
     {
         let paths = runs.of_rank(rank);
+        if pairs.len() <= 1 {
+            let below = below_few(alloc, runs.support(rank), pairs)?;
+            return Ok(Conditional::Words(below));
+        }
         let kept = ranks_of(alloc, pairs)?;
         let below = numbers.coded(alloc, &kept, paths)?;
         Ok(below)

@@ -10,10 +10,11 @@ ghost use Rattle.mine_baskets.specs.declared.words.Word.{Word as Bits};
 ghost use Rattle.mine_classes.specs.Conditional.{kept_basket};
 ghost use Rattle.mine_baskets.specs.ListBaskets.{AreRankBaskets, HaveSameWeights};
 ghost use Rattle.mine_pairs.specs.Pairs.{pairs_of};
-ghost use Rattle.mine_baskets.specs.Words.{AreInOrder, has_rank, ranks_in, word_baskets};
+ghost use Rattle.mine_baskets.specs.Words.{AreInOrder, ranks_in, word_baskets};
 ghost use Rattle.mine_conditional.specs.WordPaths.{pair_weight, rank_weight};
 ghost use Rattle.mine_conditional.specs.Paths.{is_branch};
 
+use crate::shift::{shift_all, shifts_of};
 use mine_baskets::WordBaskets;
 use mine_baskets::words::{self, WORD_RANKS, Word};
 use mine_pairs::met_in_order;
@@ -158,27 +159,14 @@ fn words_below(
         → HaveSameWeights (flat_map (kept_basket (has (map (λ pair. pair.0) pairs.now)) rank) (word_baskets count words.now))
         (map (decoded_basket (map (λ pair. pair.0) pairs.now)) (word_baskets (length (map (λ pair. pair.0) pairs.now)) below.items))) }
 {
+    let shifts = shifts_of(alloc, pairs)?;
     let mut below = Vec::with_capacity(alloc, words.len())?;
     for word in words {
         if word.has(rank) {
-            let bits = local_bits(word, pairs);
+            let bits = shift_all(word.bits, shifts.as_slice());
             let weight = word.weight;
             words::add(&mut below, Word { bits, weight })?;
         }
     }
     Ok(below)
-}
-
-/// The bits of the ranks of some pairs that a word has, each as that of the pair's index. Which ranks
-/// it has can't be predicted, so a branch would cost more.
-fn local_bits(word: &Word, pairs: &[(u32, u64)]) -> u64
-    requires few { length pairs.now ≤ WORD_RANKS }
-    requires below { AllBelow WORD_RANKS (map (λ pair. pair.0) pairs.now) }
-    ensures { (index : ℕ) → index < length pairs.now → has_rank result index ≡ has_rank word.now.bits (slice_index (map (λ pair. pair.0) pairs.now) index) }
-{
-    let mut bits = 0;
-    for (index, pair) in pairs.iter().enumerate() {
-        bits |= u64::from(word.has(pair.0)) << (63 - index);
-    }
-    bits
 }

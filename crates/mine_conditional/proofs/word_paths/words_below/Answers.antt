@@ -1,4 +1,4 @@
-use Rattle.std.proofs.Common.{ℕ, ◌≤◌, ◌+◌, length, map, take, sym, subst, ap, ◌∙◌, arith}
+use Rattle.std.proofs.Common.{ℕ, ◌≤◌, ◌+◌, get_or, length, map, take, sym, subst, ap, ◌∙◌, arith}
 use Rattle.std.specs.Prelude.{All}
 use Rattle.std.specs.List.{flat_map, sum_by}
 use Rattle.std.proofs.lemmas.List.{length-map, take_all}
@@ -9,6 +9,7 @@ use Rattle.mine_baskets.specs.declared.words.Word.{Word}
 use Rattle.mine_classes.specs.Conditional.{kept_basket}
 use Rattle.mine_baskets.specs.ListBaskets.{HaveSameWeights}
 use Rattle.mine_baskets.specs.Words.{word_baskets}
+use Rattle.mine_conditional.proofs.ShiftLemmas.{bits_brought}
 use Rattle.mine_conditional.proofs.WordPathLemmas.{below_with, below_without, none}
 use Rattle.mine_conditional.proofs.word_paths.words_below.Goals as goal
 use Rattle.mine_conditional.proofs.word_paths.words_below.Goals.{then-has+in_ok-add, else-has}
@@ -33,8 +34,8 @@ loop-word-preserved c =
             weights = λ count low.
                 subst (λ l. HaveSameWeights (flat_map (kept_basket (has kept) rank) (word_baskets count (take (i + 1) words))) (map (decoded_basket kept) (word_baskets (length kept) l))) items
                 (below_with kept count rank words i here low (sym c.has.ensures ∙ w.if-has.true) (λ other h. let less = c.requires.below other h in omega (arith, less, low))
-                old w.add.new.words.items w.local_bits-bits.result
-                (λ number less. w.local_bits-bits.ensures number (omega (arith, less, length-map c.args.pairs.now (λ (pair : ℕ × ℕ). pair.0))))
+                old w.add.new.words.items w.shift_all-bits.result
+                (bits_brought kept c.in_ok-shifts.shifts.items w.as_slice.result.now (get_or words i none).bits w.shift_all-bits.result c.in_ok-shifts.ensures w.as_slice.ensures (omega (arith, c.requires.few, length-map c.args.pairs.now (λ (pair : ℕ × ℕ). pair.0))) w.shift_all-bits.ensures)
                 (so_far.weights count low) (now.weights (length kept)));
           })
       | else-has w ↦
