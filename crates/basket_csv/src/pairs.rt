@@ -125,8 +125,7 @@ impl Pairs {
             groups,
             ..
         } = later;
-        let own = names.into_names()?;
-        let names = self.names.numbers_of(&own)?;
+        let names = self.names.numbers_of(names.into_names()?)?;
         let indexes = self.ids.append(ids)?;
         let mut numbers = Vec::new(self.alloc);
         for (nth, group) in groups.iter().enumerate() {

@@ -39,11 +39,8 @@ pub fn renumbered(
     let mut all = Vec::with_capacity(alloc, parts.len())?;
     for part in parts {
         let Part { names, records, .. } = part;
-        let names = names.into_names()?;
-        all.push(RenumberedRecords {
-            records,
-            names: known.numbers_of(&names)?,
-        })?;
+        let names = known.numbers_of(names.into_names()?)?;
+        all.push(RenumberedRecords { records, names })?;
     }
     Ok(all)
 }

@@ -81,7 +81,6 @@ impl Ids {
         ensures numbers { IfOk result (λ numbers. numbers.items ≡ map (number_in self.new) ids) }
     {
         self.last = FREE;
-        let ids = ids.numbering.into_names()?;
-        self.numbering.numbers_of(&ids)
+        self.numbering.numbers_of(ids.numbering.into_names()?)
     }
 }

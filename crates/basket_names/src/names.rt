@@ -1,5 +1,6 @@
 //! Names, and their numbers by first appearance.
 ghost use Rattle.std.specs.Prelude.{◌≡◌, ◌↔◌, [], fold, length, map, slice_get, option_map, IsTrue, IfOk, IfSome, OnOk};
+ghost use Rattle.std.specs.String.{string_bytes};
 ghost use Rattle.basket_names.specs.Key.{IsKeyOf};
 ghost use Rattle.basket_names.specs.Names.{in_order, number_in, with_name, IsKnown};
 ghost use Rattle.basket_names.specs.Recent.{IsNumberAt};
@@ -106,14 +107,9 @@ impl Numbering {
         }
         let known = self.names.len();
         let index = self.index(name)?;
-        match u32::try_from(index) {
-            Ok(number) => {
-                self.keep(&key, name.as_bytes(), number, index < known)?;
-                Ok(number)
-            }
-            // No input is long enough for that many names.
-            Err(_) => Err(AllocError),
-        }
+        let number = as_number(index)?;
+        self.keep(&key, name.as_bytes(), number, index < known)?;
+        Ok(number)
     }
 
     /// The number of a known name, if it was found recently.
@@ -158,7 +154,16 @@ impl Numbering {
         if let Some(index) = self.names.get_index_of(name) {
             return Ok(index);
         }
-        let (index, _) = self.names.insert_full(String::from_str(self.alloc, name)?)?;
+        self.insert(String::from_str(self.alloc, name)?)
+    }
+
+    /// The index of a name, which stays as it is and is added at the end if it is new.
+    #[inline]
+    fn insert(&mut self, name: String) -> Result<usize, AllocError>
+        ensures names { OnOk result (self.new ≡ with_name self.old (string_bytes name)) }
+        ensures number { IfOk result (λ index. index ≡ number_in self.new (string_bytes name)) }
+    {
+        let (index, _) = self.names.insert_full(name)?;
         Ok(index)
     }
 
@@ -178,15 +183,26 @@ impl Numbering {
     }
 
     /// The numbers of some names, which are new or known.
-    pub fn numbers_of(&mut self, names: &Names) -> Result<Vec<u32>, AllocError>
-        ensures names { OnOk result (self.new ≡ fold with_name self.old names.now) }
-        ensures numbers { IfOk result (λ numbers. numbers.items ≡ map (number_in self.new) names.now) }
+    pub fn numbers_of(&mut self, names: Names) -> Result<Vec<u32>, AllocError>
+        ensures names { OnOk result (self.new ≡ fold with_name self.old names) }
+        ensures numbers { IfOk result (λ numbers. numbers.items ≡ map (number_in self.new) names) }
     {
         let mut numbers = Vec::with_capacity(self.alloc, names.len())?;
-        for name in &names.names {
-            numbers.push(self.number(name.as_str())?)?;
+        for name in names.names {
+            numbers.push(self.own_number(name)?)?;
         }
         Ok(numbers)
+    }
+
+    /// The number of a name, which is new or known. The text of a new one is not copied.
+    fn own_number(&mut self, name: String) -> Result<u32, AllocError>
+        ensures names { OnOk result (self.new ≡ with_name self.old (string_bytes name)) }
+        ensures number { IfOk result (λ number. number ≡ number_in self.new (string_bytes name)) }
+    {
+        match self.known(name.as_str().as_bytes()) {
+            Some(number) => Ok(number),
+            None => as_number(self.insert(name)?),
+        }
     }
 
     /// The names by their numbers.
@@ -197,5 +213,15 @@ impl Numbering {
         Ok(Names {
             names: names.into_iter().collect(alloc)?,
         })
+    }
+}
+
+/// The number of the name at an index. No input is long enough for more names than there are numbers.
+fn as_number(index: usize) -> Result<u32, AllocError>
+    ensures { IfOk result (λ number. number ≡ index) }
+{
+    match u32::try_from(index) {
+        Ok(number) => Ok(number),
+        Err(_) => Err(AllocError),
     }
 }

@@ -1,5 +1,5 @@
 -- The names of parts, numbered together.
-use Rattle.std.proofs.Common.{◌≡◌, ℕ, true, ltb, List, [], ◌∷◌, ◌++◌, map, length, fold, get_or, refl, sym, ap, ◌∙◌, arith}
+use Rattle.std.proofs.Common.{◌≡◌, ℕ, true, ltb, List, [], ◌∷◌, ◌++◌, map, length, fold, get_or, refl, ap, ◌∙◌, arith}
 use Rattle.std.proofs.lemmas.Grind.{common_steps}
 use Rattle.std.specs.List.{list_all}
 use Rattle.std.specs.Str.{bytes_eq}
@@ -7,7 +7,7 @@ use Rattle.std.proofs.lemmas.Bool.{and_parts, and_from, lt-ltb}
 use Rattle.std.proofs.lemmas.List.Sums.{fold-append}
 use Rattle.std.proofs.lemmas.Slice.Eq.{bytes_eq-Decides}
 use Rattle.basket_names.specs.Names.{with_name, in_order, number_in, is_among, are_among}
-use Rattle.basket_names.proofs.theory.Names.{known_name, among_with, among_all, all_among, at_any, numbers_stay}
+use Rattle.basket_names.proofs.theory.Names.{known_name, among_with, among_all, at_any, number_in_all}
 
 -- ---- names that were numbered apart
 
@@ -58,11 +58,9 @@ among_more_names names others (name ∷ some) e =
     let h = and_parts (is_among names name) (are_among names some) e in
     and_from (is_among (fold with_name names others) name) _ (among_all names others name h.0) (among_more_names names others some h.1)
 
-pub name_added : (before now new done next : List (List ℕ)) (name : List ℕ) (numbers more : List ℕ) (number : ℕ)
-    → next ≡ done ++ name ∷ [] → now ≡ fold with_name before done → numbers ≡ map (number_in now) done
+-- the first of the names that are left is numbered, and the others will be
+pub number_first : (now new : List (List ℕ)) (name : List ℕ) (rest : List (List ℕ)) (numbers more : List ℕ) (number : ℕ)
     → new ≡ with_name now name → number ≡ number_in new name → more ≡ numbers ++ number ∷ []
-    → (new ≡ fold with_name before next) × (more ≡ map (number_in new) next)
-name_added before now new done next name numbers more number is names numbered with number_is all =
-    let among : are_among now done ≡ true = ap (λ n. are_among n done) names ∙ all_among before done in
-    let stay : map (number_in new) done ≡ numbers = ap (λ n. map (number_in n) done) with ∙ numbers_stay now (name ∷ []) done among ∙ sym numbered in
-    grind (arith, common_steps)
+    → (fold with_name new rest ≡ fold with_name now (name ∷ rest))
+      × (more ++ map (number_in (fold with_name new rest)) rest ≡ numbers ++ map (number_in (fold with_name now (name ∷ rest))) (name ∷ rest))
+number_first now new name rest numbers more number with number_is all = grind (arith, common_steps, among_with, number_in_all)

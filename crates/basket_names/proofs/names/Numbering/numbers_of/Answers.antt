@@ -1,16 +1,13 @@
-use Rattle.std.proofs.Common.{◌++◌, ◌∷◌, [], ap, map, sym, take, ◌∙◌}
+use Rattle.std.proofs.Common.{map, arith}
 use Rattle.std.specs.String.{string_bytes}
-use Rattle.std.proofs.lemmas.List.{map_more}
-use Rattle.basket_names.proofs.theory.Together.{name_added}
+use Rattle.std.specs.Vec.Iter.{into_iter_items}
+use Rattle.basket_names.proofs.theory.Together.{number_first}
 use Rattle.basket_names.proofs.names.Numbering.numbers_of.Goals as goal
 
 pub loop-name-preserved : goal.loop-name-preserved
 loop-name-preserved c =
-    let items = c.deref-name-items.result.now in
-    let at = c.loop-name.name-index in
-    let item = c.name-item.result in
-    let next = map_more string_bytes items at item c.loop-name-test.true ∙ ap (λ name. map string_bytes (take at items) ++ string_bytes name ∷ []) (sym c.name-item.is) in
-    let (names, numbers) = name_added c.args.self.now c.loop-name.self c.number.new.self (map string_bytes (take at items)) _ c.as_str.result.now c.loop-name.numbers.items c.push.new.self.items c.in_ok-number.field-0
-    (next ∙ ap (λ name. map string_bytes (take at items) ++ name ∷ []) (sym c.as_str.ensures.value)) c.loop-name.invariant.names c.loop-name.invariant.numbers
-    c.in_ok-number.ensures.names c.in_ok-number.ensures.number c.in_ok-push.ensures.items in
-    record { names = names; numbers = numbers }
+    let before = c.loop-name.invariant in
+    let rest = map string_bytes (into_iter_items c.next.new.self) in
+    let (names, numbers) = number_first c.loop-name.self c.own_number.new.self (string_bytes c.in-Some.name) rest c.loop-name.numbers.items c.push.new.self.items c.in_ok-own_number.field-0
+    c.in_ok-own_number.ensures.names c.in_ok-own_number.ensures.number c.in_ok-push.ensures.items in
+    grind (arith)
