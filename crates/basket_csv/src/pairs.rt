@@ -75,12 +75,22 @@ fn gathered_from(alloc: Global, groups: &[Group]) -> Result<GatheredBaskets, Rea
 }
 
 /// What has been read of such records: the numbers of the names of each id.
-#[derive(Drop)]
 pub struct Pairs {
     alloc: Global,
     names: Numbering,
     ids: Ids,
     groups: Vec<Group>,
+}
+
+impl Drop for Pairs {
+    fn drop(self) {
+        let Pairs {
+            alloc: _,
+            names: _,
+            ids: _,
+            groups: _,
+        } = self;
+    }
 }
 
 impl Pairs {
@@ -120,10 +130,10 @@ impl Pairs {
             return Ok(());
         }
         let Pairs {
+            alloc: _,
             names,
             ids,
             groups,
-            ..
         } = later;
         let names = self.names.numbers_of(names.into_names()?)?;
         let indexes = self.ids.append(ids)?;

@@ -59,11 +59,20 @@ impl Names {
 }
 
 /// The names so far, by which new ones are numbered. If one can't be numbered, all are lost.
-#[derive(Drop)]
 pub struct Numbering {
     alloc: Global,
     names: IndexSet<String, Seed>,
     recent: Recent,
+}
+
+impl Drop for Numbering {
+    fn drop(self) {
+        let Numbering {
+            alloc: _,
+            names: _,
+            recent: _,
+        } = self;
+    }
 }
 
 impl Model for Numbering {
@@ -209,7 +218,11 @@ impl Numbering {
     pub fn into_names(self) -> Result<Names, AllocError>
         ensures { IfOk result (λ names. names ≡ self) }
     {
-        let Numbering { alloc, names, .. } = self;
+        let Numbering {
+            alloc,
+            names,
+            recent: _,
+        } = self;
         Ok(Names {
             names: names.into_iter().collect(alloc)?,
         })

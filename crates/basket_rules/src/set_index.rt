@@ -14,7 +14,7 @@ use std::alloc::{AllocError, Global};
 
 /// What a thread keeps from union to union while it makes the rules of a list: a table of the indexes of
 /// its sets, which threads share, and room that is used again. No rule depends on it.
-#[derive(Debug, Drop)]
+#[derive(Debug)]
 pub struct SetIndex<'a> {
     pub(crate) table: &'a IndexTable,
     /// The items of the set that was looked at last, if it is kept as a word.
@@ -23,6 +23,17 @@ pub struct SetIndex<'a> {
     pub(crate) hashes: ItemHashes,
     /// The items of the sides of the last rule.
     pub sides: Sides,
+}
+
+impl Drop for SetIndex<'_> {
+    fn drop(self) {
+        let SetIndex {
+            table: _,
+            room: _,
+            hashes: _,
+            sides: _,
+        } = self;
+    }
 }
 
 /// The indexes of the sets of a list by their hashes.

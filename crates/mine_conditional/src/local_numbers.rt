@@ -19,12 +19,18 @@ use std::alloc::{AllocError, Global};
 use std::marker::Model;
 
 /// A local number for each rank, used again from rank to rank, and by databases of fewer ranks.
-#[derive(Debug, Drop)]
+#[derive(Debug)]
 pub struct LocalNumbers {
     /// An empty slot for each rank.
     of: Vec<Option<u32>>,
     /// No bits for each rank.
     bits: Vec<u64>,
+}
+
+impl Drop for LocalNumbers {
+    fn drop(self) {
+        let LocalNumbers { of: _, bits: _ } = self;
+    }
 }
 
 impl Model for LocalNumbers {

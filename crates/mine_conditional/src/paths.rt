@@ -18,9 +18,15 @@ use std::marker::Model;
 
 /// Baskets from which the classes of ranks are mined: those of a conditional database as words if
 /// there are at most 64 ranks, else by the runs of each rank. Below words all is words.
-#[derive(Debug, Drop)]
+#[derive(Debug)]
 pub struct Paths {
     form: PathsForm,
+}
+
+impl Drop for Paths {
+    fn drop(self) {
+        let Paths { form: _ } = self;
+    }
 }
 
 #[derive(Debug, Drop)]

@@ -7,10 +7,19 @@ use mine_pairs::Sums;
 use std::alloc::{AllocError, Global};
 
 /// A local number and a sum for each rank, used again from rank to rank, and by databases of fewer ranks.
-#[derive(Debug, Drop)]
+#[derive(Debug)]
 pub struct ClassScratch {
     pub sums: Sums,
     pub numbers: LocalNumbers,
+}
+
+impl Drop for ClassScratch {
+    fn drop(self) {
+        let ClassScratch {
+            sums: _,
+            numbers: _,
+        } = self;
+    }
 }
 
 impl ClassScratch {

@@ -14,12 +14,23 @@ use std::alloc::{AllocError, Global};
 /// The conditional pattern base of a set (Han, Pei and Yin 2000): the paths of the ranks that are
 /// frequent together with it, which have numbers from 0 on there, and by number each of these ranks
 /// with the support of the set with it.
-#[derive(Debug, Drop)]
+#[derive(Debug)]
 pub struct PatternBase<'a> {
     pub coded: &'a Coded,
     pub paths: Paths,
     pub ranks: Vec<(u32, u64)>,
     pub least: u64,
+}
+
+impl Drop for PatternBase<'_> {
+    fn drop(self) {
+        let PatternBase {
+            coded: _,
+            paths: _,
+            ranks: _,
+            least: _,
+        } = self;
+    }
 }
 
 /// How many conditional trees were made. Only the call that makes one adds to it.

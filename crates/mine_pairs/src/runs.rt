@@ -18,7 +18,7 @@ use std::marker::Model;
 /// occurrence of the rank after some others: the ranks before it are its path, and its weight is
 /// that of the neighbours that share the path and the rank. If baskets with a common prefix are
 /// neighbours, a run is a node of their prefix tree (Han, Pei and Yin 2000).
-#[derive(Debug, Drop)]
+#[derive(Debug)]
 pub struct Runs {
     count: u32,
     ranks: Vec<u32>,
@@ -28,6 +28,19 @@ pub struct Runs {
     /// The frequent pairs of each rank by a least support, or of none.
     pairs: Vec<Vec<(u32, u64)>>,
     least: u64,
+}
+
+impl Drop for Runs {
+    fn drop(self) {
+        let Runs {
+            count: _,
+            ranks: _,
+            baskets: _,
+            of: _,
+            pairs: _,
+            least: _,
+        } = self;
+    }
 }
 
 impl Model for Runs {

@@ -13,11 +13,17 @@ use std::alloc::{AllocError, Global};
 use std::marker::Model;
 
 /// A sum for each rank, used again from rank to rank, and by databases of fewer ranks.
-#[derive(Debug, Drop)]
+#[derive(Debug)]
 pub struct Sums {
     /// A sum of 0 for each rank.
     sums: Vec<u64>,
     found: RankList,
+}
+
+impl Drop for Sums {
+    fn drop(self) {
+        let Sums { sums: _, found: _ } = self;
+    }
 }
 
 impl Model for Sums {

@@ -16,7 +16,6 @@ use basket_sets::Weighted;
 use std::alloc::{AllocError, Global};
 
 /// Baskets, of which those with enough used items have a tid, and the row of each item that is used.
-#[derive(Drop)]
 pub struct Block<'a> {
     pub alloc: Global,
     pub baskets: &'a [Weighted],
@@ -27,6 +26,19 @@ pub struct Block<'a> {
     ghost rows_of: { AreRows used.now (needed used.now least baskets.now) rows },
     ghost tids_of: { AreTidsOf (needed used.now least baskets.now) [] tids.items },
     ghost light: { total_of (needed used.now least baskets.now) ≤ MOST_WEIGHT },
+}
+
+impl Drop for Block<'_> {
+    fn drop(self) {
+        let Block {
+            alloc: _,
+            baskets: _,
+            used: _,
+            least: _,
+            rows: _,
+            tids: _,
+        } = self;
+    }
 }
 
 impl<'a> Block<'a> {

@@ -19,12 +19,22 @@ const BLOCK_WORDS: usize = 32_768;
 
 /// Sets whose supports are counted in blocks of baskets. It is made once, and any number of blocks may be counted at
 /// once.
-#[derive(Debug, Drop)]
+#[derive(Debug)]
 pub struct RowCounter<'a> {
     sets: &'a Extensions,
     used: UsedItems,
     /// Each of the sets has this many items at least.
     least: usize,
+}
+
+impl Drop for RowCounter<'_> {
+    fn drop(self) {
+        let RowCounter {
+            sets: _,
+            used: _,
+            least: _,
+        } = self;
+    }
 }
 
 impl<'a> Model for RowCounter<'a> {

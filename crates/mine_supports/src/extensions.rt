@@ -13,13 +13,23 @@ use std::marker::Model;
 
 /// Sets, each as all of its items except the last, which are its prefix, and the last. Sets in a row that share their
 /// prefix have it once.
-#[derive(Debug, Drop)]
+#[derive(Debug)]
 pub struct Extensions {
     prefixes: Vec<Itemset>,
     /// For each prefix the items that extend it.
     lists: Vec<Itemset>,
     /// The number of sets.
     len: usize,
+}
+
+impl Drop for Extensions {
+    fn drop(self) {
+        let Extensions {
+            prefixes: _,
+            lists: _,
+            len: _,
+        } = self;
+    }
 }
 
 impl Model for Extensions {

@@ -6,11 +6,20 @@ use crate::tid_words::{TidWord, put_kept};
 use std::alloc::{AllocError, Global};
 
 /// The tids of some prefixes of a set, one more item from one to the next, and lists whose memory is used again.
-#[derive(Drop)]
 pub struct Prefixes {
     alloc: Global,
     pub lists: Vec<Vec<TidWord>>,
     spare: Vec<Vec<TidWord>>,
+}
+
+impl Drop for Prefixes {
+    fn drop(self) {
+        let Prefixes {
+            alloc: _,
+            lists: _,
+            spare: _,
+        } = self;
+    }
 }
 
 impl Prefixes {

@@ -14,12 +14,18 @@ const MOST_HINTS: usize = 65_536;
 const FEW_ITEMS: usize = 4_096;
 
 /// The items that some sets have. An item's number is its index among them.
-#[derive(Debug, Drop)]
+#[derive(Debug)]
 pub struct UsedItems {
     items: Itemset,
     /// For each item how many used ones are below it, as far as hints go. Hints are compared with what
     /// stands there, so that no contract tells what they say.
     hints: Vec<u32>,
+}
+
+impl Drop for UsedItems {
+    fn drop(self) {
+        let UsedItems { items: _, hints: _ } = self;
+    }
 }
 
 impl Model for UsedItems {

@@ -17,7 +17,6 @@ use mine_rows::{Row, Weights};
 use std::alloc::{AllocError, Global};
 
 /// Merged baskets of numbers, each of which stands for a rank. A tid of a cover is the index of a basket.
-#[derive(Drop)]
 pub struct LocalBaskets {
     /// The rank of each number.
     pub ranks: Vec<u32>,
@@ -29,6 +28,17 @@ pub struct LocalBaskets {
     ghost weighs: { weights ≡ weights_of (baskets_at numbers.items spans.items) },
     ghost within: { All (IsWithin (length numbers.items)) spans.items },
     ghost ranked: { AreRankBaskets (record { ranks = length ranks.items; baskets = baskets_at numbers.items spans.items }) } by { Prim.hlevel props },
+}
+
+impl Drop for LocalBaskets {
+    fn drop(self) {
+        let LocalBaskets {
+            ranks: _,
+            weights: _,
+            numbers: _,
+            spans: _,
+        } = self;
+    }
 }
 
 /// The weights of merged baskets; before, there were this many. More than 4,294,967,295 baskets

@@ -12,13 +12,24 @@ use std::alloc::{AllocError, Global};
 use std::marker::Model;
 
 /// Coded baskets with the runs of each rank, and the least support that meets their minimum.
-#[derive(Debug, Drop)]
+#[derive(Debug)]
 pub struct Vertical<'a> {
     coded: &'a Coded,
     least: u64,
     runs: Runs,
     /// The empty list of itemsets, which knows the items.
     empty: CountedSets,
+}
+
+impl Drop for Vertical<'_> {
+    fn drop(self) {
+        let Vertical {
+            coded: _,
+            least: _,
+            runs: _,
+            empty: _,
+        } = self;
+    }
 }
 
 impl<'a> Model for Vertical<'a> {

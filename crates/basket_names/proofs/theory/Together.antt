@@ -62,5 +62,5 @@ among_more_names names others (name ∷ some) e =
 pub number_first : (now new : List (List ℕ)) (name : List ℕ) (rest : List (List ℕ)) (numbers more : List ℕ) (number : ℕ)
     → new ≡ with_name now name → number ≡ number_in new name → more ≡ numbers ++ number ∷ []
     → (fold with_name new rest ≡ fold with_name now (name ∷ rest))
-      × (more ++ map (number_in (fold with_name new rest)) rest ≡ numbers ++ map (number_in (fold with_name now (name ∷ rest))) (name ∷ rest))
+    × (more ++ map (number_in (fold with_name new rest)) rest ≡ numbers ++ map (number_in (fold with_name now (name ∷ rest))) (name ∷ rest))
 number_first now new name rest numbers more number with number_is all = grind (arith, common_steps, among_with, number_in_all)
