@@ -14,13 +14,23 @@ use csv::{Writer, WriterBuilder};
 use std::alloc::{AllocError, Global};
 
 /// Records so far. If one can't be added, all are lost.
-#[derive(Drop)]
 pub struct Table<'a> {
     names: &'a Names,
     writer: Writer<Vec<u8>>,
     /// The text of one number or fraction.
     field: Vec<u8>,
     ratios: Ratios,
+}
+
+impl Drop for Table<'_> {
+    fn drop(self) {
+        let Table {
+            names: _,
+            writer: _,
+            field: _,
+            ratios: _,
+        } = self;
+    }
 }
 
 impl<'a> Table<'a> {
@@ -83,7 +93,12 @@ impl<'a> Table<'a> {
         ensures { (separator : ℕ) (names : List (List ℕ)) (text : List ℕ) → HasText self.entry separator names text
             → IfOk result (λ written. written.items ≡ text) }
     {
-        let Table { writer, .. } = self;
+        let Table {
+            names: _,
+            writer,
+            field: _,
+            ratios: _,
+        } = self;
         // A vector takes all bytes, so the only error is out of memory.
         writer.into_inner().map_err(|_| AllocError)
     }
