@@ -68,7 +68,7 @@ report is CSV as well.
 The report is the same for every miner. Time and memory differ:
   apriori     the default: for few frequent sets, and with the least memory
   eclat-bits  for many frequent sets
-  fpgrowth    if eclat-bits takes a second or more: often faster over very many baskets
+  fpgrowth    if eclat-bits takes a second or more: seldom faster over very many baskets
   eclat-diff  as eclat-bits, by difference lists; seldom faster
   eclat       as eclat-bits, by lists of basket numbers; seldom faster";
 
