@@ -16,7 +16,7 @@ use std::alloc::{AllocError, Global};
 
 /// The baskets so far. If one can't be added, all are lost. More than a database may have count as
 /// out of memory.
-#[derive(Debug, Drop)]
+#[derive(Debug)]
 pub struct GatheredBaskets {
     alloc: Global,
     /// Whether baskets are counted, and dropped then: they are past.
@@ -29,6 +29,19 @@ pub struct GatheredBaskets {
     refused: usize,
     /// Whether they weigh too much for a database, which then has not all of them.
     heavy: bool,
+}
+
+impl Drop for GatheredBaskets {
+    fn drop(self) {
+        let GatheredBaskets {
+            alloc: _,
+            counting: _,
+            baskets: _,
+            table: _,
+            refused: _,
+            heavy: _,
+        } = self;
+    }
 }
 
 impl GatheredBaskets {
@@ -128,11 +141,19 @@ impl GatheredBaskets {
             self.heavy = true;
             return Ok(true);
         }
-        if self.baskets.len().saturating_add(other.baskets.len()) > Database::MAX_BASKETS {
+        let GatheredBaskets {
+            alloc: _,
+            counting: _,
+            baskets,
+            table,
+            refused: _,
+            heavy: _,
+        } = other;
+        if self.baskets.len().saturating_add(baskets.len()) > Database::MAX_BASKETS {
             return Err(AllocError);
         }
-        self.table.append(&other.table)?;
-        self.baskets.append(other.baskets)?;
+        self.table.append(&table)?;
+        self.baskets.append(baskets)?;
         self.count()?;
         Ok(true)
     }
@@ -162,10 +183,12 @@ impl GatheredBaskets {
         ensures err { IfErr result (λ fault. fault ≡ ReadFault.Heavy) }
     {
         let GatheredBaskets {
+            alloc: _,
+            counting: _,
             baskets,
             table,
+            refused: _,
             heavy,
-            ..
         } = self;
         if heavy {
             return Err(ReadFault::Heavy);

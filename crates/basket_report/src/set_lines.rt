@@ -20,12 +20,22 @@ use std::thread::{self, Threads};
 
 /// What it takes to write the lines of sets, with a buffer for each worker. Once it is made no
 /// memory is needed, so a report is written to its end unless the writer fails.
-#[derive(Debug, Drop)]
+#[derive(Debug)]
 pub struct SetLines {
     texts: Texts,
     buffers: Vec<LineBuffer>,
     /// How many sets a buffer takes.
     share: usize,
+}
+
+impl Drop for SetLines {
+    fn drop(self) {
+        let SetLines {
+            texts: _,
+            buffers: _,
+            share: _,
+        } = self;
+    }
 }
 
 impl SetLines {

@@ -2,11 +2,12 @@
 ghost use Rattle.std.specs.Prelude.{◌≡◌, ◌≤◌, ◌++◌, ◌∷◌, ◌↔◌, [], All, IfOk, IsTrue, filter, length, slice_range};
 ghost use Rattle.std.specs.List.{flat_map};
 ghost use Rattle.basket_sets.specs.Itemset.{IsRising};
-ghost use Rattle.mine_supports.specs.Extensions.{AreGrouped, extend, has_items, is_some, lists_of, prefixes_of, sets_of};
+ghost use Rattle.mine_supports.specs.Extensions.{AreGrouped, has_items, is_some, lists_of, prefixes_of, sets_of};
 ghost use Rattle.mine_supports.specs.Needed.{AreAtLeast};
 ghost use Rattle.mine_supports.specs.Sizes.{AreOfOneSize, IsRegular};
 
 use crate::prefix_range::PrefixRange;
+use crate::rising::{least_of, rises};
 use basket_sets::Itemset;
 use std::alloc::{AllocError, Global};
 use std::marker::Model;
@@ -230,31 +231,4 @@ fn count_prefixes(parts: &[Extensions]) -> usize {
         count = count.saturating_add(part.prefixes.len());
     }
     count
-}
-
-/// Whether an item can be added to rising ones.
-#[tactic(auto, using(crate::proofs::theory::Extensions::rises_after, crate::proofs::theory::Extensions::rises_alone, crate::proofs::theory::Extensions::last_below))]
-fn rises(items: &[u32], item: u32) -> bool
-    requires { IsRising items.now }
-    ensures { IsTrue result ↔ IsRising (items.now ++ item ∷ []) }
-{
-    match items.last() {
-        Some(last) => *last < item,
-        None => true,
-    }
-}
-
-/// A number of items that a prefix has at least with any of the items that extend it.
-#[tactic(auto, using(crate::proofs::NeededLemmas::extended_at_least, crate::proofs::NeededLemmas::prefix_at_least))]
-fn least_of(prefix: &[u32], items: &[u32]) -> usize
-    requires prefix { IsRising prefix.now }
-    requires items { IsRising items.now }
-    ensures { AreAtLeast result (extend prefix.now items.now) }
-{
-    if let Some(first) = items.first() {
-        if rises(prefix, *first) {
-            return prefix.len() + 1;
-        }
-    }
-    prefix.len()
 }

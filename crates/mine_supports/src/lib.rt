@@ -18,6 +18,7 @@ mod counter;
 mod extensions;
 mod prefix_range;
 mod prefixes;
+mod rising;
 mod rows;
 mod shard;
 mod tid_words;

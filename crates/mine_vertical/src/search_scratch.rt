@@ -7,10 +7,15 @@ use std::alloc::{AllocError, Global};
 
 /// Marks, one for each database that the search is within, and lists of siblings that are not needed
 /// any more.
-#[derive(Drop)]
-pub struct SearchScratch<R> {
+pub struct SearchScratch<R: Row> {
     pub marks: Vec<Marks>,
     pub lists: Vec<Vec<Sibling<R>>>,
+}
+
+impl<R: Row> Drop for SearchScratch<R> {
+    fn drop(self) {
+        let SearchScratch { marks: _, lists: _ } = self;
+    }
 }
 
 impl<R: Row> SearchScratch<R> {
