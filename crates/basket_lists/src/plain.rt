@@ -88,11 +88,6 @@ impl PlainSets {
         self.spans[index].count
     }
 
-    /// How many items the sets have together.
-    pub fn item_count(&self) -> usize {
-        self.items.len()
-    }
-
     /// A number that no item is above.
     pub fn greatest_item(&self) -> u32 {
         self.items.iter().copied().max().unwrap_or(0)

@@ -81,31 +81,16 @@ pub fn covered_between(
     let mut start = from;
     while start < end {
         let size = sets.size(start);
-        let first = start_of_size(sets, size.saturating_sub(1));
-        let last = start_of_size(sets, size);
+        let first = sets.start_of_size(size.saturating_sub(1));
+        let last = sets.start_of_size(size);
         let below = sets.index_table(covering.alloc, first, last)?;
-        let next = start_of_size(sets, size.saturating_add(1)).clamp(start + 1, end);
+        let next = sets
+            .start_of_size(size.saturating_add(1))
+            .clamp(start + 1, end);
         mark_below(covering, &below, start, next, &mut marks);
         start = next;
     }
     Ok(marks)
-}
-
-/// Where the sets begin that have at least this many items, in a list in report order.
-fn start_of_size(sets: &CountedSets, size: usize) -> usize
-    ensures { result ≤ length sets.now }
-{
-    let mut start = 0;
-    let mut end = sets.len();
-    while start < end {
-        let middle = start + (end - start) / 2;
-        if sets.size(middle) < size {
-            start = middle + 1;
-        } else {
-            end = middle;
-        }
-    }
-    start
 }
 
 /// Marks the sets that are those from `start` up to `end` without one of their items.
