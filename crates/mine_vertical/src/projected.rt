@@ -88,7 +88,7 @@ impl<'a, R: Row> Projected for Siblings<'a, R> {
     // Each database that is made anew has a list of its own, so those lists are not kept.
     fn give_back(self, room: &mut SearchScratch<R>) {
         if Rc::strong_count(&self.local) > 1 {
-            room.take_back(self.into_list());
+            room.take_back(self.list);
         }
     }
 

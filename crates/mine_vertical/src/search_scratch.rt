@@ -7,15 +7,10 @@ use std::alloc::{AllocError, Global};
 
 /// Marks, one for each database that the search is within, and lists of siblings that are not needed
 /// any more.
-pub struct SearchScratch<R: Row> {
+#[derive(Drop)]
+pub struct SearchScratch<R> {
     pub marks: Vec<Marks>,
     pub lists: Vec<Vec<Sibling<R>>>,
-}
-
-impl<R: Row> Drop for SearchScratch<R> {
-    fn drop(self) {
-        let SearchScratch { marks: _, lists: _ } = self;
-    }
 }
 
 impl<R: Row> SearchScratch<R> {

@@ -14,7 +14,8 @@ use std::rc::Rc;
 
 /// The ranks that extend a set and stay frequent: the first siblings of a list, over baskets. The
 /// others of the list may be written over.
-pub struct Siblings<'a, R: Row> {
+#[derive(Drop)]
+pub struct Siblings<'a, R> {
     pub coded: &'a Coded,
     pub least: u64,
     pub local: Rc<LocalBaskets>,
@@ -23,34 +24,6 @@ pub struct Siblings<'a, R: Row> {
     pub list: Vec<Sibling<R>>,
     pub kept: usize,
     ghost within: { kept ≤ length list.items },
-}
-
-impl<R: Row> Drop for Siblings<'_, R> {
-    fn drop(self) {
-        let Siblings {
-            coded: _,
-            least: _,
-            local: _,
-            marks: _,
-            list: _,
-            kept: _,
-        } = self;
-    }
-}
-
-impl<R: Row> Siblings<'_, R> {
-    /// The list, whose siblings may be written over.
-    pub fn into_list(self) -> Vec<Sibling<R>> {
-        let Siblings {
-            coded: _,
-            least: _,
-            local: _,
-            marks: _,
-            list,
-            kept: _,
-        } = self;
-        list
-    }
 }
 
 /// The conditional database of a rank, its baskets merged, and a sibling for each rank of it. The joins of
