@@ -88,10 +88,10 @@ def rule(asked: list[Question]) -> dict[str, str]:
 
 
 def often(miner: str, asked: list[Question]) -> str:
-    """How often a miner takes less than nine tenths of what eclat-bits takes."""
+    """How often a miner takes less than three quarters of what eclat-bits takes: runs of one kind differ by less."""
     if not asked:
         sys.exit(f"RESULTS.md asks nothing that tells how fast {miner} is")
-    faster = sum(it.times(miner, "eclat-bits") < 0.9 for it in asked)
+    faster = sum(it.times(miner, "eclat-bits") < 0.75 for it in asked)
     if 2 * faster >= len(asked):
         return "often"
     return "seldom" if 3 * faster <= len(asked) else "sometimes"

@@ -46,8 +46,8 @@ class Bench(unittest.TestCase):
 
     def test_miners_are_named_for_what_they_are_quick_at(self) -> None:
         few, many = asked(9, 9, 2, 3, 3, 1, 3), asked(9, 50_000, 9, 0.8, 0.8, 1, 2)
-        long = asked(2_000_000, 50_000, 9, 8, 8, 7, 6)
-        rule = which.rule([few, many, long])
+        long = asked(2_000_000, 50_000, 9, 8, 8, 7, 5)
+        rule = which.rule([few, many, many, long])
         self.assertEqual(
             [*rule.values()],
             [
@@ -59,6 +59,7 @@ class Bench(unittest.TestCase):
             ],
         )
         slow = few._replace(miners={**few.miners, "apriori": which.Figures(2.1, 11)})
-        other = which.rule([slow, few, many, many, long])
+        quick = asked(9, 50_000, 9, 0.7, 0.8, 1, 2)
+        other = which.rule([slow, few, quick, quick, long])
         self.assertEqual(other["apriori"], "the default")
         self.assertEqual(other["eclat"][-16:], "sometimes faster")
