@@ -95,7 +95,7 @@ fn pairs_in_parts<R: Threads + Sync>(
     rt: &R,
     reading: Reading,
     bytes: &[u8],
-    mut pairs: Pairs,
+    pairs: Pairs,
     count: usize,
 ) -> Result<(Database, Names), ReadFault>
     requires { length bytes.now ≤ MOST_BYTES }
@@ -103,6 +103,5 @@ fn pairs_in_parts<R: Threads + Sync>(
     ensures not_read { IfErr result (λ fault. fault ≢ Read) }
 {
     let parts = read_all(rt, reading, bytes, count)?;
-    pairs.append_all(parts)?;
-    pairs.finish()
+    pairs.followed_by_all(rt, parts)?.finish()
 }

@@ -1,78 +1,24 @@
 //! Records that have a basket's id and a name each.
-ghost use Rattle.std.specs.Prelude.{◌≡◌, List, ℕ, [], ◌∷◌, ◌++◌, map, false, None, Ok, OnOk, IfOk, IfErr, IfSome};
-ghost use Rattle.std.specs.List.{flat_map};
+ghost use Rattle.std.specs.Prelude.{◌≡◌, List, ℕ, [], ◌∷◌, ◌++◌, None, Ok, OnOk, IfOk, IfErr, IfSome};
 ghost use Rattle.basket_csv.specs.Record.{fields_of};
-ghost use Rattle.basket_read.specs.Fimi.{basket_of_numbers};
 ghost use Rattle.basket_csv.specs.Csv.{Named, pair_fault, pairs_of, pairs_said};
-ghost use Rattle.basket_read.specs.GatheredBaskets.{HasGathered};
 ghost use Rattle.basket_csv.specs.Row.{IsKnownPair};
 ghost use Rattle.basket_csv.specs.Part.{InParts, Rows};
 ghost use Rattle.basket_csv.specs.RecordCollector.{Start};
-ghost use Rattle.basket_csv.specs.Pairs.{HasPairs, HasPartPairs, added_at};
+ghost use Rattle.basket_csv.specs.Pairs.{HasPairs, HasPartPairs};
 
 use crate::collector::{PartCollector, RecordCollector, TextCollector};
 use crate::field::{is_name, trim};
+use crate::groups::{Group, add_number, add_numbers, gathered_from};
+use crate::numbered::both_numbered;
 use crate::record::Record;
 use crate::renumbered::rename;
 use crate::row::{is_text_from, known_number, text_at};
 use basket_names::{Ids, Names, Numbering, Seed};
-use basket_read::{GatheredBaskets, ReadFault};
-use basket_sets::{Database, INLINE_ITEMS};
-use smallvec::SmallVec;
-use std::alloc::{AllocError, Global};
-
-/// The numbers of the names of an id. Most have few, which need no allocation.
-type Group = SmallVec<u32, { INLINE_ITEMS }>;
-
-/// Adds a number to the group at an index, or to a new one at the end.
-#[tactic(auto, using(std::proofs::lemmas::Grind::common_steps, crate::proofs::PairLemmas::group_known))]
-fn add_number(
-    alloc: Global,
-    groups: &mut Vec<Group>,
-    index: usize,
-    number: u32,
-) -> Result<(), AllocError>
-    ensures { OnOk result (map (λ group. group.items) groups.new.items ≡ added_at (map (λ group. group.items) groups.old.items) index (number ∷ [])) }
-{
-    if let Some(group) = groups.get_mut(index) {
-        group.push(number)?;
-        return Ok(());
-    }
-    let mut group = Group::new(alloc);
-    group.push(number)?;
-    groups.push(group)?;
-    Ok(())
-}
-
-/// Adds numbers to the group at an index, or to a new one at the end.
-#[tactic(auto, using(std::proofs::lemmas::Grind::common_steps, crate::proofs::PairLemmas::group_known))]
-fn add_numbers(
-    alloc: Global,
-    groups: &mut Vec<Group>,
-    index: usize,
-    numbers: &[u32],
-) -> Result<(), AllocError>
-    ensures { OnOk result (map (λ group. group.items) groups.new.items ≡ added_at (map (λ group. group.items) groups.old.items) index numbers.now) }
-{
-    if let Some(group) = groups.get_mut(index) {
-        group.extend_from_slice(numbers)?;
-        return Ok(());
-    }
-    groups.push(Group::from_slice(alloc, numbers)?)?;
-    Ok(())
-}
-
-/// The baskets of groups of numbers, each of weight 1.
-fn gathered_from(alloc: Global, groups: &[Group]) -> Result<GatheredBaskets, ReadFault>
-    ensures baskets { IfOk result (λ gathered. HasGathered gathered false (flat_map (λ group. basket_of_numbers group.items 1) groups.now)) }
-    ensures err { IfErr result (λ fault. fault ≡ ReadFault.Memory) }
-{
-    let mut gathered = GatheredBaskets::new(alloc, false, 0);
-    for group in groups {
-        gathered.add(group, 1)?;
-    }
-    Ok(gathered)
-}
+use basket_read::ReadFault;
+use basket_sets::Database;
+use std::alloc::Global;
+use std::thread::Threads;
 
 /// What has been read of such records: the numbers of the names of each id.
 pub struct Pairs {
@@ -118,48 +64,60 @@ impl Pairs {
         Ok(())
     }
 
-    /// Adds what was read of the records that come next, whose ids and names are numbered apart.
-    fn append(&mut self, later: Pairs) -> Result<(), ReadFault>
+    /// These with what was read of the records that come next, whose ids and names are numbered apart. A
+    /// thread numbers the names, and another the ids.
+    fn followed_by<R: Threads + Sync>(self, rt: &R, later: Pairs) -> Result<Self, ReadFault>
         requires { (more : List (List ℕ × List ℕ)) × HasPairs later [] more }
-        ensures read { (known : List (List ℕ)) (pairs more : List (List ℕ × List ℕ)) → HasPairs self.old known pairs → HasPairs later [] more → OnOk result (HasPairs self.new known (pairs ++ more)) }
+        ensures read { (known : List (List ℕ)) (pairs more : List (List ℕ × List ℕ)) → HasPairs self known pairs → HasPairs later [] more → IfOk result (λ all. HasPairs all known (pairs ++ more)) }
         ensures err { IfErr result (λ fault. fault ≡ ReadFault.Memory) }
     {
         if self.names.is_empty() {
             // No names are known, and no pairs were read.
-            *self = later;
-            return Ok(());
+            return Ok(later);
         }
         let Pairs {
+            alloc,
+            names,
+            ids,
+            mut groups,
+        } = self;
+        let Pairs {
             alloc: _,
+            names: later_names,
+            ids: later_ids,
+            groups: later_groups,
+        } = later;
+        let (names, ids) = both_numbered(rt, (names, later_names), (ids, later_ids));
+        let (names, name_numbers) = names?;
+        let (ids, indexes) = ids?;
+        let mut numbers = Vec::new(alloc);
+        for (nth, group) in later_groups.iter().enumerate() {
+            rename(group, &name_numbers, &mut numbers)?;
+            add_numbers(alloc, &mut groups, indexes[nth] as usize, &numbers)?;
+        }
+        Ok(Pairs {
+            alloc,
             names,
             ids,
             groups,
-        } = later;
-        let names = self.names.numbers_of(names.into_names()?)?;
-        let indexes = self.ids.append(ids)?;
-        let mut numbers = Vec::new(self.alloc);
-        for (nth, group) in groups.iter().enumerate() {
-            rename(group, &names, &mut numbers)?;
-            add_numbers(
-                self.alloc,
-                &mut self.groups,
-                indexes[nth] as usize,
-                &numbers,
-            )?;
-        }
-        Ok(())
+        })
     }
 
-    /// Adds what was read of parts that come one after another.
-    pub fn append_all(&mut self, parts: Vec<Pairs>) -> Result<(), ReadFault>
+    /// These with what was read of parts that come one after another.
+    pub fn followed_by_all<R: Threads + Sync>(
+        self,
+        rt: &R,
+        parts: Vec<Pairs>,
+    ) -> Result<Self, ReadFault>
         requires { (rows : Rows) × InParts HasPartPairs parts.items rows }
-        ensures read { (known : List (List ℕ)) (rows : Rows) → HasPairs self.old known [] → InParts HasPartPairs parts.items rows → OnOk result (HasPairs self.new known (pairs_of rows)) }
+        ensures read { (known : List (List ℕ)) (rows : Rows) → HasPairs self known [] → InParts HasPartPairs parts.items rows → IfOk result (λ all. HasPairs all known (pairs_of rows)) }
         ensures err { IfErr result (λ fault. fault ≡ ReadFault.Memory) }
     {
+        let mut all = self;
         for part in parts {
-            self.append(part)?;
+            all = all.followed_by(rt, part)?;
         }
-        Ok(())
+        Ok(all)
     }
 
     /// The numbers of the id and the name of a record, if these are its two fields as they are, and

@@ -11,11 +11,19 @@ use std::alloc::{AllocError, Global};
 use std::marker::Model;
 
 /// The ids so far, by which new ones are numbered. If one can't be numbered, all are lost.
-#[derive(Drop)]
 pub struct Ids {
     numbering: Numbering,
     /// The id that was numbered last, which most records have again.
     last: RecentName,
+}
+
+impl Drop for Ids {
+    fn drop(self) {
+        let Ids {
+            numbering: _,
+            last: _,
+        } = self;
+    }
 }
 
 impl Model for Ids {
@@ -81,6 +89,7 @@ impl Ids {
         ensures numbers { IfOk result (λ numbers. numbers.items ≡ map (number_in self.new) ids) }
     {
         self.last = FREE;
-        self.numbering.numbers_of(ids.numbering.into_names()?)
+        let Ids { numbering, last: _ } = ids;
+        self.numbering.numbers_of(numbering.into_names()?)
     }
 }

@@ -15,14 +15,14 @@ returns-in_err-parts-clause-said g c = λ known has.
     rw (p.1, p.2) (λ other.
     said_fault c.args.reading.dialect.separator c.args.reading.dialect.header pair_fault (λ rows. pairs_said known (pairs_of rows)) c.args.bytes.now _ c.requires (c.in_err-parts.ensures.fault other))
 
-pub append_all-requires : goal.append_all-requires
-append_all-requires g c = grind (arith, common_steps, pair_parts)
+pub followed_by_all-requires : goal.followed_by_all-requires
+followed_by_all-requires g c = grind (arith, common_steps, pair_parts)
 
 pub returns-clause-said : goal.returns-clause-said
 returns-clause-said g c = λ known has.
     let separator = c.args.reading.dialect.separator in
     let header = c.args.reading.dialect.header in
     let rows = after_header header (records_of separator c.args.bytes.now) in
-    let all = c.in_ok-append_all.ensures.read known rows has (pair_parts c.args.reading.weighted _ rows c.in_ok-parts.ensures.parts) in
+    let all = c.in_ok-followed_by_all.ensures.read known rows has (pair_parts c.args.reading.weighted _ rows c.in_ok-parts.ensures.parts) in
     subst (Returns c.finish.result) (sym (said_of_all separator header pair_fault (λ rows. pairs_said known (pairs_of rows)) c.args.bytes.now c.requires c.in_ok-parts.ensures.fault))
     (c.finish.ensures.said (starting header false known false) rows all)

@@ -1,7 +1,7 @@
 use Rattle.std.proofs.Common.{◌≤◌, ap, ◌∙◌, ◌++◌, ◌∷◌, [], map, length, inl, inr, arith}
 use Rattle.std.proofs.lemmas.Bool.{cases_lt, false≢true}
 use Rattle.basket_csv.proofs.PairLemmas.{group_new}
-use Rattle.basket_csv.proofs.pairs.add_number.Goals as goal
+use Rattle.basket_csv.proofs.groups.add_number.Goals as goal
 
 pub returns : goal.returns
 returns c =
