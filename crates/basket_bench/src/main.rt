@@ -95,12 +95,12 @@ fn print_stages<R: Threads + Sync>(
         Ok(())
     })?;
     print_stage(rt, "count", workers, stage)?;
-    let coded = Coded::of(rt.alloc(), database, plan.minimum())?;
     let stage = times(rt, runs, || {
-        runs_shared(threads, rt.alloc(), &coded, cutting)?;
+        let coded = Coded::of(rt.alloc(), database, plan.minimum())?;
+        runs_shared(threads, rt.alloc(), coded, cutting)?;
         Ok(())
     })?;
-    print_stage(rt, "runs", workers, stage)?;
+    print_stage(rt, "code and runs", workers, stage)?;
     for (name, miner) in MINERS {
         let stage = times(rt, runs, || {
             mine(

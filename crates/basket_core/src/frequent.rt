@@ -5,7 +5,7 @@ ghost use Rattle.basket_core.specs.Listing.{listing_of};
 ghost use Rattle.basket_sets.specs.Frequent.{ListsOnce};
 
 use basket_lists::CountedSets;
-use basket_ranks::Coded;
+use basket_ranks::CodedItems;
 use std::alloc::{AllocError, Global};
 use std::marker::Model;
 use std::thread::Threads;
@@ -29,7 +29,7 @@ impl Frequent {
     /// The list of the sets of all classes, which together have each frequent set once.
     pub fn of_classes(
         alloc: Global,
-        coded: &Coded,
+        coded: &CodedItems,
         classes: Vec<CountedSets>,
     ) -> Result<Self, AllocError>
         requires { ListsOnce (baskets_of coded.now) coded.now.minimum (flat_map (λ class. class) classes.items) }
@@ -47,7 +47,7 @@ impl Frequent {
     pub fn of_classes_shared<R: Threads + Sync>(
         rt: &R,
         alloc: Global,
-        coded: &Coded,
+        coded: &CodedItems,
         classes: Vec<CountedSets>,
         threads: u32,
     ) -> Result<Self, AllocError>

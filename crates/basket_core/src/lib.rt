@@ -15,7 +15,7 @@ mod frequent;
 pub mod worked;
 
 pub use basket_lists::{CountedSets, MOST_ITEMS};
-pub use basket_ranks::{Coded, Codes, add_counts, deep, shard};
+pub use basket_ranks::{Coded, CodedItems, Codes, add_counts, deep, shard};
 pub use basket_sets::{
     Counted, Database, INLINE_ITEMS, Itemset, Minimum, Share, Weighted, count_items, parse_minimum,
     parse_share, report_order, support,

@@ -134,10 +134,10 @@ fn mine_coded<R: Threads + Sync, G: Gate + Sync>(
     let cutting = cutting(plan);
     match plan.miner() {
         Miner::Apriori => by_apriori(rt, alloc, coded, limit, cutting, gate),
-        Miner::Eclat => by_eclat::<R, G, TidList>(rt, alloc, &coded, limit, cutting, gate),
-        Miner::EclatDiff => by_eclat::<R, G, DiffList>(rt, alloc, &coded, limit, cutting, gate),
-        Miner::EclatBits => by_eclat::<R, G, BitRow>(rt, alloc, &coded, limit, cutting, gate),
-        Miner::FpGrowth => by_fp_growth(rt, alloc, &coded, limit, cutting, gate),
+        Miner::Eclat => by_eclat::<R, G, TidList>(rt, alloc, coded, limit, cutting, gate),
+        Miner::EclatDiff => by_eclat::<R, G, DiffList>(rt, alloc, coded, limit, cutting, gate),
+        Miner::EclatBits => by_eclat::<R, G, BitRow>(rt, alloc, coded, limit, cutting, gate),
+        Miner::FpGrowth => by_fp_growth(rt, alloc, coded, limit, cutting, gate),
     }
 }
 
@@ -187,24 +187,24 @@ fn by_apriori<R: Threads + Sync, G: Gate + Sync>(
 fn by_eclat<R: Threads + Sync, G: Gate + Sync, T: Row + Sync>(
     rt: &R,
     alloc: Global,
-    coded: &Coded,
+    coded: Coded,
     limit: u32,
     cutting: Cutting,
     gate: &G,
 ) -> Result<(Frequent, Work), MineFault>
-    ensures list { IfOk result (λ mined. mined.0 ≡ listing_of coded.now) }
+    ensures list { IfOk result (λ mined. mined.0 ≡ listing_of coded) }
     ensures within { IfOk result (λ mined. length mined.0.sets ≤ limit) }
-    ensures work { IfOk result (λ mined. IsWorkOver coded.now join_work mined.1) }
-    ensures too_many { (most : ℕ) → result ≡ Err (TooMany most) → (most ≡ limit) × (limit < length (frequent_of_coding coded.now)) }
+    ensures work { IfOk result (λ mined. IsWorkOver coded join_work mined.1) }
+    ensures too_many { (most : ℕ) → result ≡ Err (TooMany most) → (most ≡ limit) × (limit < length (frequent_of_coding coded)) }
 {
     class_joins_add_up();
-    let runs = runs_shared(rt, alloc, coded, cutting)?;
+    let (runs, items) = runs_shared(rt, alloc, coded, cutting)?;
     let miner = EclatMiner::<T> {
-        vertical: Vertical::of_runs(alloc, coded, runs)?,
+        vertical: Vertical::of_runs(alloc, &items, runs)?,
         rows: PhantomData,
     };
     let phase = class_phase(cutting, gate);
-    let (frequent, joins) = mine_shared(rt, alloc, coded, miner, limit, &phase)?;
+    let (frequent, joins) = mine_shared(rt, alloc, &items, miner, limit, &phase)?;
     Ok((frequent, Work::of_joins(joins)))
 }
 
@@ -212,22 +212,22 @@ fn by_eclat<R: Threads + Sync, G: Gate + Sync, T: Row + Sync>(
 fn by_fp_growth<R: Threads + Sync, G: Gate + Sync>(
     rt: &R,
     alloc: Global,
-    coded: &Coded,
+    coded: Coded,
     limit: u32,
     cutting: Cutting,
     gate: &G,
 ) -> Result<(Frequent, Work), MineFault>
-    ensures list { IfOk result (λ mined. mined.0 ≡ listing_of coded.now) }
+    ensures list { IfOk result (λ mined. mined.0 ≡ listing_of coded) }
     ensures within { IfOk result (λ mined. length mined.0.sets ≤ limit) }
-    ensures work { IfOk result (λ mined. IsWorkOver coded.now tree_work mined.1) }
-    ensures too_many { (most : ℕ) → result ≡ Err (TooMany most) → (most ≡ limit) × (limit < length (frequent_of_coding coded.now)) }
+    ensures work { IfOk result (λ mined. IsWorkOver coded tree_work mined.1) }
+    ensures too_many { (most : ℕ) → result ≡ Err (TooMany most) → (most ≡ limit) × (limit < length (frequent_of_coding coded)) }
 {
     let _coding = coded.baskets();
-    let runs = runs_shared(rt, alloc, coded, cutting)?;
-    let forest = Forest::of_runs(alloc, coded, runs)?;
+    let (runs, items) = runs_shared(rt, alloc, coded, cutting)?;
+    let forest = Forest::of_runs(alloc, &items, runs)?;
     let miner = FpGrowthMiner(forest);
     let phase = class_phase(cutting, gate);
-    let (frequent, trees) = mine_shared(rt, alloc, coded, miner, limit, &phase)?;
+    let (frequent, trees) = mine_shared(rt, alloc, &items, miner, limit, &phase)?;
     Ok((frequent, Work::of_trees(trees)))
 }
 

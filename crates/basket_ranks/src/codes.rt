@@ -1,15 +1,16 @@
-//! The frequent items by rank, and baskets as lists of ranks.
+//! The frequent items by rank.
 ghost use Rattle.std.specs.Prelude.{◌≡◌, ◌<◌, ◌≤◌, List, IfOk, length, map, nat_eq, slice_index_or};
 ghost use Rattle.std.specs.List.{IsDistinct};
 ghost use Rattle.basket_sets.specs.Counts.{AllBelow};
-ghost use Rattle.basket_ranks.specs.Codes.{IsCoding, coded_basket, coding_of, decoded, merged_coding, rank_of, ranking_of, ranks_of_counts};
+ghost use Rattle.basket_ranks.specs.Codes.{coded_basket, coding_of, rank_of, ranking_of, ranks_of_counts};
 ghost use Rattle.basket_sets.specs.Itemset.{IsRising};
 ghost use Rattle.basket_sets.specs.Database.{IsDatabase};
 ghost use Rattle.basket_sets.specs.declared.weighted.Weighted.{Weighted as Basket};
 ghost use Rattle.basket_sets.specs.Support.{total_of};
 
+use crate::coded::Coded;
 use crate::ranks::{RankTable, ranked_items};
-use basket_sets::{Database, Itemset, Minimum, Renumbering, Weighted, count_items, merged};
+use basket_sets::{Database, Minimum, Renumbering, Weighted};
 use std::alloc::{AllocError, Global};
 use std::marker::Model;
 use std::thread::{self, Threads};
@@ -105,12 +106,7 @@ impl Codes {
         requires { (database : List Basket) × IsDatabase database × (self ≡ ranking_of database self.minimum) × (baskets.items ≡ map (coded_basket self.items) database) }
         ensures { result ≡ record { items = self.items; minimum = self.minimum; baskets = baskets.items } }
     {
-        Coded {
-            items: self.items,
-            minimum: self.minimum,
-            baskets,
-            total: self.total,
-        }
+        Coded::new(self.items, self.minimum, self.total, baskets)
     }
 }
 
@@ -119,108 +115,6 @@ impl Renumbering for Codes {
 
     fn name(&self, number: u32) -> Option<u32> {
         self.ranks.rank(number)
-    }
-}
-
-/// The baskets of a database as ranks of their frequent items, one for each basket, which is
-/// empty if it has no frequent item.
-#[derive(Debug, Drop)]
-pub struct Coded {
-    items: Vec<u32>,
-    minimum: Minimum,
-    baskets: Vec<Weighted>,
-    total: u64,
-}
-
-impl Model for Coded {
-    ghost use Rattle.std.specs.Prelude.{◌≡◌};
-    ghost use Rattle.basket_ranks.specs.Codes.{Coding, IsCoding};
-    ghost use Rattle.basket_sets.specs.Support.{total_of};
-
-    ghost Value = { Coding };
-
-    ghost view = { λ coded. record { items = coded.items.items; minimum = coded.minimum; baskets = coded.baskets.items } };
-
-    ghost invariant = { λ coded. IsCoding (record { items = coded.items.items; minimum = coded.minimum; baskets = coded.baskets.items }) × (coded.total ≡ total_of coded.baskets.items) };
-}
-
-impl Coded {
-    /// The baskets of the database as ranks of the items that are frequent in it.
-    pub fn of(alloc: Global, database: &Database, minimum: Minimum) -> Result<Self, AllocError>
-        ensures { IfOk result (λ coded. coded ≡ coding_of database.now minimum) }
-    {
-        let counts = count_items(alloc, database.baskets())?;
-        Codes::of(alloc, &counts, database.total(), minimum)?.code(alloc, database)
-    }
-
-    /// The coding with each distinct basket of ranks once, where it first comes, with the sum of its
-    /// weights. Baskets that differ only in infrequent items become one.
-    pub fn merged(self, alloc: Global) -> Result<Self, AllocError>
-        ensures { IfOk result (λ coded. coded ≡ merged_coding self) }
-    {
-        let Coded {
-            items,
-            minimum,
-            baskets,
-            total,
-        } = self;
-        Ok(Coded {
-            items,
-            minimum,
-            baskets: merged(alloc, baskets)?,
-            total,
-        })
-    }
-
-    /// The baskets as ranks, in the order of the database.
-    pub fn baskets(&self) -> &[Weighted]
-        ensures baskets { result.now ≡ self.now.baskets }
-        ensures coding { IsCoding self.now }
-    {
-        &self.baskets
-    }
-
-    /// How many ranks there are.
-    pub fn ranks(&self) -> u32
-        ensures { result ≡ length self.now.items }
-    {
-        self.items.len() as u32
-    }
-
-    pub fn minimum(&self) -> Minimum
-        ensures { result ≡ self.now.minimum }
-    {
-        self.minimum
-    }
-
-    /// The weight of all baskets together.
-    pub fn total(&self) -> u64
-        ensures { result ≡ total_of self.now.baskets }
-    {
-        self.total
-    }
-
-    /// The item of each rank.
-    pub fn items(&self) -> &[u32]
-        ensures { result.now ≡ self.now.items }
-    {
-        &self.items
-    }
-
-    /// The item of a rank.
-    pub fn item(&self, rank: u32) -> u32
-        requires { rank < length self.now.items }
-        ensures { result ≡ slice_index_or self.now.items rank 0 }
-    {
-        self.items[rank as usize]
-    }
-
-    /// The set of the items of the ranks. It takes the room of the ranks.
-    pub fn decode(&self, ranks: Itemset) -> Itemset
-        requires { AllBelow (length self.now.items) ranks }
-        ensures { result ≡ decoded self.now.items ranks }
-    {
-        ranks.renamed(&self.items)
     }
 }
 

@@ -8,7 +8,7 @@ ghost use Rattle.basket_ranks.specs.Depth.{HasSetOfSize, is_long, narrowed, narr
 ghost use Rattle.basket_sets.specs.Minimum.{meets};
 ghost use Rattle.basket_sets.specs.Support.{support_of, total_of};
 
-use crate::codes::Coded;
+use crate::coded::Coded;
 use basket_sets::{Itemset, Weighted, count_items, weight_of};
 use std::alloc::{AllocError, Global};
 

@@ -7,6 +7,7 @@
 #![tactic(auto)]
 
 mod added;
+mod coded;
 mod codes;
 mod depth;
 pub mod laws;
@@ -15,6 +16,7 @@ mod shards;
 pub mod worked;
 
 pub use added::add_counts;
-pub use codes::{Coded, Codes};
+pub use coded::{Coded, CodedItems};
+pub use codes::Codes;
 pub use depth::deep;
 pub use shards::shard;

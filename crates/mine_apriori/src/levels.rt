@@ -143,7 +143,7 @@ impl<'a> Levels<'a> {
     {
         let Levels { coded, found, .. } = self;
         let classes = vec![in alloc; found]?;
-        Ok(Frequent::of_classes(alloc, coded, classes)?)
+        Ok(Frequent::of_classes(alloc, coded.coded_items(), classes)?)
     }
 
     /// The same list, sorted by at most this many threads.
@@ -160,7 +160,7 @@ impl<'a> Levels<'a> {
     {
         let Levels { coded, found, .. } = self;
         let classes = vec![in alloc; found]?;
-        Ok(Frequent::of_classes_shared(rt, alloc, coded, classes, threads)?)
+        Ok(Frequent::of_classes_shared(rt, alloc, coded.coded_items(), classes, threads)?)
     }
 }
 

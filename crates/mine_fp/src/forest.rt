@@ -8,7 +8,7 @@ ghost use Rattle.mine_conditional.specs.ClassScratch.{IsScratchOf};
 ghost use Rattle.mine_fp.specs.Trees.{class_trees};
 
 use crate::pattern_base::{PatternBase, Trees};
-use basket_core::{Coded, CountedSets};
+use basket_core::{Coded, CodedItems, CountedSets};
 use mine_baskets::ListBaskets;
 use mine_conditional::{ClassScratch, Paths};
 use mine_limit::{MineFault, Tally};
@@ -43,11 +43,11 @@ impl<'a> Forest<'a> {
         ensures { IfOk result (λ forest. forest ≡ coded.now) }
     {
         let baskets = ListBaskets::of_coded(alloc, coded)?;
-        Forest::of_runs(alloc, coded, Runs::of(alloc, baskets)?)
+        Forest::of_runs(alloc, coded.coded_items(), Runs::of(alloc, baskets)?)
     }
 
     /// The forest of the coded baskets, from runs of them that were made before.
-    pub fn of_runs(alloc: Global, coded: &'a Coded, runs: Runs) -> Result<Self, AllocError>
+    pub fn of_runs(alloc: Global, coded: &'a CodedItems, runs: Runs) -> Result<Self, AllocError>
         requires ranks { runs.ranks ≡ length coded.now.items }
         requires ranked { AreRankBaskets runs }
         requires weights { HaveSameWeights coded.now.baskets runs.baskets }
@@ -56,7 +56,7 @@ impl<'a> Forest<'a> {
     {
         let empty = CountedSets::new(alloc, coded.items(), coded.total())?;
         // The baskets of a coding are light enough for a least support.
-        let _ = coded.baskets();
+        let _ = coded.items();
         let ranks = all_ranks(alloc, &runs)?;
         Ok(Forest {
             all: PatternBase {

@@ -6,7 +6,7 @@ ghost use Rattle.mine_pairs.specs.Pairs.{named_pair, pairs_of};
 ghost use Rattle.mine_conditional.specs.Paths.{is_branch};
 ghost use Rattle.mine_fp.specs.PatternBase.{HaveSlots, IsBase, IsBelow, KeepSlots, ranks_of};
 
-use basket_core::Coded;
+use basket_core::CodedItems;
 use mine_conditional::{ClassScratch, Paths};
 use mine_search::Projected;
 use std::alloc::{AllocError, Global};
@@ -16,7 +16,7 @@ use std::alloc::{AllocError, Global};
 /// with the support of the set with it.
 #[derive(Debug)]
 pub struct PatternBase<'a> {
-    pub coded: &'a Coded,
+    pub coded: &'a CodedItems,
     pub paths: Paths,
     pub ranks: Vec<(u32, u64)>,
     pub least: u64,

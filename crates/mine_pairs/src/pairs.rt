@@ -8,7 +8,7 @@ use crate::rank_range::RankRange;
 use crate::runs::Runs;
 use crate::sums::Sums;
 use crate::triangle::pairs_of_range;
-use basket_ranks::Coded;
+use basket_ranks::{Coded, CodedItems};
 use mine_baskets::ListBaskets;
 use std::alloc::{AllocError, Global};
 
@@ -26,7 +26,7 @@ pub fn frequent_pairs(alloc: Global, coded: &Coded) -> Result<Vec<Vec<(u32, u64)
             first: 0,
             count: coded.ranks(),
         };
-        return pairs_of_range(alloc, coded, range, least_support(coded));
+        return pairs_of_range(alloc, coded, range, least_support(coded.coded_items()));
     }
     let (runs, least) = runs_with_least(alloc, coded)?;
     pairs_by_runs(alloc, &runs, least)
@@ -37,22 +37,22 @@ pub fn runs_with_least(alloc: Global, coded: &Coded) -> Result<(Runs, u64), Allo
     ensures { IfOk result (λ found. ArePairs coded.now (pairs_by_greater found.0.baskets found.1 found.0.ranks)) }
 {
     let runs = Runs::of(alloc, ListBaskets::of_coded(alloc, coded)?)?;
-    Ok((runs, least_support(coded)))
+    Ok((runs, least_support(coded.coded_items())))
 }
 
 /// The least support that meets the minimum of a coding.
-pub fn least_support(coded: &Coded) -> u64
+pub fn least_support(coded: &CodedItems) -> u64
     ensures { IsLeastSupport coded.now.minimum (total_of coded.now.baskets) result }
 {
     // The baskets of a coding are light enough for a least support.
-    let _ = coded.baskets();
+    let _ = coded.items();
     coded.minimum().least(coded.total())
 }
 
 /// The runs of the coded baskets, which keep the frequent pairs of each rank, or none if none are
 /// given.
 #[tactic(auto, using(std::proofs::lemmas::Grind::common_steps, crate::proofs::theory::PairSums::pairs_for))]
-pub fn runs_keeping(coded: &Coded, mut runs: Runs, pairs: Vec<Vec<(u32, u64)>>) -> Runs
+pub fn runs_keeping(coded: &CodedItems, mut runs: Runs, pairs: Vec<Vec<(u32, u64)>>) -> Runs
     requires supports { (set : List ℕ) → support_of runs.baskets set ≡ support_of coded.now.baskets set }
     requires pairs { 0 < length pairs.items → ArePairs coded.now (lists_of pairs.items) }
     ensures { result ≡ runs }

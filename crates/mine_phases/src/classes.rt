@@ -14,7 +14,7 @@ ghost use Rattle.mine_pieces.specs.WorkerResult.{numbers_of};
 use crate::class_miner::ClassMiner;
 use crate::joined::{Class, joined};
 use crate::round_tally::{RoundTally, Start, are_over};
-use basket_core::{Coded, Frequent};
+use basket_core::{CodedItems, Frequent};
 use mine_conditional::ClassScratch;
 use mine_limit::{MineFault, Tally};
 use mine_pieces::{Cutting, Gate, Phase, WorkerResult, by_workers, claim_piece, collected};
@@ -161,7 +161,7 @@ impl<M: ClassMiner, G: Gate> Classes<'_, '_, M, G> {
 fn mined_classes<'a, 'g, R: Threads + Sync, G: Gate + Sync, M: ClassMiner + Sync>(
     rt: &R,
     alloc: Global,
-    coded: &Coded,
+    coded: &CodedItems,
     miner: &'a M,
     limit: u32,
     phase: &Phase<'g, G>,
@@ -171,7 +171,7 @@ fn mined_classes<'a, 'g, R: Threads + Sync, G: Gate + Sync, M: ClassMiner + Sync
     ensures within { IfOk result (λ _. length (frequent_of_coding coded.now) ≤ limit) }
     ensures too_many { (most : ℕ) → result ≡ Err (TooMany most) → (most ≡ limit) × (limit < length (frequent_of_coding coded.now)) }
 {
-    let _baskets = coded.baskets();
+    let _items = coded.items();
     let ranks = coded.ranks();
     let cutting = phase.for_parts(ranks as usize).cutting;
     let (round, seats) = Round::new(alloc, cutting.pieces, 1, cutting.workers)?;
@@ -206,7 +206,7 @@ fn mined_classes<'a, 'g, R: Threads + Sync, G: Gate + Sync, M: ClassMiner + Sync
 pub fn mine_shared<R: Threads + Sync, G: Gate + Sync, M: ClassMiner + Sync + Drop>(
     rt: &R,
     alloc: Global,
-    coded: &Coded,
+    coded: &CodedItems,
     miner: M,
     limit: u32,
     phase: &Phase<'_, G>,
@@ -217,7 +217,7 @@ pub fn mine_shared<R: Threads + Sync, G: Gate + Sync, M: ClassMiner + Sync + Dro
     ensures work { IfOk result (λ mined. M.rests_on miner → mined.1 ≡ sum_by (M.work_of miner) (range_with_len 0 (length coded.now.items))) }
     ensures too_many { (most : ℕ) → result ≡ Err (TooMany most) → (most ≡ limit) × (limit < length (frequent_of_coding coded.now)) }
 {
-    let _baskets = coded.baskets();
+    let _items = coded.items();
     let classes = mined_classes(rt, alloc, coded, &miner, limit, phase)?;
     drop(miner);
     let (classes, work) = joined(alloc, classes)?;

@@ -60,7 +60,7 @@ pub fn triangle_pairs<R: Threads + Sync, G: Gate + Sync, B: RankedBaskets + Sync
 {
     let counting = PairCounting {
         baskets,
-        least: least_support(coded),
+        least: least_support(coded.coded_items()),
         ranges: ranges_of(alloc, coded, cutting, Cost::Pairs)?,
     };
     let lists = by_pieces(rt, alloc, &counting, &Phase::new(PHASE, cutting, gate))?;

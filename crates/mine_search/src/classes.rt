@@ -7,7 +7,7 @@ ghost use Rattle.mine_search.specs.Node.{Supports, work_at};
 use crate::mined::Mined;
 use crate::projected::Projected;
 use crate::search::extend;
-use basket_core::{Coded, CountedSets, Itemset};
+use basket_core::{CodedItems, CountedSets, Itemset};
 use mine_limit::{MineFault, Tally};
 use std::alloc::Global;
 
@@ -29,7 +29,7 @@ impl<P: Projected> Class<P> {
     pub fn list<T: Tally>(
         self,
         alloc: Global,
-        coded: &Coded,
+        coded: &CodedItems,
         empty: &CountedSets,
         scratch: &mut P::Scratch,
         tally: &mut T,

@@ -5,7 +5,7 @@ ghost use Rattle.mine_vertical.specs.Siblings.{AreClassSiblings};
 
 use crate::joins::{Joins, Sibling};
 use crate::local_baskets::LocalBaskets;
-use basket_core::Coded;
+use basket_core::CodedItems;
 use mine_conditional::{ClassScratch, Conditional, ranks_of};
 use mine_pairs::Runs;
 use mine_rows::Row;
@@ -16,7 +16,7 @@ use std::rc::Rc;
 /// others of the list may be written over.
 #[derive(Drop)]
 pub struct Siblings<'a, R> {
-    pub coded: &'a Coded,
+    pub coded: &'a CodedItems,
     pub least: u64,
     pub local: Rc<LocalBaskets>,
     /// Which marks of the room are over the weights of the baskets.

@@ -5,7 +5,7 @@ ghost use Rattle.basket_sets.specs.Minimum.{IsLeastSupport};
 ghost use Rattle.basket_sets.specs.Support.{total_of};
 ghost use Rattle.mine_baskets.specs.ListBaskets.{HaveSameWeights};
 
-use basket_core::{Coded, CountedSets};
+use basket_core::{Coded, CodedItems, CountedSets};
 use mine_baskets::ListBaskets;
 use mine_pairs::Runs;
 use std::alloc::{AllocError, Global};
@@ -14,7 +14,7 @@ use std::marker::Model;
 /// Coded baskets with the runs of each rank, and the least support that meets their minimum.
 #[derive(Debug)]
 pub struct Vertical<'a> {
-    coded: &'a Coded,
+    coded: &'a CodedItems,
     least: u64,
     runs: Runs,
     /// The empty list of itemsets, which knows the items.
@@ -49,17 +49,17 @@ impl<'a> Vertical<'a> {
         ensures { IfOk result (λ vertical. vertical ≡ coded.now) }
     {
         let lists = ListBaskets::of_coded(alloc, coded)?;
-        Vertical::of_runs(alloc, coded, Runs::of(alloc, lists)?)
+        Vertical::of_runs(alloc, coded.coded_items(), Runs::of(alloc, lists)?)
     }
 
-    /// The coded baskets, with runs of them that were made before.
-    pub fn of_runs(alloc: Global, coded: &'a Coded, runs: Runs) -> Result<Self, AllocError>
+    /// The coded baskets, by runs of them that were made before.
+    pub fn of_runs(alloc: Global, coded: &'a CodedItems, runs: Runs) -> Result<Self, AllocError>
         requires ranks { runs.ranks ≡ length coded.now.items }
         requires weights { HaveSameWeights coded.now.baskets runs.baskets }
         ensures { IfOk result (λ vertical. vertical ≡ coded.now) }
     {
         // The baskets of a coding are light enough for a least support.
-        let _ = coded.baskets();
+        let _ = coded.items();
         let least = coded.minimum().least(coded.total());
         Ok(Vertical {
             coded,
@@ -71,8 +71,8 @@ impl<'a> Vertical<'a> {
 }
 
 impl Vertical<'_> {
-    /// The coded baskets.
-    pub fn coded(&self) -> &Coded
+    /// The items of the coded baskets.
+    pub fn coded(&self) -> &CodedItems
         ensures coded { result.now ≡ self.now }
         ensures coding { IsCoding self.now }
     {
