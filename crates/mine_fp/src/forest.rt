@@ -55,8 +55,6 @@ impl<'a> Forest<'a> {
         ensures { IfOk result (λ forest. forest ≡ coded.now) }
     {
         let empty = CountedSets::new(alloc, coded.items(), coded.total())?;
-        // The baskets of a coding are light enough for a least support.
-        let _ = coded.items();
         let ranks = all_ranks(alloc, &runs)?;
         Ok(Forest {
             all: PatternBase {

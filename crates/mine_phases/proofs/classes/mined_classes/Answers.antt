@@ -36,7 +36,7 @@ returns-in_err-values-clause-too_many g c most e =
     let told : fault_of (map (λ (s : Mined). s.values) shares) ≡ Some (TooMany most) = rw (c.in_err-values.was ∙ ap Err (sym p.2 ∙ fault)) at c.in_ok-seats.ensures.fault in
     let first : 0 < length c.in-Ok.field-0.counters.items = omega (arith, c.in-Ok.ensures.counters, c.in-Ok.field-0.counters.ok, c.in_ok-round.ensures.round.1) in
     subst (λ k. (most ≡ c.args.limit) × (c.args.limit < length (frequent_of_coding k))) c.requires.coding
-    (too_many_are coding c.for_parts.result.cutting.pieces c.for_parts.result.cutting.some_pieces.0 (subst IsCoding (sym c.requires.coding) c.baskets-baskets.ensures.coding)
+    (too_many_are coding c.for_parts.result.cutting.pieces c.for_parts.result.cutting.some_pieces.0 (subst IsCoding (sym c.requires.coding) c.items-items.ensures.coding)
     c.in_ok-round.round (g.M.ClassMiner.rests_on c.args.miner.now) (g.M.ClassMiner.work_of c.args.miner.now) c.args.limit shares c.in_ok-seats.seats.items most _ c.in-Ok.field-0.claimed c.in_ok-seats.ensures.seats all c.in-Ok.ensures.claimed
     (omega (arith, c.in-Ok.ensures.within, c.in_ok-round.ensures.round.0)) (c.in-Ok.ensures.sums 0 first) (c.in-Ok.ensures.greatest 0 first) told)
 
@@ -78,6 +78,6 @@ returns-clause-within g c =
     let Told : SeatView → Type 0 = ToldAll (claimed_size coding cutting.pieces) c.args.limit in
     let told = All-same Told _ _ c.in_ok-seats.ensures.seats (each_seat Told shares lists all (λ k d below. (c.in_ok-seats.ensures.each k d below).call.met.1.told)) in
     let first : 0 < length c.in-Ok.field-0.counters.items = omega (arith, c.in-Ok.ensures.counters, c.in-Ok.field-0.counters.ok, c.in_ok-round.ensures.round.1) in
-    let few = no_more_than_limit coding cutting.pieces cutting.some_pieces.0 (subst IsCoding (sym c.requires.coding) c.baskets-baskets.ensures.coding)
+    let few = no_more_than_limit coding cutting.pieces cutting.some_pieces.0 (subst IsCoding (sym c.requires.coding) c.items-items.ensures.coding)
     c.args.limit seats _ told claimed (c.in-Ok.ensures.sums 0 first) (c.in-Ok.ensures.greatest 0 first) in
     omega (arith, few, ap (λ (k : Coding). length (frequent_of_coding k)) c.requires.coding)

@@ -40,9 +40,8 @@ runs_joined ranks baskets count ranges values of are has is =
     grind (arith, common_steps, length-are, are_at)
 
 pub returns : goal.returns
-returns g c =
+returns g c = λ count are.
     let ranks = c.args.baskets.ranks.now in
     let baskets = baskets_in c.args.baskets in
-    let count = length c.args.coded.now.items in
     IfOk-weaker c.in_a_row.result _ (λ of. HaveRunsFrom 0 count ranks baskets (lists_in of.items))
-    (λ of is. runs_joined ranks baskets count c.in_ok-ranges.ranges.items c.in_ok-lists.lists.items of c.in_ok-ranges.ensures.ranges c.in_ok-lists.ensures is) c.in_a_row.ensures
+    (λ of is. runs_joined ranks baskets count c.args.ranges.items c.in_ok-lists.lists.items of are c.in_ok-lists.ensures is) c.in_a_row.ensures

@@ -1,4 +1,4 @@
-use Rattle.std.proofs.Common.{◌≡◌, ℕ, List, [], map, get_or, length, refl, sym, ap, ◌∙◌}
+use Rattle.std.proofs.Common.{◌≡◌, ℕ, List, [], map, get_or, length, refl, sym, subst, ap, ◌∙◌}
 use Rattle.std.specs.declared.alloc.Global.{Global}
 use Rattle.std.specs.declared.vec.Vec.{Vec}
 use Rattle.std.specs.List.{flat_map, range_with_len}
@@ -7,6 +7,8 @@ use Rattle.std.proofs.lemmas.List.Folds.{flat_map-map}
 use Rattle.std.proofs.lemmas.List.FromFn.{fill_by_all}
 use Rattle.std.proofs.lemmas.Result.{IfOk-weaker}
 use Rattle.basket_sets.specs.declared.weighted.Weighted.{Weighted}
+use Rattle.basket_sets.specs.Minimum.{IsLeastSupport}
+use Rattle.basket_sets.specs.Support.{total_of}
 use Rattle.mine_pairs.specs.declared.rank_range.RankRange.{RankRange}
 use Rattle.mine_pairs.specs.Pairs.{ArePairs, lists_of, pairs_by_greater, pairs_of}
 use Rattle.mine_pairs.specs.Triangle.{pairs_in_range, ranks_in}
@@ -36,7 +38,7 @@ returns g c =
     IfOk-weaker c.in_a_row.result _ (λ lists. ArePairs coding (lists_of lists.items))
     (λ lists is. record {
       least = least;
-      settles = c.least_support.ensures;
+      settles = subst (λ coding. IsLeastSupport coding.minimum (total_of coding.baskets) least) c.coded_items.ensures c.least_support.ensures;
       pairs = ap lists_of is ∙ pairs_joined baskets least (length coding.items) _ c.in_ok-lists.lists.items c.in_ok-ranges_of.ensures.ranges c.in_ok-lists.ensures
           ∙ same_pairs baskets coding.baskets least (length coding.items) c.requires;
     }) c.in_a_row.ensures

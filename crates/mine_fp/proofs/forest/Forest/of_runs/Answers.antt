@@ -7,7 +7,7 @@ use Rattle.mine_fp.proofs.forest.Forest.of_runs.Goals as goal
 
 pub invariant_of-result : goal.invariant_of-result
 invariant_of-result c = record {
-  coding = search (rules, c.baskets.ensures);
+  coding = c.items.ensures.coding;
   least = subst (λ m. IsLeastSupport m (total_of c.args.coded.now.baskets) c.least.result) c.minimum.ensures (subst (λ t. IsLeastSupport c.minimum.result t c.least.result) c.total-2.ensures c.least.ensures);
   count = search (rules, c.of_runs.ensures, c.requires);
   ranked = search (rules, c.of_runs.ensures, c.requires);
