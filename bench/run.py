@@ -19,14 +19,14 @@ from pathlib import Path
 import instructions
 from groups import Group, Groups
 from results import table
-from runs import Asked, Turns, adopt, in_turn, output
+from runs import Asked, Turns, adopt, at_once, in_turn, output
 from workloads import STAGES
 
 HERE = Path(__file__).resolve().parent
 RESULTS = HERE / "RESULTS.md"
 
-# How often each command of a row runs, one after another in each turn.
-RUNS = 3
+# How often each command of a row runs, one after another in each turn, and those of one worker and of four.
+RUNS, RUNS_BY_WORKERS = 3, 7
 
 COUNT = instructions.COLUMN
 NAMES = ["Baskets", "Command"]
@@ -42,10 +42,11 @@ BY_WORKERS = [
     "Ratio",
 ]
 BY_WORKERS += ["MB of one", "MB of four", "Load", COUNT]
+AT_ONCE = "Four programs at once"
 A_MILLION = ["One: a million", "Four: a million", "MB of one: a million"]
 
 TOLD = f"""
-*Seconds* are those of processors, and *Clock* is of the same run: of {RUNS} in turn the one that took the least by the clock. *MB* is the most memory of all runs. *Load* is how many processors other work took just before, the most of all turns. Larger inputs are run once. *{COUNT}* are those of one worker, counted by {{by}}: they are the same on any load, and missing where to count them takes too long. The tables were measured one after another, so compare seconds of one table, not of two."""
+*Seconds* are those of processors, and *Clock* is of the same run: of {RUNS} in turn, and of {RUNS_BY_WORKERS} with one worker and with four, the one that took the least by the clock. *MB* is the most memory of all runs. *Load* is how many processors other work took just before, the most of all turns. *{AT_ONCE}* is how many times as much four programs of one worker do at the same time as one alone, by the best of {RUNS}: what the machine gives to four that share nothing. Larger inputs are run once. *{COUNT}* are those of one worker, counted by {{by}}: they are the same on any load, and missing where to count them takes too long. The tables were measured one after another, so compare seconds of one table, not of two."""
 TOLD_BESIDE = """
 *C++*: the program yardstick.cpp here ran in turn and wrote the same bytes."""
 
@@ -66,9 +67,13 @@ class Bench:
         return text
 
     def shared(self) -> list[str]:
-        rows = [row for it in self.groups.shared for row in self._by_workers(it, RUNS)]
+        rows = []
+        for group in self.groups.shared:
+            for row in self._by_workers(group, RUNS_BY_WORKERS):
+                least = min(at_once(group.by_workers()[0], 4) for _ in range(RUNS))
+                rows.append([*row, f"{4 * float(row[3]) / least:.2f}"])
         title = "## One worker and four, by the clock"
-        return ["", title, "", *table(BY_WORKERS, rows)]
+        return ["", title, "", *table([*BY_WORKERS, AT_ONCE], rows)]
 
     def large(self) -> list[str]:
         head = BY_WORKERS + A_MILLION + BESIDE * bool(self.groups.beside)

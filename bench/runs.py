@@ -3,6 +3,7 @@
 import ctypes
 import hashlib
 import os
+import resource
 import subprocess
 import sys
 import time
@@ -59,12 +60,32 @@ def output(*words: str) -> str:
 def measured(words: Words, data: str, report: str) -> Run:
     """One run. This process has to have called `adopt`."""
     begun = time.monotonic()
-    started = output("sh", "-c", START, "sh", data, report, *words)
-    _, status, used = os.wait4(int(started), 0)
+    used = _ended(words, _started(words, data, report))
     clock = time.monotonic() - begun
+    return Run(used.ru_utime + used.ru_stime, clock, used.ru_maxrss / 1024)
+
+
+def at_once(asked: Asked, programs: int) -> float:
+    """Seconds by the clock of so many runs at the same time. This process has to have called `adopt`."""
+    begun = time.monotonic()
+    started = [_started(asked.words, asked.data, os.devnull) for _ in range(programs)]
+    for each in started:
+        _ended(asked.words, each)
+    return time.monotonic() - begun
+
+
+def _started(words: Words, data: str, report: str) -> int:
+    """The process number of a run."""
+    return int(output("sh", "-c", START, "sh", data, report, *words))
+
+
+def _ended(words: Words, started: int) -> resource.struct_rusage:
+    """What a run took, once it has ended."""
+    used: resource.struct_rusage
+    _, status, used = os.wait4(started, 0)
     if status != 0:
         sys.exit(f"{' '.join(words)}: status {os.waitstatus_to_exitcode(status)}")
-    return Run(used.ru_utime + used.ru_stime, clock, used.ru_maxrss / 1024)
+    return used
 
 
 def in_turn(asked: Sequence[Asked], turns: int) -> Turns:

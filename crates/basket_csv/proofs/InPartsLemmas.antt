@@ -1,10 +1,8 @@
 -- Records of parts in a row.
-use Rattle.std.proofs.Common.{◌≡◌, ℕ, Bool, List, [], ◌∷◌, ◌++◌, Some, fold, get_or, length, ltb, map, unwrap_or, refl, sym, ap, ◌∙◌, subst, append_assoc, arith}
+use Rattle.std.proofs.Common.{◌≡◌, ℕ, Bool, true, List, [], ◌∷◌, ◌++◌, Some, fold, get_or, length, ltb, map, unwrap_or, refl, sym, ap, ◌∙◌, subst, append_assoc, arith}
 use Rattle.std.proofs.lemmas.Grind.{common_steps}
-use Rattle.std.specs.List.{list_all}
+use Rattle.std.specs.List.{list_all, range_with_len}
 use Rattle.std.proofs.lemmas.List.{length-map, map-append}
-use Rattle.std.proofs.lemmas.List.Concat.{flat_map-append}
-use Rattle.std.proofs.lemmas.List.Sums.{fold-append}
 use Rattle.basket_csv.specs.declared.renumbered.RenumberedRecords.{RenumberedRecords}
 use Rattle.basket_csv.specs.declared.part.Part.{Part}
 use Rattle.basket_csv.specs.Csv.{names_in, weight_of, all_names}
@@ -12,8 +10,8 @@ use Rattle.basket_names.specs.Names.{with_name, in_order, number_in, are_among}
 use Rattle.basket_csv.specs.Part.{HasPart, InParts, Rows, size, size_of}
 use Rattle.basket_csv.specs.Renumbered.{AreRenumbered}
 use Rattle.basket_csv.proofs.BasketLemmas.{all_names_more, names_more, read_among}
-use Rattle.basket_names.proofs.theory.Names.{numbers_stay, all_among}
-use Rattle.basket_names.proofs.theory.Together.{add_in_order, among_more_names, numbers_at, numbers_below}
+use Rattle.basket_names.proofs.theory.Names.{numbers_stay}
+use Rattle.basket_names.proofs.theory.Together.{among_added_all, among_more_names, numbers_at, numbers_below, numbers_in_order, self_among}
 
 module _ {A : Type 0} (has : A → Rows → Type 0) where
   -- one part more
@@ -60,47 +58,55 @@ part_added old new weighted rows row weight numbers w same names ns all sizes h 
           ∙ sym (map-append (size_of weighted) rows (row ∷ []));
     }
 
--- ---- the names of parts, numbered together
+-- ---- the numbers of names, among those of all parts
 
--- some parts are renumbered, and these are left
-abbrev pub Renumbers : Bool → List (List ℕ) → List (List ℕ) → List Part → List RenumberedRecords → Rows → Type 0
-Renumbers weighted before known left all rows =
-    (done : Rows) × (rest : Rows) × (rows ≡ done ++ rest) × InParts (HasPart weighted) left rest
-    × (known ≡ fold with_name before (all_names weighted done)) × InParts (AreRenumbered weighted known) all done
+module _ (weighted : Bool) (names : List (List ℕ)) (part : RenumberedRecords) (rows : Rows) (h : AreRenumbered weighted names part rows) where
+  -- each number of a record's name has one among all
+  pub numbers_within : list_all (λ number. ltb number (length part.names.items)) part.records.numbers.items ≡ true
+  numbers_within =
+      ap (λ n. list_all (λ number. ltb number n) part.records.numbers.items) (ap length h.numbered ∙ length-map h.own (number_in names))
+      ∙ ap (list_all (λ number. ltb number (length h.own))) h.numbers ∙ numbers_below h.own (all_names weighted rows) h.own_among
 
-renumbered_still : (weighted : Bool) (known others new : List (List ℕ)) → new ≡ fold with_name known others → (part : RenumberedRecords) (rows : Rows) → AreRenumbered weighted known part rows → AreRenumbered weighted new part rows
-renumbered_still weighted known others new is part rows h = grind (arith, common_steps, among_more_names, numbers_stay)
+  pub numbers_are : map (λ number. get_or part.names.items number 0) part.records.numbers.items ≡ map (number_in names) (all_names weighted rows)
+  numbers_are =
+      ap (λ n. map (λ number. get_or n number 0) part.records.numbers.items) h.numbered
+      ∙ ap (map (λ number. get_or (map (number_in names) h.own) number 0)) h.numbers ∙ numbers_at names h.own (all_names weighted rows) h.own_among
 
-renumbered_now : (weighted : Bool) (known new : List (List ℕ)) (part : Part) (one : RenumberedRecords) (rows : Rows)
-    → new ≡ fold with_name known (all_names weighted rows) → one.records ≡ part.records → one.names.items ≡ map (number_in new) part.names → HasPart weighted part rows → AreRenumbered weighted new one rows
-renumbered_now weighted known new part one rows is records names h =
-    let some = all_names weighted rows in
-    let own = in_order some in
-    let among = read_among [] some in
-    let numbers : one.records.numbers.items ≡ map (number_in own) some = ap (λ r. r.numbers.items) records ∙ h.numbers in
-    let at : one.names.items ≡ map (number_in new) own = names ∙ ap (map (number_in new)) h.names in
-    let long : length one.names.items ≡ length own = ap length at ∙ length-map own (number_in new) in
-    record {
-      below = ap (λ n. list_all (λ number. ltb number n) one.records.numbers.items) long ∙ ap (list_all (λ number. ltb number (length own))) numbers ∙ numbers_below own some among;
-      among = ap (λ n. are_among n some) is ∙ all_among known some;
-      numbers = ap (λ n. map (λ number. get_or n number 0) one.records.numbers.items) at ∙ ap (map (λ number. get_or (map (number_in new) own) number 0)) numbers ∙ numbers_at new own some among;
-      sizes = ap (λ r. r.sizes.items) records ∙ h.sizes;
-    }
+  -- each of these is one of all names
+  pub names_within : list_all (λ number. ltb number (length names)) part.names.items ≡ true
+  names_within = ap (list_all (λ number. ltb number (length names))) h.numbered ∙ numbers_below names h.own h.among
 
-pub renumbers_more : (weighted : Bool) (before known new : List (List ℕ)) (left rest : List Part) (part : Part) (all more : List RenumberedRecords) (one : RenumberedRecords) (rows : Rows)
-    → left ≡ part ∷ rest → new ≡ fold with_name known part.names → one.records ≡ part.records → one.names.items ≡ map (number_in new) part.names → more ≡ all ++ one ∷ []
-    → Renumbers weighted before known left all rows → Renumbers weighted before new rest more rows
-renumbers_more weighted before known new left rest part all more one rows is names records numbers grown (done, others, same, parts, known_is, renumbered) =
-    let (own, later, first, has, in_rest) = subst (λ l. InParts (HasPart weighted) l others) is parts in
-    let added : new ≡ fold with_name known (all_names weighted own) = names ∙ ap (fold with_name known) has.names ∙ add_in_order known (all_names weighted own) in (
-      done ++ own,
-      later,
-      same ∙ ap (λ r. done ++ r) first ∙ sym (append_assoc done own later),
-      in_rest,
-      added ∙ ap (λ n. fold with_name n (all_names weighted own)) known_is ∙ sym (fold-append with_name before (all_names weighted done) (all_names weighted own))
-          ∙ ap (fold with_name before) (sym (flat_map-append (names_in weighted) done own)),
-      subst (λ l. InParts (AreRenumbered weighted new) l (done ++ own)) (sym grown)
-          (in_last (AreRenumbered weighted new) all one done own
-          (in_each (AreRenumbered weighted known) (AreRenumbered weighted new) (renumbered_still weighted known (all_names weighted own) new added) all done renumbered)
-          (renumbered_now weighted known new part one own added records numbers has)),
-    )
+  -- all names come after others, and the numbers change with them
+  pub renumbered_again : (new before : List (List ℕ)) (numbers : List ℕ) (one : RenumberedRecords) → new ≡ fold with_name before names → numbers ≡ map (number_in new) names
+      → one.records ≡ part.records → one.names.items ≡ map (λ number. get_or numbers number 0) part.names.items → AreRenumbered weighted new one rows
+  renumbered_again new before numbers one is are records own_names = record {
+    own = h.own;
+    among = ap (λ n. are_among n h.own) is ∙ among_added_all before names h.own h.among;
+    own_among = h.own_among;
+    numbered = own_names ∙ ap (λ n. map (λ number. get_or n number 0) part.names.items) are ∙ ap (map (λ number. get_or (map (number_in new) names) number 0)) h.numbered
+        ∙ numbers_at new names h.own h.among;
+    numbers = ap (λ r. r.numbers.items) records ∙ h.numbers;
+    sizes = ap (λ r. r.sizes.items) records ∙ h.sizes;
+  }
+
+-- others come after all names, and the numbers stay
+pub renumbered_still : (weighted : Bool) (known others new : List (List ℕ)) → new ≡ fold with_name known others → (part : RenumberedRecords) (rows : Rows) → AreRenumbered weighted known part rows → AreRenumbered weighted new part rows
+renumbered_still weighted known others new is part rows h = record {
+  own = h.own;
+  among = ap (λ n. are_among n h.own) is ∙ among_more_names known others h.own h.among;
+  own_among = h.own_among;
+  numbered = h.numbered ∙ sym (ap (λ n. map (number_in n) h.own) is ∙ numbers_stay known others h.own h.among);
+  numbers = h.numbers;
+  sizes = h.sizes;
+}
+
+-- the names of a part are all
+pub numbered_alone : (weighted : Bool) (part : Part) (one : RenumberedRecords) (rows : Rows) → one.records ≡ part.records → one.names.items ≡ range_with_len 0 (length part.names) → HasPart weighted part rows → AreRenumbered weighted part.names one rows
+numbered_alone weighted part one rows records names h = record {
+  own = part.names;
+  among = self_among part.names;
+  own_among = ap (λ n. are_among n (all_names weighted rows)) h.names ∙ read_among [] (all_names weighted rows);
+  numbered = names ∙ ap (λ n. range_with_len 0 (length n)) h.names ∙ sym (ap (λ n. map (number_in n) n) h.names ∙ numbers_in_order (all_names weighted rows));
+  numbers = ap (λ r. r.numbers.items) records ∙ h.numbers ∙ ap (λ n. map (number_in n) (all_names weighted rows)) (sym h.names);
+  sizes = ap (λ r. r.sizes.items) records ∙ h.sizes;
+}

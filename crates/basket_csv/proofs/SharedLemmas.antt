@@ -64,7 +64,7 @@ drop_past [] rest n k e = let same : k ≡ n = omega (arith, e) in ap (λ i. dro
 drop_past (x ∷ first) rest n zero e = absurd (omega arith)
 drop_past (x ∷ first) rest n (suc k) e = drop_past first rest n k (omega arith)
 
-header_before : (header : Bool) (n : ℕ) → n ≡ bool_byte header → n + 1 ≡ first_number header
+pub header_before : (header : Bool) (n : ℕ) → n ≡ bool_byte header → n + 1 ≡ first_number header
 header_before h1 h2 h3 = grind (arith, common_steps)
 
 nothing_left : (separator : ℕ) (header : Bool) (rest : List ℕ) → rest ≡ [] → after_header header (records_of separator rest) ≡ []

@@ -56,5 +56,5 @@ module _ (weighted : Bool) (known names : List (List ℕ)) (rows : Rows) (are : 
       → (baskets : List Weighted) × (baskets_said weighted known rows ≡ Ok (baskets, names)) × AreGathered counting counts baskets
   said_found counting counts (baskets, light, gathered) = grind (arith, common_steps)
 
-pub names_together : (known before names some : List (List ℕ)) → before ≡ in_order known → names ≡ fold with_name before some → names ≡ in_order (known ++ some)
-names_together known before names some is all = all ∙ ap (λ b. fold with_name b some) is ∙ sym (fold-append with_name [] known some)
+pub names_together : (known names some : List (List ℕ)) → names ≡ fold with_name (in_order known) some → names ≡ in_order (known ++ some)
+names_together known names some all = all ∙ sym (fold-append with_name [] known some)

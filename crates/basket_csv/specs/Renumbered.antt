@@ -1,6 +1,6 @@
 -- The records of a part, whose names are numbered with those of the others.
-use Rattle.std.specs.Prelude.{◌≡◌, ℕ, Bool, List, IsTrue, Result, length, map, nat_lt, slice_index_or}
-use Rattle.std.specs.List.{flat_map, list_all}
+use Rattle.std.specs.Prelude.{◌≡◌, ℕ, Bool, List, IsTrue, Result, map}
+use Rattle.std.specs.List.{flat_map}
 use Rattle.basket_read.specs.declared.fault.ReadFault.{ReadFault}
 use Rattle.basket_read.specs.declared.item_counts.ItemCounts.{ItemCounts}
 use Rattle.basket_read.specs.Fault.{ReturnsBy}
@@ -11,11 +11,14 @@ use Rattle.basket_csv.specs.Csv.{all_names, basket_of}
 use Rattle.basket_names.specs.Names.{are_among, number_in}
 use Rattle.basket_csv.specs.Part.{InParts, Rows, size_of}
 
--- each number stands for that of a name of these records among some names
+-- the part has these records: names of its own, the numbers of these among some names, and numbers of its records' names
+-- among its own
 pub record AreRenumbered (weighted : Bool) (names : List (List ℕ)) (part : RenumberedRecords) (rows : Rows) : Type 0 where
-  pub below : IsTrue (list_all (λ number. nat_lt number (length part.names.items)) part.records.numbers.items)
-  pub among : IsTrue (are_among names (all_names weighted rows))
-  pub numbers : map (λ number. slice_index_or part.names.items number 0) part.records.numbers.items ≡ map (number_in names) (all_names weighted rows)
+  pub own : List (List ℕ)
+  pub among : IsTrue (are_among names own)
+  pub own_among : IsTrue (are_among own (all_names weighted rows))
+  pub numbered : part.names.items ≡ map (number_in names) own
+  pub numbers : part.records.numbers.items ≡ map (number_in own) (all_names weighted rows)
   pub sizes : part.records.sizes.items ≡ map (size_of weighted) rows
 
 -- parts in a row have some records

@@ -1,20 +1,24 @@
 //! What the bytes of an input say, read by several workers.
 ghost use Rattle.std.specs.Prelude.{◌≡◌, ◌≢◌, ◌≤◌, ℕ, List, [], length, OnOk, IfErr};
 ghost use Rattle.basket_read.specs.declared.fault.ReadFault.TheVariants.{Read};
-ghost use Rattle.basket_read.specs.Fault.{Returns, ReturnsBy};
+ghost use Rattle.basket_read.specs.Fault.{Returns, ReturnsBoth, ReturnsBy};
 ghost use Rattle.basket_read.specs.Fimi.{MOST_BYTES};
 ghost use Rattle.basket_csv.specs.Baskets.{AreNamedCounts};
-ghost use Rattle.basket_csv.specs.Csv.{baskets_of_csv, pairs_of_csv};
+ghost use Rattle.basket_csv.specs.Counts.{HasCounts, named_counts_of};
+ghost use Rattle.basket_csv.specs.Csv.{baskets_of_csv, first_number, pairs_of_csv};
 ghost use Rattle.basket_csv.specs.Pairs.{HasPairs};
+ghost use Rattle.basket_csv.specs.RecordCollector.{Start};
 
 use crate::baskets::Baskets;
 use crate::collector::{TextCollector, say};
+use crate::counts::Counts;
 use crate::pairs::Pairs;
 use crate::parts::{parts_of, parts_of_pairs};
-use crate::renumbered::{gathered_shared, renumbered};
+use crate::renumbered::gathered_shared;
 use crate::shared::{Reading, read_all};
-use basket_names::{Names, Numbering};
-use basket_read::{ItemCounts, ReadFault};
+use crate::together::numbered_together;
+use basket_names::Names;
+use basket_read::{CountedLine, ItemCounts, ReadFault};
 use basket_sets::Database;
 use std::thread::Threads;
 
@@ -64,8 +68,7 @@ fn baskets_in_parts<R: Threads + Sync>(
         ..
     } = reading;
     let parts = read_all(rt, reading, bytes, count)?;
-    let mut names = Numbering::of(alloc, seed, known)?;
-    let parts = renumbered(alloc, parts, &mut names)?;
+    let (names, parts) = numbered_together(rt, alloc, seed, parts, known)?;
     let counts = gathered_shared(rt, alloc, counting, &parts)?;
     Ok((counts, names.into_names()?))
 }
@@ -104,4 +107,41 @@ fn pairs_in_parts<R: Threads + Sync>(
 {
     let parts = read_all(rt, reading, bytes, count)?;
     pairs.followed_by_all(rt, parts)?.finish()
+}
+
+/// What the bytes say if each record is a count and a set, as `say` does.
+pub fn say_counts<R: Threads + Sync>(
+    rt: &R,
+    reading: Reading,
+    bytes: &[u8],
+    known: Names,
+    workers: u32,
+) -> Result<(Vec<CountedLine>, Names), ReadFault>
+    ensures said { ReturnsBoth result (named_counts_of reading.dialect.separator reading.dialect.header known bytes.now) }
+    ensures not_read { IfErr result (λ fault. fault ≢ Read) }
+    ensures within { OnOk result (length bytes.now ≤ MOST_BYTES) }
+{
+    let counts = Counts::new(reading.alloc, reading.seed, known)?;
+    let count = parts_of(bytes, workers);
+    if count >= 2 {
+        return counts_in_parts(rt, reading, bytes, counts, count);
+    }
+    say(reading.alloc, bytes, reading.dialect, counts)
+}
+
+/// The same by about so many parts. No sets were read yet.
+fn counts_in_parts<R: Threads + Sync>(
+    rt: &R,
+    reading: Reading,
+    bytes: &[u8],
+    counts: Counts,
+    count: usize,
+) -> Result<(Vec<CountedLine>, Names), ReadFault>
+    requires { length bytes.now ≤ MOST_BYTES }
+    ensures said { (start : Start) → start.first ≡ first_number reading.dialect.header → HasCounts counts start [] → ReturnsBoth result (named_counts_of reading.dialect.separator reading.dialect.header start.known bytes.now) }
+    ensures not_read { IfErr result (λ fault. fault ≢ Read) }
+{
+    let parts = read_all(rt, reading, bytes, count)?;
+    let first = 1 + u32::from(reading.dialect.header);
+    counts.followed_by_all(first, parts)?.finish()
 }

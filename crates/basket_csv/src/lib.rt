@@ -21,6 +21,7 @@ mod records;
 mod renumbered;
 mod row;
 mod shared;
+mod together;
 pub mod worked;
 
 pub use dialect::Dialect;

@@ -1,6 +1,6 @@
 //! Names and ids that are numbered with those that come next, side by side.
-ghost use Rattle.std.specs.Prelude.{◌≡◌, fold, map, IfOk};
-ghost use Rattle.basket_names.specs.Names.{number_in, with_name};
+ghost use Rattle.std.specs.Prelude.{IfOk};
+ghost use Rattle.basket_csv.specs.Numbered.{AreNumbered};
 
 use basket_names::{Ids, Numbering};
 use std::alloc::AllocError;
@@ -15,22 +15,22 @@ pub fn both_numbered<R: Threads + Sync>(
     names: (Numbering, Numbering),
     ids: (Ids, Ids),
 ) -> (Numbered<Numbering>, Numbered<Ids>)
-    ensures names { IfOk result.0 (λ all. (all.0 ≡ fold with_name names.0 names.1) × (all.1.items ≡ map (number_in all.0) names.1)) }
-    ensures ids { IfOk result.1 (λ all. (all.0 ≡ fold with_name ids.0 ids.1) × (all.1.items ≡ map (number_in all.0) ids.1)) }
+    ensures names { IfOk result.0 (λ all. AreNumbered names.0 names.1 all.0 all.1.items) }
+    ensures ids { IfOk result.1 (λ all. AreNumbered ids.0 ids.1 all.0 all.1.items) }
 {
     join(
         rt,
         || -> Numbered<Numbering>
-            ensures { IfOk result (λ all. (all.0 ≡ fold with_name names.0 names.1) × (all.1.items ≡ map (number_in all.0) names.1)) }
+            ensures { IfOk result (λ all. AreNumbered names.0 names.1 all.0 all.1.items) }
         { all_names(names) },
         || -> Numbered<Ids>
-            ensures { IfOk result (λ all. (all.0 ≡ fold with_name ids.0 ids.1) × (all.1.items ≡ map (number_in all.0) ids.1)) }
+            ensures { IfOk result (λ all. AreNumbered ids.0 ids.1 all.0 all.1.items) }
         { all_ids(ids) },
     )
 }
 
 fn all_names(names: (Numbering, Numbering)) -> Numbered<Numbering>
-    ensures { IfOk result (λ all. (all.0 ≡ fold with_name names.0 names.1) × (all.1.items ≡ map (number_in all.0) names.1)) }
+    ensures { IfOk result (λ all. AreNumbered names.0 names.1 all.0 all.1.items) }
 {
     let (mut names, later) = names;
     let numbers = names.numbers_of(later.into_names()?)?;
@@ -38,7 +38,7 @@ fn all_names(names: (Numbering, Numbering)) -> Numbered<Numbering>
 }
 
 fn all_ids(ids: (Ids, Ids)) -> Numbered<Ids>
-    ensures { IfOk result (λ all. (all.0 ≡ fold with_name ids.0 ids.1) × (all.1.items ≡ map (number_in all.0) ids.1)) }
+    ensures { IfOk result (λ all. AreNumbered ids.0 ids.1 all.0 all.1.items) }
 {
     let (mut ids, later) = ids;
     let numbers = ids.append(later)?;

@@ -6,10 +6,8 @@ ghost use Rattle.basket_read.specs.Fault.{Reads, IsDefined, AreDefined, IsRead};
 ghost use Rattle.basket_csv.specs.Read.{AreCountsNamed};
 ghost use Rattle.basket_read.specs.ItemCounts.{AreLightCounts};
 
-use crate::collector::say;
-use crate::counts::Counts;
 use crate::dialect::Dialect;
-use crate::input::{say_baskets, say_pairs};
+use crate::input::{say_baskets, say_counts, say_pairs};
 use crate::shared::Reading;
 use basket_names::{Names, Seed};
 use basket_read::{CountedLine, ItemCounts, ReadFault, take_in};
@@ -100,22 +98,29 @@ pub fn read_single<R: RandomSource + Threads + Sync, S: Source>(
     say_pairs(rt, reading, &bytes, known, workers)
 }
 
-/// Reads a CSV input to its end. Each record is a count and a set of names: its first field
-/// is the count, and the others are the names, without the spaces and tabs at their ends and
-/// without the empty ones. The known names keep their numbers, and new ones are numbered after
+/// Reads a CSV input to its end, by this many workers. Each record is a count and a set of names: its
+/// first field is the count, and the others are the names, without the spaces and tabs at their ends
+/// and without the empty ones. The known names keep their numbers, and new ones are numbered after
 /// them. A set's line is the number of its record; the header, if there is one, is number 1.
-pub fn read_named_counts<R: RandomSource, S: Source>(
+pub fn read_named_counts<R: RandomSource + Threads + Sync, S: Source>(
     rt: &R,
     alloc: Global,
     reader: &mut S,
     dialect: Dialect,
     known: Names,
+    workers: u32,
 ) -> Result<(Vec<CountedLine>, Names), ReadFault>
     requires { S.has_failed reader.old ≡ false }
     ensures read { Reads AreDefined (named_counts_of dialect.separator dialect.header known) IsRead (S.left reader.old) (S.has_failed reader.new) result }
     ensures ended { OnOk result (S.at_end reader.new ≡ true) }
 {
     let bytes = take_in(alloc, reader)?;
-    let counts = Counts::new(alloc, Seed::new(rt), known)?;
-    say(alloc, &bytes, dialect, counts)
+    let reading = Reading {
+        alloc,
+        seed: Seed::new(rt),
+        dialect,
+        weighted: false,
+        counting: false,
+    };
+    say_counts(rt, reading, &bytes, known, workers)
 }

@@ -1,18 +1,16 @@
-//! The records of parts, whose names are numbered together.
-ghost use Rattle.std.specs.Prelude.{◌≡◌, ◌≤◌, ◌<◌, ◌+◌, ◌++◌, Bool, List, ℕ, true, false, [], IsTrue, fold, length, map, nat_lt, slice_index_or, OnOk, IfOk, IfErr};
+//! The records of parts whose names are numbered together.
+ghost use Rattle.std.specs.Prelude.{◌≡◌, ◌≤◌, ◌<◌, ◌+◌, ◌++◌, Bool, List, ℕ, true, false, [], IsTrue, length, map, nat_lt, slice_index_or, OnOk, IfOk, IfErr};
 ghost use Rattle.std.specs.List.{flat_map, list_all};
 ghost use Rattle.std.specs.Thread.{IsSync};
 ghost use Rattle.basket_sets.specs.declared.weighted.Weighted.{Weighted};
 ghost use Rattle.basket_read.specs.Fault.{ReturnsBy};
 ghost use Rattle.basket_read.specs.Fimi.{if_light};
 ghost use Rattle.basket_read.specs.GatheredBaskets.{AreGathered, Gathers, HasGathered};
-ghost use Rattle.basket_csv.specs.Csv.{all_names, basket_of};
-ghost use Rattle.basket_names.specs.Names.{with_name};
-ghost use Rattle.basket_csv.specs.Part.{HasPart, InParts, Rows};
+ghost use Rattle.basket_csv.specs.Csv.{basket_of};
+ghost use Rattle.basket_csv.specs.Part.{Rows};
 ghost use Rattle.basket_csv.specs.Renumbered.{AreRenumbered, GathersParts, HaveRows};
 
-use crate::part::{NumberedRecords, Part};
-use basket_names::Numbering;
+use crate::part::NumberedRecords;
 use basket_read::{GatheredBaskets, ItemCounts, ReadFault};
 use basket_sets::Database;
 use std::alloc::{AllocError, Global};
@@ -25,27 +23,27 @@ pub struct RenumberedRecords {
     names: Vec<u32>,
 }
 
-/// The records of parts that come one after another. Their names are numbered after those that are
-/// known.
-pub fn renumbered(
-    alloc: Global,
-    parts: Vec<Part>,
-    known: &mut Numbering,
-) -> Result<Vec<RenumberedRecords>, ReadFault>
-    ensures names { (weighted : Bool) (rows : Rows) → InParts (HasPart weighted) parts.items rows → OnOk result (known.new ≡ fold with_name known.old (all_names weighted rows)) }
-    ensures parts { (weighted : Bool) (rows : Rows) → InParts (HasPart weighted) parts.items rows → IfOk result (λ parts. InParts (AreRenumbered weighted known.new) parts.items rows) }
-    ensures err { IfErr result (λ fault. fault ≡ ReadFault.Memory) }
-{
-    let mut all = Vec::with_capacity(alloc, parts.len())?;
-    for part in parts {
-        let Part { names, records, .. } = part;
-        let names = known.numbers_of(names.into_names()?)?;
-        all.push(RenumberedRecords { records, names })?;
-    }
-    Ok(all)
-}
-
 impl RenumberedRecords {
+    /// Records, and the number of each name of their part.
+    pub fn new(records: NumberedRecords, names: Vec<u32>) -> Self
+        ensures records { result.records ≡ records }
+        ensures names { result.names ≡ names }
+    {
+        RenumberedRecords { records, names }
+    }
+
+    /// These, if all names get other numbers, which stand at the indexes of the numbers that they have.
+    pub fn renumbered(self, alloc: Global, numbers: &[u32]) -> Result<Self, AllocError>
+        requires { IsTrue (list_all (λ number. nat_lt number (length numbers.now)) self.names.items) }
+        ensures records { IfOk result (λ part. part.records ≡ self.records) }
+        ensures names { IfOk result (λ part. part.names.items ≡ map (λ number. slice_index_or numbers.now number 0) self.names.items) }
+    {
+        let RenumberedRecords { records, names } = self;
+        let mut renumbered = Vec::new(alloc);
+        rename(&names, numbers, &mut renumbered)?;
+        Ok(RenumberedRecords::new(records, renumbered))
+    }
+
     /// Gathers the baskets of the records.
     fn gather(&self, alloc: Global, gathered: &mut GatheredBaskets) -> Result<(), ReadFault>
         requires numbered { (weighted : Bool) × (names : List (List ℕ)) × (rows : Rows) × AreRenumbered weighted names self.now rows }

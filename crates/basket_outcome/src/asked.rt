@@ -13,7 +13,7 @@ use std::alloc::{AllocError, Global};
 use std::random::RandomSource;
 use std::thread::Threads;
 
-/// Reads sets to their end, as numbers by this many workers or as CSV names like the layout's items,
+/// Reads sets to their end, by this many workers, as numbers or as CSV names like the layout's items,
 /// with the names of their items; numbers have none. Their counts, if they have any, are ignored.
 pub fn read_asked<R: RandomSource + Threads + Sync, S: Source>(
     rt: &R,
@@ -27,7 +27,7 @@ pub fn read_asked<R: RandomSource + Threads + Sync, S: Source>(
     ensures ended { OnOk result (S.at_end reader.new ≡ true) }
 {
     if layout.form.has_names() {
-        return read_named_sets(rt, alloc, layout.separator, reader);
+        return read_named_sets(rt, alloc, layout.separator, workers, reader);
     }
     match read_sets(rt, alloc, reader, workers) {
         Ok(sets) => Ok((sets, Names::none(alloc))),
@@ -35,11 +35,13 @@ pub fn read_asked<R: RandomSource + Threads + Sync, S: Source>(
     }
 }
 
-/// Reads sets of names in CSV to their end, where each record has a count before its names.
-fn read_named_sets<R: RandomSource, S: Source>(
+/// Reads sets of names in CSV to their end, by this many workers, where each record has a count before
+/// its names.
+fn read_named_sets<R: RandomSource + Threads + Sync, S: Source>(
     rt: &R,
     alloc: Global,
     separator: u8,
+    workers: u32,
     reader: &mut S,
 ) -> Result<(Vec<Itemset>, Names), ReadFault>
     requires { S.has_failed reader.old ≡ false }
@@ -50,7 +52,8 @@ fn read_named_sets<R: RandomSource, S: Source>(
         separator,
         header: false,
     };
-    let (lines, names) = match read_named_counts(rt, alloc, reader, dialect, Names::none(alloc)) {
+    let known = Names::none(alloc);
+    let (lines, names) = match read_named_counts(rt, alloc, reader, dialect, known, workers) {
         Ok(read) => read,
         Err(fault) => return Err(fault),
     };

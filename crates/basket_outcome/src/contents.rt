@@ -61,7 +61,9 @@ impl Contents {
             )),
             Form::Single => named(read_single(rt, alloc, reader, dialect, known, workers)),
             Form::Counts => counted(read_combined(rt, alloc, reader, workers)),
-            Form::CsvCounts => named_counts(read_named_combined(rt, alloc, reader, dialect, known)),
+            Form::CsvCounts => named_counts(read_named_combined(
+                rt, alloc, reader, dialect, known, workers,
+            )),
         }
     }
 }
@@ -93,19 +95,20 @@ fn read_combined<R: Threads + Sync, S: Source>(
     }
 }
 
-/// Reads counted sets of names to their end, and merges equal ones.
-fn read_named_combined<R: RandomSource, S: Source>(
+/// Reads counted sets of names to their end, by this many workers, and merges equal ones.
+fn read_named_combined<R: RandomSource + Threads + Sync, S: Source>(
     rt: &R,
     alloc: Global,
     reader: &mut S,
     dialect: Dialect,
     known: Names,
+    workers: u32,
 ) -> Result<(CombinedCounts, Names), ReadFault>
     requires { S.has_failed reader.old ≡ false }
     ensures read { Reads IsDefined (λ bytes. result_and_then named_combined_of (named_counts_of dialect.separator dialect.header known bytes)) IsRead (S.left reader.old) (S.has_failed reader.new) result }
     ensures ended { OnOk result (S.at_end reader.new ≡ true) }
 {
-    let (lines, names) = match read_named_counts(rt, alloc, reader, dialect, known) {
+    let (lines, names) = match read_named_counts(rt, alloc, reader, dialect, known, workers) {
         Ok(read) => read,
         Err(fault) => return Err(fault),
     };

@@ -1,15 +1,27 @@
-use Rattle.std.proofs.Common.{◌≤◌, ◌++◌, arith, ap, length, ltb, map, get_or, refl, subst, ◌∙◌}
+use Rattle.std.proofs.Common.{◌≤◌, ◌++◌, arith, ap, append-nil, sym, length, ltb, map, get_or, refl, subst, ◌∙◌}
 use Rattle.std.specs.List.{flat_map, list_all}
 use Rattle.std.proofs.lemmas.List.{length-map, take_all}
 use Rattle.basket_read.specs.GatheredBaskets.{HasGathered}
 use Rattle.basket_csv.specs.declared.part.RecordSize.{RecordSize}
 use Rattle.basket_csv.specs.Csv.{basket_of}
 use Rattle.basket_csv.specs.Part.{size, size_of}
+use Rattle.basket_csv.proofs.InPartsLemmas.{numbers_are, numbers_within}
 use Rattle.basket_csv.proofs.GatherLemmas.{enough, gathers_more, numbers_more, own_below, size_weighs}
 use Rattle.basket_csv.proofs.renumbered.RenumberedRecords.gather.Goals as goal
 
 abbrev none : RecordSize
 none = size 0 0
+
+pub loop-size-init : goal.loop-size-init
+loop-size-init c = record {
+  left = λ weighted names rows numbered.
+      let numbers = c.as_slice-rest.ensures.value in
+      record {
+        left = ap (map (λ number. get_or c.args.self.now.names.items number 0)) numbers ∙ numbers_are weighted names c.args.self.now rows numbered;
+        below = ap (list_all (λ number. ltb number (length c.args.self.now.names.items))) numbers ∙ numbers_within weighted names c.args.self.now rows numbered;
+      };
+  gathered = λ counting weighted names baskets rows has numbered. subst (HasGathered c.args.gathered.now counting) (sym (append-nil baskets)) has;
+}
 
 pub split_at-requires : goal.split_at-requires
 split_at-requires c =
