@@ -4,6 +4,7 @@ PREFIX ?= $(HOME)/.local
 PROGRAM := crates/basket_cli/out/basket_cli
 STAGES := crates/basket_bench/out/basket_bench
 YARDSTICK := bench/out/yardstick
+SPREAD := bench/out/spread.so
 TESTS := crates/basket_checks/% crates/mine_checks/% crates/mine_runs/% crates/basket_runs/%
 SOURCES := crates.txt $(filter-out $(TESTS),$(shell find crates -name out -prune -o -type f \( -name '*.rt' -o -name '*.antt' \) -print))
 PLACE := $(DESTDIR)$(PREFIX)
@@ -80,11 +81,16 @@ $(YARDSTICK): bench/yardstick.cpp
 	mkdir -p $(@D)
 	$(CXX) -O3 -march=x86-64-v2 -std=c++17 -o $@ $<
 
+# Puts each thread of a program on a processor of its own.
+$(SPREAD): bench/spread.c
+	mkdir -p $(@D)
+	$(CC) -O2 -shared -fPIC -o $@ $< -ldl
+
 # Times the program, beside the C++ program, its stages, the Python package and the page, and writes bench/RESULTS.md.
 # It wants valgrind and an idle machine; bench/COST.md says how long it takes.
-bench: $(PROGRAM) $(STAGES) $(YARDSTICK) page
+bench: $(PROGRAM) $(STAGES) $(YARDSTICK) $(SPREAD) page
 	tools/python-packages
-	bench/run.py $(PROGRAM) --beside $(YARDSTICK) --stages $(STAGES) --frames bench/frames.py \
+	bench/run.py $(PROGRAM) --beside $(YARDSTICK) --spread $(SPREAD) --stages $(STAGES) --frames bench/frames.py \
 		--cluster bench/cluster.py --page bench/in_browser.py
 
 # Counts the instructions of the commands of bench/RESULTS.md, which are the same on any load, and tells which take more

@@ -20,12 +20,13 @@ class Group(NamedTuple):
     def all(self) -> list[Asked]:
         return [*self.asked, *self.beside]
 
-    def by_workers(self) -> list[Asked]:
-        """Each command with one worker and with four, and then that of the C++ program."""
+    def by_workers(self, spread: str) -> list[Asked]:
+        """Each command with one worker, with four, and with four on a processor each, by a library that is loaded;
+        and then that of the C++ program."""
         each = [
-            one._replace(words=(*one.words, f"--workers={workers}"))
+            one._replace(words=(*one.words, f"--workers={workers}"), loaded=loaded)
             for one in self.asked
-            for workers in (1, 4)
+            for workers, loaded in ((1, ""), (4, ""), (4, spread))
         ]
         return [*each, *self.beside]
 

@@ -19,14 +19,14 @@ from pathlib import Path
 import instructions
 from groups import Group, Groups
 from results import table
-from runs import Asked, Turns, adopt, at_once, in_turn, output
+from runs import Asked, Turns, adopt, in_turn, output
 from workloads import STAGES
 
 HERE = Path(__file__).resolve().parent
 RESULTS = HERE / "RESULTS.md"
 
 # How often each command of a row runs, one after another in each turn, and those of one worker and of four.
-RUNS, RUNS_BY_WORKERS = 3, 7
+RUNS, RUNS_BY_WORKERS = 3, 5
 
 COUNT = instructions.COLUMN
 NAMES = ["Baskets", "Command"]
@@ -40,13 +40,14 @@ BY_WORKERS = [
     "Four",
     "Their processors",
     "Ratio",
+    "Spread",
+    "Its ratio",
 ]
 BY_WORKERS += ["MB of one", "MB of four", "Load", COUNT]
-AT_ONCE = "Four programs at once"
 A_MILLION = ["One: a million", "Four: a million", "MB of one: a million"]
 
 TOLD = f"""
-*Seconds* are those of processors, and *Clock* is of the same run: of {RUNS} in turn, and of {RUNS_BY_WORKERS} with one worker and with four, the one that took the least by the clock. *MB* is the most memory of all runs. *Load* is how many processors other work took just before, the most of all turns. *{AT_ONCE}* is how many times as much four programs of one worker do at the same time as one alone, by the best of {RUNS}: what the machine gives to four that share nothing. Larger inputs are run once. *{COUNT}* are those of one worker, counted by {{by}}: they are the same on any load, and missing where to count them takes too long. The tables were measured one after another, so compare seconds of one table, not of two."""
+*Seconds* are those of processors, and *Clock* is of the same run: of {RUNS} in turn, or {RUNS_BY_WORKERS} with one worker and four, the one that took the least by the clock. *MB* is the most memory of all runs. *Load* is how many processors other work took just before, the most of all turns. *Spread* is by four workers too, each thread on a processor of its own (spread.c): a kernel may leave two on one processor while others have none, and that of this virtual machine does. Larger inputs are run once. *{COUNT}* are those of one worker, counted by {{by}}: they are the same on any load, and missing where to count them takes too long. The tables were measured one after another, so compare seconds of one table, not of two."""
 TOLD_BESIDE = """
 *C++*: the program yardstick.cpp here ran in turn and wrote the same bytes."""
 
@@ -54,8 +55,9 @@ TOLD_BESIDE = """
 class Bench:
     """The tables of RESULTS.md."""
 
-    def __init__(self, groups: Groups) -> None:
+    def __init__(self, groups: Groups, spread: str) -> None:
         self.groups = groups
+        self.spread = spread
         self.counted = instructions.counted(groups.counted())
 
     def by_title(self) -> list[str]:
@@ -67,20 +69,16 @@ class Bench:
         return text
 
     def shared(self) -> list[str]:
-        rows = []
-        for group in self.groups.shared:
-            for row in self._by_workers(group, RUNS_BY_WORKERS):
-                least = min(at_once(group.by_workers()[0], 4) for _ in range(RUNS))
-                rows.append([*row, f"{4 * float(row[3]) / least:.2f}"])
+        rows = [row for it in self.groups.shared for row in self._by_workers(it)]
         title = "## One worker and four, by the clock"
-        return ["", title, "", *table([*BY_WORKERS, AT_ONCE], rows)]
+        return ["", title, "", *table(BY_WORKERS, rows)]
 
     def large(self) -> list[str]:
         head = BY_WORKERS + A_MILLION + BESIDE * bool(self.groups.beside)
         rows = []
         for group in self.groups.large:
             millions = int(group.asked[0].says.split()[0].replace(",", "")) / 1e6
-            rows += self._by_workers(group, 0, millions)
+            rows += self._by_workers(group, millions)
         return ["", "## Larger inputs, by the clock", "", *table(head, rows)]
 
     def stages(self, program: str) -> list[str]:
@@ -114,17 +112,19 @@ class Bench:
             rows[-1] += self._beside(group, asked, run.seconds, turns)
         return rows
 
-    def _by_workers(
-        self, group: Group, runs: int, millions: float = 0
-    ) -> list[list[str]]:
-        turns = in_turn(group.by_workers(), runs)
+    def _by_workers(self, group: Group, millions: float = 0) -> list[list[str]]:
+        """The rows of a group, of one run each if they say what a million baskets take."""
+        turns = in_turn(
+            group.by_workers(self.spread), 0 if millions else RUNS_BY_WORKERS
+        )
         rows = []
         for at, asked in enumerate(group.asked):
-            one, four = turns.runs[2 * at : 2 * at + 2]
+            one, four, spread = turns.runs[3 * at : 3 * at + 3]
             seconds = [one.clock, one.seconds, four.clock, four.seconds]
             row = [asked.says, asked.command, f"{turns.lines:,}"]
             row += [f"{each:.3f}" for each in seconds]
             row += [f"{one.clock / four.clock:.2f}"]
+            row += [f"{spread.clock:.3f}", f"{one.clock / spread.clock:.2f}"]
             row += [f"{run.memory:.0f}" for run in (one, four)]
             row += [f"{turns.load:.1f}", self._millions(asked)]
             if millions:
@@ -167,6 +167,7 @@ def main() -> None:
     parser = argparse.ArgumentParser(description=__doc__)
     parser.add_argument("program")
     parser.add_argument("--beside")
+    parser.add_argument("--spread", default="")
     parser.add_argument("--stages")
     parser.add_argument("--frames")
     parser.add_argument("--cluster")
@@ -177,7 +178,8 @@ def main() -> None:
     before = RESULTS.read_text(encoding="utf-8") if RESULTS.exists() else ""
     top = head(given.beside is not None)
     with tempfile.TemporaryDirectory() as folder:
-        bench = Bench(Groups(given.program, given.beside, Path(folder)))
+        groups = Groups(given.program, given.beside, Path(folder))
+        bench = Bench(groups, os.path.abspath(given.spread) if given.spread else "")
         if given.instructions:
             found = bench.of_counts()
         else:

@@ -3,7 +3,6 @@
 import ctypes
 import hashlib
 import os
-import resource
 import subprocess
 import sys
 import time
@@ -15,19 +14,24 @@ Words = tuple[str, ...]
 
 # The shell leaves the program to this process. A process has at least the memory of the
 # one that begins it, and a shell has little.
-START = 'data=$1; report=$2; shift 2; "$@" < "$data" > "$report" & echo $!'
+START = (
+    "data=$1; report=$2; loaded=$3; shift 3; "
+    '[ -z "$loaded" ] || export LD_PRELOAD="$loaded"; '
+    '"$@" < "$data" > "$report" & echo $!'
+)
 
 # For how many seconds it is looked at what else the machine does.
 LOOK = 0.2
 
 
 class Asked(NamedTuple):
-    """A command over an input, and how tables name both."""
+    """A command over an input, how tables name both, and a library that is loaded before others."""
 
     says: str
     command: str
     words: Words
     data: str
+    loaded: str = ""
 
 
 class Run(NamedTuple):
@@ -57,35 +61,15 @@ def output(*words: str) -> str:
     return ran.stdout.strip()
 
 
-def measured(words: Words, data: str, report: str) -> Run:
+def measured(words: Words, data: str, report: str, loaded: str = "") -> Run:
     """One run. This process has to have called `adopt`."""
     begun = time.monotonic()
-    used = _ended(words, _started(words, data, report))
+    started = output("sh", "-c", START, "sh", data, report, loaded, *words)
+    _, status, used = os.wait4(int(started), 0)
     clock = time.monotonic() - begun
-    return Run(used.ru_utime + used.ru_stime, clock, used.ru_maxrss / 1024)
-
-
-def at_once(asked: Asked, programs: int) -> float:
-    """Seconds by the clock of so many runs at the same time. This process has to have called `adopt`."""
-    begun = time.monotonic()
-    started = [_started(asked.words, asked.data, os.devnull) for _ in range(programs)]
-    for each in started:
-        _ended(asked.words, each)
-    return time.monotonic() - begun
-
-
-def _started(words: Words, data: str, report: str) -> int:
-    """The process number of a run."""
-    return int(output("sh", "-c", START, "sh", data, report, *words))
-
-
-def _ended(words: Words, started: int) -> resource.struct_rusage:
-    """What a run took, once it has ended."""
-    used: resource.struct_rusage
-    _, status, used = os.wait4(started, 0)
     if status != 0:
         sys.exit(f"{' '.join(words)}: status {os.waitstatus_to_exitcode(status)}")
-    return used
+    return Run(used.ru_utime + used.ru_stime, clock, used.ru_maxrss / 1024)
 
 
 def in_turn(asked: Sequence[Asked], turns: int) -> Turns:
@@ -97,7 +81,7 @@ def in_turn(asked: Sequence[Asked], turns: int) -> Turns:
     loads = [load()]
     first = []
     for one in asked:
-        first.append(measured(one.words, one.data, report))
+        first.append(measured(one.words, one.data, report, one.loaded))
         text = Path(report).read_bytes()
         digests.add(hashlib.sha256(text).digest())
         if len(digests) > 1:
@@ -105,7 +89,9 @@ def in_turn(asked: Sequence[Asked], turns: int) -> Turns:
     found = [] if turns else [first]
     for _ in range(turns):
         loads.append(load())
-        found.append([measured(one.words, one.data, os.devnull) for one in asked])
+        found.append(
+            [measured(one.words, one.data, os.devnull, one.loaded) for one in asked]
+        )
     each: list[tuple[Run, ...]] = [*zip(*found)]
     runs = [
         min(of_one, key=lambda run: run.clock)._replace(

@@ -5,7 +5,6 @@ use Rattle.csv.specs.Machine.{ends_at_end}
 use Rattle.csv.specs.Reading.{records_from, source_of, ReadRecord, Reached}
 use Rattle.csv.specs.declared.reader.Reader.{Reader}
 use Rattle.csv.proofs.ReadFacts.{rows-more, rows-end}
-use Rattle.csv.specs.declared.parser.State.TheVariants as st
 use Rattle.basket_csv.proofs.RecordLemmas.{leaves, records_none, records_some}
 
 -- the bytes and the records that a reader of bytes in memory has left

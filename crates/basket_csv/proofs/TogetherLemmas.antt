@@ -1,5 +1,5 @@
 -- Names of parts that are numbered together.
-use Rattle.std.proofs.Common.{◌≡◌, ◌<◌, ℕ, suc, Bool, List, [], ◌∷◌, ◌++◌, fold, get_or, length, map, refl, sym, ap, ◌∙◌, subst, append_assoc, append-nil, arith}
+use Rattle.std.proofs.Common.{◌≡◌, ℕ, Bool, List, [], ◌∷◌, ◌++◌, fold, get_or, map, refl, sym, ap, ◌∙◌, subst, append_assoc, append-nil, arith}
 use Rattle.std.proofs.lemmas.Grind.{common_steps}
 use Rattle.std.proofs.lemmas.List.Concat.{flat_map-append}
 use Rattle.std.proofs.lemmas.List.Sums.{fold-append}
@@ -8,7 +8,7 @@ use Rattle.basket_csv.specs.declared.renumbered.RenumberedRecords.{RenumberedRec
 use Rattle.basket_csv.specs.Csv.{all_names, names_in}
 use Rattle.basket_csv.specs.Part.{HasPart, InParts, Rows}
 use Rattle.basket_csv.specs.Renumbered.{AreRenumbered}
-use Rattle.basket_csv.specs.Together.{AreTogether, HaveParts}
+use Rattle.basket_csv.specs.Together.{HaveParts}
 use Rattle.basket_names.specs.Names.{in_order, number_in, with_name}
 use Rattle.basket_csv.proofs.InPartsLemmas.{in_each, in_halves, in_last, renumbered_again, renumbered_still}
 use Rattle.basket_names.proofs.theory.Together.{add_in_order}

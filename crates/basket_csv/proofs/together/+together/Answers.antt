@@ -1,4 +1,4 @@
-use Rattle.std.proofs.Common.{◌≡◌, ◌++◌, ◌∙◌, [], subst, sym}
+use Rattle.std.proofs.Common.{◌++◌, ◌∙◌, [], subst, sym}
 use Rattle.std.specs.Prelude.{IfOk}
 use Rattle.std.proofs.lemmas.List.{take-append-drop}
 use Rattle.basket_csv.specs.Part.{HasPart, InParts}

@@ -1,4 +1,4 @@
-use Rattle.std.proofs.Common.{◌≡◌, List, [], refl, subst, sym}
+use Rattle.std.proofs.Common.{[], refl, subst, sym}
 use Rattle.basket_csv.specs.Part.{InParts}
 use Rattle.basket_csv.specs.Renumbered.{AreRenumbered}
 use Rattle.basket_csv.specs.Together.{AreTogether}

@@ -1,11 +1,9 @@
-use Rattle.std.proofs.Common.{◌≡◌, ◌+◌, ◌++◌, ◌∙◌, Bool, List, ℕ, [], ap, fold, get_or, inl, inr, length, map, refl, subst, sym, arith}
-use Rattle.std.proofs.lemmas.Grind.{common_steps}
+use Rattle.std.proofs.Common.{◌≡◌, ◌++◌, ◌∙◌, Bool, [], ap, fold, get_or, inl, inr, length, map, refl, subst, sym, arith}
 use Rattle.std.proofs.lemmas.List.{nil_from_length}
 use Rattle.std.specs.Vec.Iter.{into_iter_items}
 use Rattle.basket_sets.specs.Itemset.{AllBelow, rising}
 use Rattle.basket_sets.proofs.theory.Members.{Member}
-use Rattle.basket_csv.specs.RecordCollector.{Start}
-use Rattle.basket_csv.specs.Counts.{HasCounts, lines_from}
+use Rattle.basket_csv.specs.Counts.{lines_from}
 use Rattle.basket_csv.specs.Csv.{all_names}
 use Rattle.basket_names.specs.Names.{in_order, number_in, with_name}
 use Rattle.basket_csv.proofs.BasketLemmas.{read_among}
