@@ -74,6 +74,20 @@ class CitedNames(unittest.TestCase):
         self.assertEqual(cited - there, set())
 
 
+# Two crates that have only laws, two programs, and the crates of tests.
+WITHOUT_EXAMPLE = (
+    "basket_laws",
+    "mine_classes",
+    "basket_bench",
+    "basket_cli",
+    "basket_checks",
+    "basket_runs",
+    "mine_checks",
+    "mine_plain",
+    "mine_runs",
+)
+
+
 def examples() -> dict[str, str]:
     """The example in the first lines of each crate that has one."""
     found = {}
@@ -88,14 +102,28 @@ def stripped(text: str) -> str:
     return "".join(f"{line.strip()}\n" for line in text.splitlines())
 
 
-class Examples(unittest.TestCase):
-    """The first lines of a crate show calls that a test makes, so that the gate compiles, proves and runs them."""
+def code_by_crate() -> dict[str, str]:
+    """The code of each crate, with that of its tests."""
+    crates = ROOT / "crates"
+    found: dict[str, str] = {}
+    for part in ("src", "tests"):
+        for path in crates.glob(f"*/{part}/**/*.rt"):
+            crate = path.relative_to(crates).parts[0]
+            text = stripped(path.read_text(encoding="utf-8"))
+            found[crate] = f"{found.get(crate, '')}\n{text}"
+    return found
 
-    def test_each_example_of_a_crate_stands_in_a_test(self) -> None:
-        paths = (ROOT / "crates").glob("*/src/tests/*.rt")
-        tests = [stripped(path.read_text(encoding="utf-8")) for path in paths]
-        shown = examples()
-        self.assertGreaterEqual(len(shown), 10)
-        for crate, example in shown.items():
+
+class Examples(unittest.TestCase):
+    """The first lines of a crate show calls that a test or another crate makes, so that the gate proves them."""
+
+    def test_each_crate_has_an_example_but_laws_programs_and_tests(self) -> None:
+        lacking = set(code_by_crate()) - set(examples())
+        self.assertEqual(lacking, set(WITHOUT_EXAMPLE))
+
+    def test_each_example_of_a_crate_stands_in_a_test_or_another_crate(self) -> None:
+        code = code_by_crate()
+        for crate, example in examples().items():
+            others = [text for name, text in code.items() if name != crate]
             with self.subTest(crate=crate):
-                self.assertTrue(any(f"\n{example}" in test for test in tests), example)
+                self.assertTrue(any(f"\n{example}" in text for text in others), example)

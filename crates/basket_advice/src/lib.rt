@@ -1,5 +1,13 @@
 //! Lines of advice for a person at a terminal, made of what a run tells and of nothing else. No more
 //! is proved of these functions than that they are safe and end.
+//!
+//! ```
+//! let advice = match ending {
+//!     Ending::Refused(PlanFault::Usage(text)) => words_advice(rt.alloc(), text.as_str(), words),
+//!     Ending::Ran(invocation, ran) => run_advice(rt.alloc(), invocation, *ran, told),
+//!     _ => return,
+//! };
+//! ```
 #![tactic(auto)]
 
 mod decimal;

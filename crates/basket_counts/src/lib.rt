@@ -1,4 +1,11 @@
 //! A reader of counted sets that returns exactly the sets of a list, or its first fault.
+//!
+//! ```
+//! match read_counts(rt, alloc, reader, workers) {
+//!     Ok(lines) => CombinedCounts::of(alloc, lines),
+//!     Err(fault) => Err(fault),
+//! }
+//! ```
 #![tactic(auto)]
 
 mod halves;

@@ -1,5 +1,13 @@
 //! Readers of baskets of names from CSV, which return exactly the baskets of an input, or its first
 //! fault.
+//!
+//! ```
+//! let known = Names::none(alloc);
+//! let (lines, names) = match read_named_counts(rt, alloc, reader, dialect, known, workers) {
+//!     Ok(read) => read,
+//!     Err(fault) => return Err(fault),
+//! };
+//! ```
 #![tactic(auto)]
 
 mod baskets;

@@ -1,5 +1,15 @@
 //! Lists of sets with their counts, each kept in one word if its items are known beforehand, and
 //! their report order.
+//!
+//! ```
+//! let mut items = CountedSets::empty(alloc)?;
+//! for place in 0..sets.len() {
+//!     if sets.size(place) == 1 {
+//!         items.push(sets.set(alloc, place)?, sets.count(place))?;
+//!     }
+//! }
+//! Ok(items)
+//! ```
 #![tactic(auto)]
 
 mod counted_sets;

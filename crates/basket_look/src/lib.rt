@@ -1,6 +1,15 @@
 //! What a file is, by its first bytes: how its text is written, which form it has, and the command
 //! that mines it. What is recognised is a guess: of these functions no more is proved than that
 //! they are safe and end.
+//!
+//! ```
+//! let mut bytes = Vec::new(rt.alloc());
+//! let one_more = MOST_BYTES as u64 + 1;
+//! open(rt, name)?.take(one_more).read_to_end(&mut bytes)?;
+//! let is_whole = bytes.len() <= MOST_BYTES;
+//! bytes.truncate(MOST_BYTES);
+//! Ok(looked(rt.alloc(), &bytes, is_whole, name)?)
+//! ```
 #![tactic(auto)]
 
 mod column;

@@ -1,4 +1,11 @@
 //! The names of items and the ids of baskets, and their numbers by first appearance.
+//!
+//! ```
+//! let name = trim(text);
+//! if !name.is_empty() {
+//!     numbers.push(names.number(name)?)?;
+//! }
+//! ```
 #![tactic(auto)]
 
 mod ids;

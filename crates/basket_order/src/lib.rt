@@ -1,5 +1,14 @@
 //! How lists are searched and cut by keys. Nothing here knows of sets.
 //!
+//! ```
+//! let mut table = IndexTable::with_room(alloc, sets.len())?;
+//! let mut room = [0; MOST_ITEMS];
+//! for index in 0..sets.len() {
+//!     table.keep(items_hash(items_at(sets, index, &mut room)), index);
+//! }
+//! Ok(table)
+//! ```
+//!
 //! `index_table` keeps by hashes where elements may be, and `near_search` looks for them in a sorted
 //! list, close to an index first. `keyed` cuts a list in two that threads sort side by side.
 #![tactic(auto)]

@@ -1,5 +1,13 @@
 //! What an input says, a report before it is written, and the outcome of a question by definition:
 //! the text of its report, or its fault.
+//!
+//! ```
+//! let names = Names::none(alloc);
+//! match Contents::read(rt, alloc, plan.layout(), names, plan.workers(), reader) {
+//!     Ok(contents) => report_contents(rt, alloc, contents, plan),
+//!     Err(fault) => Err(RunFault::Input(fault)),
+//! }
+//! ```
 #![tactic(auto)]
 
 mod asked;

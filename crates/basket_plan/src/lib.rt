@@ -1,4 +1,11 @@
 //! The plan that the words of a command line make: what is asked of an input, and how it is found.
+//!
+//! ```
+//! let Invocation { task, .. } = invocation_of(alloc, words)?;
+//! let Task::Report(plan) = task else {
+//!     return Err(Fail::new("the words ask for no report"));
+//! };
+//! ```
 #![tactic(auto)]
 
 mod command;

@@ -1,4 +1,14 @@
 //! The bytes of a report: a line of numbers for each set or rule, or a CSV record of names.
+//!
+//! ```
+//! match style {
+//!     Style::Numbers => {
+//!         let lines = SetLines::new(alloc, &sets, workers)?;
+//!         Ok(PreparedReport::Sets(sets, lines))
+//!     }
+//!     Style::Names { .. } => Ok(PreparedReport::Text(sets_report(alloc, &sets, style)?)),
+//! }
+//! ```
 #![tactic(auto)]
 
 mod buffer;

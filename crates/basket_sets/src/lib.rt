@@ -1,4 +1,10 @@
 //! Itemsets, databases of weighted baskets, and what it means that a set is frequent.
+//!
+//! ```
+//! let a = Itemset::from_items(alloc, a)?;
+//! let b = Itemset::from_items(alloc, b)?;
+//! Ok(report_order(&a, &b))
+//! ```
 #![tactic(auto, using(std::proofs::lemmas::Grind::common_steps))]
 
 mod counted;

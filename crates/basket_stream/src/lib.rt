@@ -1,4 +1,10 @@
 //! Where the bytes of an input come from, and where those of a report go.
+//!
+//! ```
+//! let reader = MemSource::new(input, step, None);
+//! let writer = MemSink::new(rt.alloc(), 300, step, false)?;
+//! let (result, text) = run_words(&rt, rt.alloc(), words, reader, writer)?;
+//! ```
 #![tactic(auto)]
 
 mod failed;

@@ -1,5 +1,15 @@
 //! Baskets of ranks, as lists and as words.
 //!
+//! ```
+//! let (count, ranks, baskets) = lists.into_parts();
+//! let all = Baskets {
+//!     count,
+//!     ranks: &ranks,
+//!     spans: &baskets,
+//! };
+//! let of = runs_by_ranges(rt, alloc, all, ranges, cutting)?;
+//! ```
+//!
 //! `list_baskets` sorts coded baskets so that those with a common prefix are neighbours, and merges
 //! equal ones; `entries` has the keys by which they are sorted, and `span` is a part of the list
 //! that has all their ranks. `baskets` is how they are lent. If there are at most 64 ranks, `words`

@@ -1,5 +1,13 @@
 //! Conditional databases.
 //!
+//! ```
+//! let numbers = &mut scratch.numbers;
+//! let conditional = self
+//!     .paths
+//!     .below(alloc, numbers, number, self.least, &ranks)?;
+//! let paths = Paths::of(alloc, conditional)?;
+//! ```
+//!
 //! `paths` has coded baskets in the form from which classes are mined: as runs, or as words if there
 //! are few ranks (`word_paths`). `conditional` keeps the baskets that have a rank to the ranks that
 //! are frequent together with it, which `local_numbers`, `bit_table` and `shift`

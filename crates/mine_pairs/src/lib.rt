@@ -1,5 +1,13 @@
 //! Frequent pairs of ranks, for all miners.
 //!
+//! ```
+//! if is_small_triangle(coded.ranks(), coded.baskets().len()) {
+//!     return triangle_pairs(rt, alloc, coded, coded, cutting, gate);
+//! }
+//! let (runs, least) = runs_with_least(alloc, coded)?;
+//! count_pairs(rt, alloc, &runs, least, cutting, gate)
+//! ```
+//!
 //! `pairs` finds them by a count for each pair, in `triangle`, over baskets as `ranked` has them, if
 //! the ranks are few, else rank by rank, by `sums` over `runs`: the indexes of each rank in the prefix
 //! tree of the baskets, which `rank_runs` finds.

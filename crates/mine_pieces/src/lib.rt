@@ -1,6 +1,12 @@
 //! Work in pieces, which workers claim in a round: what is found doesn't depend on which worker
 //! takes which.
 //!
+//! ```
+//! let work = RankRuns { baskets, ranges };
+//! let lists = by_pieces(rt, alloc, &work, &Phase::new(PHASE, cutting, &Open))?;
+//! in_a_row(alloc, lists)
+//! ```
+//!
 //! A `phase` finds a value for each part that its `pieces` have, cut as its `cutting` says.
 //! `worker_result` is what a worker hands back, `placed` puts values in their order, and workers
 //! pass a `gate` with each piece. `counting` counts the items of baskets so.

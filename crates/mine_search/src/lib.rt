@@ -1,4 +1,14 @@
 //! A search for frequent sets, depth first, over conditional databases of any kind.
+//!
+//! ```
+//! let class = Class {
+//!     rank,
+//!     support,
+//!     below,
+//!     steps: trees,
+//! };
+//! class.list(alloc, all.coded, &forest.empty, scratch, tally)
+//! ```
 #![tactic(auto)]
 
 mod branch;
