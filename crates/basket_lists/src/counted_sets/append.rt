@@ -42,7 +42,7 @@ impl CountedSets {
 }
 
 /// Adds words, and the sets that they stand for to those of another list. All are words of the same
-/// coding.
+/// coding. If no set is kept elsewhere, the words are added at once.
 fn append_words(
     words: &mut Vec<Packed>,
     plain: &mut PlainSets,
@@ -55,6 +55,9 @@ fn append_words(
     ensures sets { (coding : Coding) → All (IsKept coding plain.old) words.old.items → All (IsKept coding other_plain.now) others.now
         → OnOk result (map (kept coding plain.new) words.new.items ≡ map (kept coding plain.old) words.old.items ++ map (kept coding other_plain.now) others.now) }
 {
+    if other_plain.is_empty() {
+        return words.extend_from_slice(others);
+    }
     words.reserve(others.len())?;
     for other in others {
         append_word(words, plain, *other, other_plain)?;
