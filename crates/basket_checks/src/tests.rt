@@ -30,8 +30,8 @@ fn assert_numbers(rt: &impl Abort, found: &[u64], wanted: &[u64]) {
 /// The baskets as text, each with its weight.
 fn text_of(alloc: Global, baskets: &[Weighted]) -> Result<String, AllocError> {
     let mut text = String::new(alloc);
-    for place in baskets {
-        write!(text, "{} ({})|", place.basket, place.weight)?;
+    for basket in baskets {
+        write!(text, "{} ({})|", basket.basket, basket.weight)?;
     }
     Ok(text)
 }

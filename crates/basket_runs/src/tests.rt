@@ -62,6 +62,16 @@ fn ran(end: Result<(), RunFault>, written: Vec<u8>) -> Result<Ran, Fail> {
     }
 }
 
+/// Asserts what a run came to and what it wrote. The case is told if it is otherwise.
+fn assert_ran(
+    rt: &impl Abort,
+    (end, written): Ran,
+    wanted: (Result<(), RunFault>, &[u8]),
+    (case, number): (&str, u64),
+) {
+    assert_eq!(rt; (end, written.as_slice()), wanted, "{case}, {number}");
+}
+
 /// Runs what the words ask for.
 fn run_words<'a, R: Threads + Sync>(
     rt: &R,

@@ -51,14 +51,19 @@ fn ranked(alloc: Global, coded: &Coded) -> Result<(u32, [Option<u32>; 6]), Alloc
     Ok((coded.ranks(), items))
 }
 
-/// The ranks of the nine baskets and what they are of, and the baskets as ranks, as text.
+/// The ranks and what they are of, and the baskets as ranks, as text.
+fn coded_text(alloc: Global, coded: &Coded) -> Result<String, AllocError> {
+    let (ranks, items) = ranked(alloc, coded)?;
+    let baskets = text_of(alloc, coded.baskets())?;
+    let (total, minimum) = (coded.total(), coded.minimum());
+    format!(in alloc; "{ranks} {items:?} {total} {minimum:?} {baskets}")
+}
+
+/// That of the nine baskets.
 fn nine_coded(alloc: Global) -> Result<String, Fail> {
     let database = database(alloc, NINE_BASKETS)?;
     let coded = coded_at(alloc, &database, Minimum::Count(2))?;
-    let (ranks, items) = ranked(alloc, &coded)?;
-    let baskets = text_of(alloc, coded.baskets())?;
-    let minimum = coded.minimum();
-    Ok(format!(in alloc; "{ranks} {items:?} {} {minimum:?} {baskets}", coded.total())?)
+    Ok(coded_text(alloc, &coded)?)
 }
 
 /// Items 1 and 3 have one count, and so have 4 and 5.

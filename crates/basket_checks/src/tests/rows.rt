@@ -4,7 +4,7 @@ use std::alloc::{AllocError, Global};
 use std::test::Fail;
 
 /// The supports of the sets 1 2, 1 3 and 1 2 3 in the nine baskets, by rows that are joined. The
-/// covers are the places of the baskets that have 1, 2 and 3, read off by hand.
+/// covers are the tids of the baskets that have 1, 2 and 3, read off by hand.
 fn joined_supports<R: CoverRow>(alloc: Global) -> Result<[u64; 3], AllocError> {
     let weights = Weights::of(alloc, &[1, 1, 1, 1, 1, 1, 1, 1, 1])?;
     let one = R::first(alloc, &[0, 3, 4, 6, 7, 8], &weights)?;

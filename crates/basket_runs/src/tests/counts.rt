@@ -18,12 +18,8 @@ fn counts_are_the_same_however_bytes_are_given_and_baskets_shared(
             let sets = MemSource::new(SETS, step, None);
             let reader = MemSource::new(NINE_BASKETS, step, None);
             let writer = MemSink::new(rt.alloc(), 100, step, false)?;
-            let (result, text) = counted(&rt, rt.alloc(), &plan, sets, reader, writer)?;
-            assert_eq!(rt;
-                (result, text.as_slice()),
-                (Ok(()), COUNTS),
-                "by {step} and {workers} workers"
-            );
+            let ran = counted(&rt, rt.alloc(), &plan, sets, reader, writer)?;
+            assert_ran(&rt, ran, (Ok(()), COUNTS), ("bytes", step as u64));
         }
     }
     Ok(())
@@ -36,8 +32,8 @@ fn counts_of_concatenated_parts_are_added_up(rt: HostRuntime) -> Result<(), Fail
     let sets = MemSource::new(SETS, 100, None);
     let reader = MemSource::new(parts, 100, None);
     let writer = MemSink::new(rt.alloc(), 100, 100, false)?;
-    let (result, text) = counted(&rt, rt.alloc(), &plan, sets, reader, writer)?;
-    assert_eq!(rt; (result, text.as_slice()), (Ok(()), COUNTS));
+    let ran = counted(&rt, rt.alloc(), &plan, sets, reader, writer)?;
+    assert_ran(&rt, ran, (Ok(()), COUNTS), ("parts", 2));
     Ok(())
 }
 
@@ -56,11 +52,9 @@ fn each_reader_that_fails_is_told_and_nothing_is_written(rt: HostRuntime) -> Res
             let sets = MemSource::new(SETS, 1, before_sets);
             let reader = MemSource::new(b"1 2 3", 1, before_input);
             let writer = MemSink::new(rt.alloc(), 100, 100, false)?;
-            let (result, text) = counted(&rt, rt.alloc(), &plan, sets, reader, writer)?;
-            assert_eq!(rt;
-                (result, text.as_slice(), status_of(&fault)),
-                (Err(fault), b"".as_slice(), 4)
-            );
+            let ran = counted(&rt, rt.alloc(), &plan, sets, reader, writer)?;
+            assert_eq!(rt; status_of(&fault), 4);
+            assert_ran(&rt, ran, (Err(fault), b""), ("reader", 0));
         }
     }
     Ok(())
@@ -72,10 +66,12 @@ fn a_set_without_a_count_is_told_by_its_place(rt: HostRuntime) -> Result<(), Fai
     let sets = MemSource::new(SETS, 100, None);
     let reader = MemSource::new(b"(9)\n1 2 (4)\n", 100, None);
     let writer = MemSink::new(rt.alloc(), 100, 100, false)?;
-    let (result, text) = counted(&rt, rt.alloc(), &plan, sets, reader, writer)?;
-    assert_eq!(rt;
-        (result, text.as_slice()),
-        (Err(RunFault::Uncounted { nth: 2 }), b"".as_slice())
+    let ran = counted(&rt, rt.alloc(), &plan, sets, reader, writer)?;
+    assert_ran(
+        &rt,
+        ran,
+        (Err(RunFault::Uncounted { nth: 2 }), b""),
+        ("set", 2),
     );
     Ok(())
 }

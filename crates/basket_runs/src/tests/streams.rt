@@ -32,11 +32,7 @@ fn a_report_is_the_same_however_its_bytes_are_given_and_taken(rt: HostRuntime) -
             let reader = MemSource::new(input, step, None);
             let writer = MemSink::new(rt.alloc(), 300, step, false)?;
             let (result, text) = run_words(&rt, rt.alloc(), words, reader, writer)?;
-            assert_eq!(rt;
-                (result, text.as_slice()),
-                (Ok(()), want),
-                "{words:?} by {step}"
-            );
+            assert_ran(&rt, (result, text), (Ok(()), want), (words[0], step as u64));
         }
     }
     Ok(())
@@ -69,13 +65,10 @@ fn a_fault_in_the_lines_before_a_failed_read_is_told(rt: HostRuntime) -> Result<
     ];
     for &(input, reads, fault, status) in cases {
         let reader = MemSource::new(input, 1, Some(reads));
-        let (result, text) = items(&rt, rt.alloc(), "fimi", reader)?;
+        let ran = items(&rt, rt.alloc(), "fimi", reader)?;
         let fault = RunFault::Input(fault);
-        assert_eq!(rt;
-            (result, text.as_slice(), status_of(&fault)),
-            (Err(fault), b"".as_slice(), status),
-            "after {reads} reads"
-        );
+        assert_eq!(rt; status_of(&fault), status);
+        assert_ran(&rt, ran, (Err(fault), b""), ("reads", reads));
     }
     Ok(())
 }
@@ -84,11 +77,12 @@ fn a_fault_in_the_lines_before_a_failed_read_is_told(rt: HostRuntime) -> Result<
 fn a_failed_read_of_csv_is_all_that_is_told(rt: HostRuntime) -> Result<(), Fail> {
     for (form, input) in [("single", b"a\n".as_slice()), ("baskets", b"\xFF\n")] {
         let reader = MemSource::new(input, 1, Some(2));
-        let (result, text) = items(&rt, rt.alloc(), form, reader)?;
-        assert_eq!(rt;
-            (result, text.as_slice()),
-            (Err(RunFault::Input(ReadFault::Read)), b"".as_slice()),
-            "{form}"
+        let ran = items(&rt, rt.alloc(), form, reader)?;
+        assert_ran(
+            &rt,
+            ran,
+            (Err(RunFault::Input(ReadFault::Read)), b""),
+            (form, 2),
         );
     }
     Ok(())
@@ -112,12 +106,8 @@ fn a_writer_that_fails_has_taken_a_front_of_the_report(rt: HostRuntime) -> Resul
     for &(ask, room, piece, flush_fails, want, written) in cases {
         let reader = MemSource::new(NINE_BASKETS, 100, None);
         let writer = MemSink::new(rt.alloc(), room, piece, flush_fails)?;
-        let (result, text) = run_words(&rt, rt.alloc(), &[ask, "--min", "2"], reader, writer)?;
-        assert_eq!(rt;
-            (result, text.as_slice()),
-            (want, written),
-            "{ask} by {piece} into {room}"
-        );
+        let ran = run_words(&rt, rt.alloc(), &[ask, "--min", "2"], reader, writer)?;
+        assert_ran(&rt, ran, (want, written), (ask, piece as u64));
     }
     Ok(())
 }
