@@ -3,9 +3,9 @@
 //!
 //! ```
 //! let mut items = CountedSets::empty(alloc)?;
-//! for place in 0..sets.len() {
-//!     if sets.size(place) == 1 {
-//!         items.push(sets.set(alloc, place)?, sets.count(place))?;
+//! for index in 0..sets.len() {
+//!     if sets.size(index) == 1 {
+//!         items.push(sets.set(alloc, index)?, sets.count(index))?;
 //!     }
 //! }
 //! Ok(items)

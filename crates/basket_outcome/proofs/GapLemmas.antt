@@ -39,10 +39,10 @@ not_none n some = grind (arith, nat_tests, some)
 
 -- ---- subsets of one item less
 
-shorter : (place : ℕ) (items : List ℕ) → place < length items → length (without place items) + 1 ≡ length items
-shorter place [] below = absurd (omega (arith, below))
+shorter : (index : ℕ) (items : List ℕ) → index < length items → length (without index items) + 1 ≡ length items
+shorter index [] below = absurd (omega (arith, below))
 shorter zero (item ∷ items) below = omega arith
-shorter (suc place) (item ∷ items) below = let rest = shorter place items (omega (arith, below)) in omega (arith, rest)
+shorter (suc index) (item ∷ items) below = let rest = shorter index items (omega (arith, below)) in omega (arith, rest)
 
 all_of_it : (items : List ℕ) → Member items (subsets_of_size (length items) items)
 all_of_it [] = inl refl
@@ -51,15 +51,15 @@ all_of_it (item ∷ items) = Member-append_left (item ∷ items) _ _ (Member-map
 after_first : (size item : ℕ) (items set : List ℕ) → Member set (subsets_of_size size items) → Member set (subsets_of_size size (item ∷ items))
 after_first h1 h2 h3 h4 h5 = grind (arith, common_steps, Member-append_right)
 
-without_is_subset : (place size : ℕ) (items : List ℕ) → place < length items → suc size ≡ length items → Member (without place items) (subsets_of_size size items)
-without_is_subset place size [] below sized = absurd (omega (arith, below))
+without_is_subset : (index size : ℕ) (items : List ℕ) → index < length items → suc size ≡ length items → Member (without index items) (subsets_of_size size items)
+without_is_subset index size [] below sized = absurd (omega (arith, below))
 without_is_subset zero size (item ∷ items) below sized =
     let e : length items ≡ size = omega (arith, sized) in
     after_first size item items items (subst (λ n. Member items (subsets_of_size n items)) e (all_of_it items))
-without_is_subset (suc place) zero (item ∷ items) below sized = absurd (omega (arith, below, sized))
-without_is_subset (suc place) (suc size) (item ∷ items) below sized =
-    Member-append_left (item ∷ without place items) (map (λ s. item ∷ s) (subsets_of_size size items)) (subsets_of_size (suc size) items)
-    (Member-map (λ s. item ∷ s) (without place items) (subsets_of_size size items) (without_is_subset place size items (omega (arith, below)) (omega (arith, sized))))
+without_is_subset (suc index) zero (item ∷ items) below sized = absurd (omega (arith, below, sized))
+without_is_subset (suc index) (suc size) (item ∷ items) below sized =
+    Member-append_left (item ∷ without index items) (map (λ s. item ∷ s) (subsets_of_size size items)) (subsets_of_size (suc size) items)
+    (Member-map (λ s. item ∷ s) (without index items) (subsets_of_size size items) (without_is_subset index size items (omega (arith, below)) (omega (arith, sized))))
 
 -- ---- nothing is found
 
@@ -116,11 +116,11 @@ module _ (lines : List CountedLine) (minimum : Minimum) (lines_rise : All HasRis
   subset_there set subset m some gap = grind (arith, common_steps, nat_tests, not_none, meets_more, met, Member-from_filter, sets_from_has, listed_is)
 
   has_subsets : (set : List ℕ) → Member set frequent_sets → HasSubsets (frequent_in lines minimum) (counted_in lines set)
-  has_subsets set m place below long =
+  has_subsets set m index below long =
       let size : suc (length set - 1) ≡ length set = omega (arith, long) in
-      let less = shorter place set below in
-      let gap = none_any _ (subsets_of_size (length set - 1) set) (no_gap set m) (without place set) (without_is_subset place (length set - 1) set below size) in
-      subset_there set (without place set) m (omega (arith, less, long)) gap
+      let less = shorter index set below in
+      let gap = none_any _ (subsets_of_size (length set - 1) set) (no_gap set m) (without index set) (without_is_subset index (length set - 1) set below size) in
+      subset_there set (without index set) m (omega (arith, less, long)) gap
 
   each : (P : Counted → Type 0) → ((set : List ℕ) → Member set frequent_sets → P (counted_in lines set)) → All P (frequent_in lines minimum)
   each P holds = All-from_recursion P (frequent_in lines minimum)

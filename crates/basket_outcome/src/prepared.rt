@@ -136,9 +136,9 @@ fn single_items(alloc: Global, sets: &CountedSets) -> Result<CountedSets, AllocE
     ensures { IfOk result (λ items. items ≡ filter (λ c. length c.set == 1) sets.now) }
 {
     let mut items = CountedSets::empty(alloc)?;
-    for place in 0..sets.len() {
-        if sets.size(place) == 1 {
-            items.push(sets.set(alloc, place)?, sets.count(place))?;
+    for index in 0..sets.len() {
+        if sets.size(index) == 1 {
+            items.push(sets.set(alloc, index)?, sets.count(index))?;
         }
     }
     Ok(items)

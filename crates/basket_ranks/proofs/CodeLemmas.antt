@@ -35,7 +35,7 @@ coded_is ranked basket apart = rising_is (filter_map (rank_of ranked) basket) (c
     (λ r m. let k = from_ranks 0 ranked basket r m in
     Member-into_filter_map (rank_of ranked) basket (get_or ranked k.0 0) r (Member-from_has basket (get_or ranked k.0 0) k.3) (rank_at 0 ranked k.0 0 apart k.1 ∙ ap Some (sym k.2)))
 
--- ---- a list is mapped place by place
+-- ---- a list is mapped one by one
 
 pub mapped_at : {A : Type 0} (f : A → A) (xs : List A) (k : ℕ) (d : A) → k < length xs → get_or (map f (take k xs) ++ drop k xs) k d ≡ get_or xs k d
 mapped_at f [] k d below = absurd (omega arith)
@@ -47,11 +47,11 @@ mapped_more f [] k d below = absurd (omega arith)
 mapped_more f (x ∷ xs) zero d below = refl
 mapped_more f (x ∷ xs) (suc k) d below = ap (λ l. f x ∷ l) (mapped_more f xs k d (omega arith))
 
--- one place more is coded where it lies
-pub coded_more : (ranked : List ℕ) (baskets now : List Weighted) (k : ℕ) (d place : Weighted) → k < length baskets
-    → now ≡ map (coded_basket ranked) (take k baskets) ++ drop k baskets → place ≡ coded_basket ranked (get_or now k d)
-    → set now k place ≡ map (coded_basket ranked) (take (k + 1) baskets) ++ drop (k + 1) baskets
-coded_more ranked baskets now k d place below so_far is =
+-- one receipt more is coded where it lies
+pub coded_more : (ranked : List ℕ) (baskets now : List Weighted) (k : ℕ) (d receipt : Weighted) → k < length baskets
+    → now ≡ map (coded_basket ranked) (take k baskets) ++ drop k baskets → receipt ≡ coded_basket ranked (get_or now k d)
+    → set now k receipt ≡ map (coded_basket ranked) (take (k + 1) baskets) ++ drop (k + 1) baskets
+coded_more ranked baskets now k d receipt below so_far is =
     let one : k + 1 ≡ suc k = omega arith in
     let item = is ∙ ap (coded_basket ranked) (ap (λ l. get_or l k d) so_far ∙ mapped_at (coded_basket ranked) baskets k d below) in
     (λ i. set (so_far i) k (item i)) ∙ mapped_more (coded_basket ranked) baskets k d below
@@ -63,7 +63,7 @@ pub coding_is : (items : List ℕ) (minimum : Minimum) (database coded : List We
 coding_is items minimum database coded apart few light heavy same = record {
   distinct = apart;
   few = few;
-  places = subst (All (IsCodedBasket items)) (sym same) (All-map (IsCodedBasket items) (coded_basket items) database (λ k d below. coded_basket_is items (get_or database k d)));
+  each = subst (All (IsCodedBasket items)) (sym same) (All-map (IsCodedBasket items) (coded_basket items) database (λ k d below. coded_basket_is items (get_or database k d)));
   weights = subst (All HasWeight) (sym same) (All-map HasWeight (coded_basket items) database heavy);
   light = subst (λ n. n ≤ MOST_WEIGHT) (sym (ap total_of same ∙ coded_total items database)) light;
 }
@@ -73,8 +73,8 @@ pub merged_is_coding : (coding : Coding) → IsCoding coding → IsCoding (merge
 merged_is_coding coding is = record {
   distinct = is.distinct;
   few = is.few;
-  places = All-from_recursion (IsCodedBasket coding.items) (merged_of coding.baskets)
-      (merged_baskets (IsCodedBasket coding.items) (λ place more its. its) coding.baskets (recursion_from_All (IsCodedBasket coding.items) coding.baskets is.places));
-  weights = All-from_recursion HasWeight (merged_of coding.baskets) (merged_baskets HasWeight (λ place more its. omega (arith, its)) coding.baskets (recursion_from_All HasWeight coding.baskets is.weights));
+  each = All-from_recursion (IsCodedBasket coding.items) (merged_of coding.baskets)
+      (merged_baskets (IsCodedBasket coding.items) (λ receipt more its. its) coding.baskets (recursion_from_All (IsCodedBasket coding.items) coding.baskets is.each));
+  weights = All-from_recursion HasWeight (merged_of coding.baskets) (merged_baskets HasWeight (λ receipt more its. omega (arith, its)) coding.baskets (recursion_from_All HasWeight coding.baskets is.weights));
   light = subst (λ n. n ≤ MOST_WEIGHT) (sym (merging_keeps_supports coding.baskets [])) is.light;
 }

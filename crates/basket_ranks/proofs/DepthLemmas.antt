@@ -84,12 +84,12 @@ count_is baskets rank count h =
 
 narrowed_items : (rank : ℕ) (baskets : List Weighted) (x : ℕ) → Member x (all_items (narrowed rank baskets)) → (rank < x) × Member x (all_items baskets)
 narrowed_items rank baskets x m =
-    let kept = Member-flat_map (λ (place : Weighted). place.basket) x (narrowed rank baskets) m in
+    let kept = Member-flat_map (λ (receipt : Weighted). receipt.basket) x (narrowed rank baskets) m in
     let from = Member-flat_map (narrowed_basket rank) kept.0 baskets kept.1 in
     cond_both (has from.0.basket rank) (weighted (above rank from.0.basket) from.0.weight ∷ []) [] (λ l. Member kept.0 l → (rank < x) × Member x (all_items baskets))
     (λ has n. elim n [
-      | inl is ↦ (let k = Member-filter (λ other. ltb rank other) x from.0.basket (subst (λ (place : Weighted). Member x place.basket) (sym is) kept.2) in
-          (ltb-true rank x k.1, Member-into_flat_map (λ (place : Weighted). place.basket) x from.0 baskets from.1 k.0))
+      | inl is ↦ (let k = Member-filter (λ other. ltb rank other) x from.0.basket (subst (λ (receipt : Weighted). Member x receipt.basket) (sym is) kept.2) in
+          (ltb-true rank x k.1, Member-into_flat_map (λ (receipt : Weighted). receipt.basket) x from.0 baskets from.1 k.0))
       | inr no' ↦ absurd no'
     ])
     (λ lacks n. absurd n) from.2
@@ -99,40 +99,40 @@ above_contains rank basket more beyond = grind (arith, common_steps, same_test, 
 
 narrowed_supports : (rank : ℕ) (baskets : List Weighted) (more : List ℕ) → ((x : ℕ) → Member x more → rank < x) → support_of (narrowed rank baskets) more ≡ support_of baskets (rank ∷ more)
 narrowed_supports rank [] more beyond = refl
-narrowed_supports rank (place ∷ baskets) more beyond =
-    support-append (narrowed_basket rank place) (narrowed rank baskets) more
-    ∙ omega (arith, here, narrowed_supports rank baskets more beyond, support-cons place baskets (rank ∷ more))
+narrowed_supports rank (receipt ∷ baskets) more beyond =
+    support-append (narrowed_basket rank receipt) (narrowed rank baskets) more
+    ∙ omega (arith, here, narrowed_supports rank baskets more beyond, support-cons receipt baskets (rank ∷ more))
   where
-    here : support_of (narrowed_basket rank place) more ≡ weight_at (rank ∷ more) place
-    here = cond_both (has place.basket rank) (weighted (above rank place.basket) place.weight ∷ []) [] (λ l. support_of l more ≡ weight_at (rank ∷ more) place)
-        (λ e. support-cons (weighted (above rank place.basket) place.weight) [] more ∙ add-zero _
-        ∙ ap (λ b. cond b place.weight 0) (above_contains rank place.basket more beyond ∙ sym (ap (λ b. b && contains place.basket more) e)))
-        (λ e. ap (λ b. cond (b && contains place.basket more) place.weight 0) (sym e))
+    here : support_of (narrowed_basket rank receipt) more ≡ weight_at (rank ∷ more) receipt
+    here = cond_both (has receipt.basket rank) (weighted (above rank receipt.basket) receipt.weight ∷ []) [] (λ l. support_of l more ≡ weight_at (rank ∷ more) receipt)
+        (λ e. support-cons (weighted (above rank receipt.basket) receipt.weight) [] more ∙ add-zero _
+        ∙ ap (λ b. cond b receipt.weight 0) (above_contains rank receipt.basket more beyond ∙ sym (ap (λ b. b && contains receipt.basket more) e)))
+        (λ e. ap (λ b. cond (b && contains receipt.basket more) receipt.weight 0) (sym e))
 
-missed : (rank place : ℕ) (ranks : List ℕ) (weight : ℕ) → IsRising ranks → IsBinarySearchResult (λ y. nat_cmp y rank) ranks (Err place) → narrowed_basket rank (weighted ranks weight) ≡ []
-missed rank place ranks weight up search = elim (cases_Bool (has ranks rank)) [
+missed : (rank index : ℕ) (ranks : List ℕ) (weight : ℕ) → IsRising ranks → IsBinarySearchResult (λ y. nat_cmp y rank) ranks (Err index) → narrowed_basket rank (weighted ranks weight) ≡ []
+missed rank index ranks weight up search = elim (cases_Bool (has ranks rank)) [
   | inl e ↦ absurd (let c = Contains-from_Member rank ranks (Member-from_has ranks rank e) in
-      found_nowhere ranks rank place up search c.0 c.1 (get_or_default ranks c.0 0 rank c.1 ∙ c.2))
+      found_nowhere ranks rank index up search c.0 c.1 (get_or_default ranks c.0 0 rank c.1 ∙ c.2))
   | inr e ↦ cond-false (has ranks rank) (weighted (above rank ranks) weight ∷ []) [] e
 ]
 
-pub missed_basket : (least rank place : ℕ) (ranks : List ℕ) (weight : ℕ) → IsRising ranks → IsBinarySearchResult (λ y. nat_cmp y rank) ranks (Err place)
+pub missed_basket : (least rank index : ℕ) (ranks : List ℕ) (weight : ℕ) → IsRising ranks → IsBinarySearchResult (λ y. nat_cmp y rank) ranks (Err index)
     → filter (is_long least) (narrowed_basket rank (weighted ranks weight)) ≡ []
-missed_basket least rank place ranks weight up search = ap (filter (is_long least)) (missed rank place ranks weight up search)
+missed_basket least rank index ranks weight up search = ap (filter (is_long least)) (missed rank index ranks weight up search)
 
-pub left_more : (least rank : ℕ) (baskets : List Weighted) (i : ℕ) (place : Weighted) → i < length baskets → place ≡ get_or baskets i place
-    → filter (is_long least) (narrowed rank (take (i + 1) baskets)) ≡ filter (is_long least) (narrowed rank (take i baskets)) ++ filter (is_long least) (narrowed_basket rank place)
-left_more least rank baskets i place below is = grind (arith, common_steps)
+pub left_more : (least rank : ℕ) (baskets : List Weighted) (i : ℕ) (receipt : Weighted) → i < length baskets → receipt ≡ get_or baskets i receipt
+    → filter (is_long least) (narrowed rank (take (i + 1) baskets)) ≡ filter (is_long least) (narrowed rank (take i baskets)) ++ filter (is_long least) (narrowed_basket rank receipt)
+left_more least rank baskets i receipt below is = grind (arith, common_steps)
 
 -- ---- some of the baskets
 
 fewer_supports : (p : Weighted → Bool) (baskets : List Weighted) (set : List ℕ) → support_of (filter p baskets) set ≤ support_of baskets set
-fewer_supports p baskets set = omega (arith, sum_by-filter_both p (λ place. not (p place)) (λ place. refl) (weight_at set) baskets)
+fewer_supports p baskets set = omega (arith, sum_by-filter_both p (λ receipt. not (p receipt)) (λ receipt. refl) (weight_at set) baskets)
 
 fewer_items : (p : Weighted → Bool) (baskets : List Weighted) (x : ℕ) → Member x (all_items (filter p baskets)) → Member x (all_items baskets)
 fewer_items p baskets x m =
-    let from = Member-flat_map (λ (place : Weighted). place.basket) x (filter p baskets) m in
-    Member-into_flat_map (λ (place : Weighted). place.basket) x from.0 baskets (Member-filter p from.0 baskets from.1).0 from.2
+    let from = Member-flat_map (λ (receipt : Weighted). receipt.basket) x (filter p baskets) m in
+    Member-into_flat_map (λ (receipt : Weighted). receipt.basket) x from.0 baskets (Member-filter p from.0 baskets from.1).0 from.2
 
 -- ---- a set that is found rank by rank
 

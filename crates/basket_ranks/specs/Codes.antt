@@ -76,7 +76,7 @@ pub record Coding : Type 0 where
   pub baskets : List Weighted
 
 abbrev pub coded_basket : List ℕ → Weighted → Weighted
-coded_basket items place = weighted (coded items place.basket) place.weight
+coded_basket items receipt = weighted (coded items receipt.basket) receipt.weight
 
 abbrev pub coding_of : List Weighted → Minimum → Coding
 coding_of baskets minimum =
@@ -84,19 +84,19 @@ coding_of baskets minimum =
 
 -- a basket of ranks: they rise, and each is the rank of an item
 abbrev pub IsCodedBasket : List ℕ → Weighted → Type 0
-IsCodedBasket items place = IsRising place.basket × AllBelow (length items) place.basket
+IsCodedBasket items receipt = IsRising receipt.basket × AllBelow (length items) receipt.basket
 
 -- what every coding is
 pub record IsCoding (coding : Coding) : Type 0 where
   pub distinct : IsDistinct nat_eq coding.items
   pub few : length coding.items < MOST_RANKS
-  pub places : All (IsCodedBasket coding.items) coding.baskets
+  pub each : All (IsCodedBasket coding.items) coding.baskets
   pub weights : All HasWeight coding.baskets
   pub light : total_of coding.baskets ≤ MOST_WEIGHT
 
 -- the baskets of a coding as items, kept to the items that have ranks
 abbrev pub decoded_basket : List ℕ → Weighted → Weighted
-decoded_basket items place = weighted (decoded items place.basket) place.weight
+decoded_basket items receipt = weighted (decoded items receipt.basket) receipt.weight
 
 abbrev pub baskets_of : Coding → List Weighted
 baskets_of coding = map (decoded_basket coding.items) coding.baskets

@@ -22,7 +22,7 @@ above rank basket = filter (λ other. nat_lt rank other) basket
 
 -- a basket that has the rank, kept to the ranks above it
 abbrev pub narrowed_basket : ℕ → Weighted → List Weighted
-narrowed_basket rank place = if has place.basket rank then weighted (above rank place.basket) place.weight ∷ [] else []
+narrowed_basket rank receipt = if has receipt.basket rank then weighted (above rank receipt.basket) receipt.weight ∷ [] else []
 
 -- the baskets that have a rank, kept to the ranks above it
 abbrev pub narrowed : ℕ → List Weighted → List Weighted
@@ -30,4 +30,4 @@ narrowed rank baskets = flat_map (narrowed_basket rank) baskets
 
 -- whether a basket has at least so many ranks
 abbrev pub is_long : ℕ → Weighted → Bool
-is_long least place = nat_le least (length place.basket)
+is_long least receipt = nat_le least (length receipt.basket)

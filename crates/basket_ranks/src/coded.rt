@@ -1,6 +1,7 @@
 //! Baskets as lists of ranks.
 ghost use Rattle.std.specs.Prelude.{◌≡◌, ◌<◌, IfOk, length, slice_index_or};
 ghost use Rattle.basket_sets.specs.Counts.{AllBelow};
+ghost use Rattle.basket_sets.specs.Minimum.{IsLeastSupport};
 ghost use Rattle.basket_sets.specs.Support.{total_of};
 ghost use Rattle.basket_ranks.specs.Codes.{IsCoding, coding_of, decoded, merged_coding};
 
@@ -63,6 +64,13 @@ impl CodedItems {
         ensures { result ≡ total_of self.now.baskets }
     {
         self.total
+    }
+
+    /// The least support that meets the minimum.
+    pub fn least_support(&self) -> u64
+        ensures { IsLeastSupport self.now.minimum (total_of self.now.baskets) result }
+    {
+        self.minimum.least(self.total)
     }
 
     /// The item of each rank.

@@ -63,8 +63,6 @@ impl Codes {
         requires { self ≡ ranking_of database.now self.minimum }
         ensures { IfOk result (λ coded. coded ≡ coding_of database.now self.minimum) }
     {
-        // Nothing is read here: the call brings its contract, which says what a database is.
-        let _baskets = database.baskets();
         let mut baskets = database.copied(alloc)?.into_baskets();
         put_codes(&self, &mut baskets);
         Ok(self.with_baskets(baskets))
@@ -76,8 +74,6 @@ impl Codes {
         requires database { self ≡ ranking_of database self.minimum }
         ensures { result ≡ coding_of database self.minimum }
     {
-        // Nothing is read here: the call brings its contract, which says what a database is.
-        let _baskets = database.baskets();
         let mut baskets = database.into_baskets();
         share_codes(rt, &self, &mut baskets, threads);
         self.with_baskets(baskets)

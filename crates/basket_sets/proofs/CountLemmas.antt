@@ -1,4 +1,4 @@
--- Counting items in a table: its slots while the places are added, and the entries that it gives in the end.
+-- Counting items in a table: its slots while the receipts are added, and the entries that it gives in the end.
 use Rattle.std.proofs.Common.{◌≡◌, ℕ, ◌+◌, ◌<◌, ◌≤◌, true, List, [], ◌∷◌, ◌++◌, length, take, get_or, map, cond, Option, Some, None, refl, sym, ap, ◌∙◌, inl, inr, arith, add-zero, zero-add, ◌-◌, zero, suc}
 use Rattle.std.proofs.lemmas.Grind.{common_steps}
 use Rattle.std.specs.List.{IsDistinct}
@@ -34,9 +34,9 @@ last_is_greatest items up x h =
 pub below_more : (a b : List ℕ) (before greatest : ℕ) → AllBelow (before + 1) a → ((x : ℕ) → has b x ≡ true → x ≤ greatest) → before ≤ greatest → AllBelow (greatest + 1) (a ++ b)
 below_more a b before greatest old new more x h = grind (arith, common_steps)
 
--- ---- a place is added to the table
+-- ---- a receipt is added to the table
 
--- after the first i items of the place
+-- after the first i items of the receipt
 abbrev pub HasAdded : List (Option ℕ) → ℕ → List ℕ → List (Option ℕ) → Type 0
 HasAdded old weight items table =
     (number : ℕ) → get_or table number None ≡ cond (has items number) (slot_with weight (get_or old number None)) (get_or old number None)
@@ -45,30 +45,30 @@ pub slot_before : (items : List ℕ) (old table : List (Option ℕ)) (i weight :
     → get_or table (get_or items i 0) None ≡ get_or old (get_or items i 0) None
 slot_before items old table i weight distinct below added = added (get_or items i 0) ∙ cond-false _ _ _ (not_before items i distinct below)
 
--- ---- the table after so many places
+-- ---- the table after so many receipts
 
-weight_of_item : (place : Weighted) (item : ℕ) → weight_at (item ∷ []) place ≡ cond (has place.basket item) place.weight 0
-weight_of_item place item = ap (λ b. cond b place.weight 0) (and_true (has place.basket item))
+weight_of_item : (receipt : Weighted) (item : ℕ) → weight_at (item ∷ []) receipt ≡ cond (has receipt.basket item) receipt.weight 0
+weight_of_item receipt item = ap (λ b. cond b receipt.weight 0) (and_true (has receipt.basket item))
 
--- what is known of an item after one more place
-pub tally_push : (before : List Weighted) (place : Weighted) (item : ℕ)
-    → cond (has place.basket item) (slot_with place.weight (tally before item)) (tally before item) ≡ tally (before ++ place ∷ []) item
-tally_push before place item = grind (arith, common_steps, tally-append, append-nil, weight_of_item)
+-- what is known of an item after one more receipt
+pub tally_push : (before : List Weighted) (receipt : Weighted) (item : ℕ)
+    → cond (has receipt.basket item) (slot_with receipt.weight (tally before item)) (tally before item) ≡ tally (before ++ receipt ∷ []) item
+tally_push before receipt item = grind (arith, common_steps, tally-append, append-nil, weight_of_item)
 
--- the table after one more place
-pub table_push : (before : List Weighted) (place : Weighted) (old table : List (Option ℕ)) → length table ≡ length old
-    → HasAdded old place.weight place.basket table → IsTable before old → IsTable (before ++ place ∷ []) table
-table_push before place old table long added so_far item within = grind (arith, common_steps, tally_push)
+-- the table after one more receipt
+pub table_push : (before : List Weighted) (receipt : Weighted) (old table : List (Option ℕ)) → length table ≡ length old
+    → HasAdded old receipt.weight receipt.basket table → IsTable before old → IsTable (before ++ receipt ∷ []) table
+table_push before receipt old table long added so_far item within = grind (arith, common_steps, tally_push)
 
 -- a table knows each item that it has a slot for
 table_knows : (baskets : List Weighted) (table : List (Option ℕ)) → IsTable baskets table → AllBelow (length table) (all_items baskets) → (item : ℕ) → get_or table item None ≡ tally baskets item
 table_knows baskets table is within item = grind (arith, common_steps)
 
 -- the table after one more basket
-pub counted_push : (before : List Weighted) (place : Weighted) (old : Tabled) (slots : List (Option ℕ)) (total : ℕ) → HasCounted old before → AllBelow (length old.slots) place.basket
-    → length slots ≡ length old.slots → total ≡ old.total + place.weight → HasAdded old.slots place.weight place.basket slots
-    → HasCounted (record { slots = slots; total = total }) (before ++ place ∷ [])
-counted_push before place old slots total counted below long sum added = grind (arith, common_steps, table_push, or_cases, support-append, items-append, append-nil)
+pub counted_push : (before : List Weighted) (receipt : Weighted) (old : Tabled) (slots : List (Option ℕ)) (total : ℕ) → HasCounted old before → AllBelow (length old.slots) receipt.basket
+    → length slots ≡ length old.slots → total ≡ old.total + receipt.weight → HasAdded old.slots receipt.weight receipt.basket slots
+    → HasCounted (record { slots = slots; total = total }) (before ++ receipt ∷ [])
+counted_push before receipt old slots total counted below long sum added = grind (arith, common_steps, table_push, or_cases, support-append, items-append, append-nil)
 
 -- the tables of two lists of baskets, put together
 pub counted_both : (before more : List Weighted) (a b : Tabled) (slots : List (Option ℕ)) (total : ℕ) → HasCounted a before → HasCounted b more
@@ -125,6 +125,6 @@ table_entries baskets table is within = supports_are baskets (entries_of table) 
     (λ item. ap (found (entries_of table)) (sym (zero-add item)) ∙ found_entry table 0 item ∙ table_knows baskets table is within item)
 
 -- an item of a basket is among all items
-pub item_of_basket : (baskets : List Weighted) (i : ℕ) (place : Weighted) → i < length baskets → place ≡ get_or baskets i place → (x : ℕ) → has place.basket x ≡ true → has (all_items baskets) x ≡ true
-item_of_basket baskets i place below is x h =
-    has-from_Member (all_items baskets) x (Member-into_flat_map (λ (p : Weighted). p.basket) x place baskets (Member-from_Contains place baskets (i, below, sym is)) (Member-from_has place.basket x h))
+pub item_of_basket : (baskets : List Weighted) (i : ℕ) (receipt : Weighted) → i < length baskets → receipt ≡ get_or baskets i receipt → (x : ℕ) → has receipt.basket x ≡ true → has (all_items baskets) x ≡ true
+item_of_basket baskets i receipt below is x h =
+    has-from_Member (all_items baskets) x (Member-into_flat_map (λ (p : Weighted). p.basket) x receipt baskets (Member-from_Contains receipt baskets (i, below, sym is)) (Member-from_has receipt.basket x h))

@@ -13,7 +13,7 @@ use Rattle.basket_sets.proofs.theory.Merging.{merged_baskets, length-merged_of, 
 
 pub merged_is_database : (baskets : List Weighted) → IsDatabase baskets → IsDatabase (merged_of baskets)
 merged_is_database baskets are = record {
-  places = All-from_recursion IsBasket (merged_of baskets) (merged_baskets IsBasket (λ place more its. (its.0, its.1, omega (arith, its.2))) baskets (recursion_from_All IsBasket baskets are.places));
+  each = All-from_recursion IsBasket (merged_of baskets) (merged_baskets IsBasket (λ receipt more its. (its.0, its.1, omega (arith, its.2))) baskets (recursion_from_All IsBasket baskets are.each));
   few = omega (arith, length-merged_of baskets, are.few);
   light = subst (λ n. n ≤ MOST_WEIGHT) (sym (merging_keeps_supports baskets [])) are.light;
 }

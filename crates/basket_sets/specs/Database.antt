@@ -1,3 +1,4 @@
+-- Baskets with weights. A receipt is one of them: a basket, and how many times it was bought.
 use Rattle.std.specs.Prelude.{◌≡◌, ◌≢◌, ◌≤◌, ◌+◌, ℕ, List, [], ◌∷◌, fold, length, All, if◌then◌else◌, nat_eq}
 use Rattle.std.specs.Cmp.Lexicographic.{pointwise}
 use Rattle.basket_sets.specs.declared.weighted.Weighted.{Weighted}
@@ -10,11 +11,11 @@ weighted basket weight = record { basket = basket; weight = weight }
 
 -- a basket whose weight is at least 1
 abbrev pub HasWeight : Weighted → Type 0
-HasWeight place = 1 ≤ place.weight
+HasWeight receipt = 1 ≤ receipt.weight
 
 -- a basket of a database: it is a nonempty set, and its weight is at least 1
 abbrev pub IsBasket : Weighted → Type 0
-IsBasket place = IsRising place.basket × (place.basket ≢ []) × (1 ≤ place.weight)
+IsBasket receipt = IsRising receipt.basket × (receipt.basket ≢ []) × (1 ≤ receipt.weight)
 
 -- how many baskets a database has at most, and how much they weigh together at most
 abbrev pub MOST_BASKETS : ℕ
@@ -25,16 +26,16 @@ MOST_WEIGHT = 1099511627775
 
 -- what every database is
 pub record IsDatabase (baskets : List Weighted) : Type 0 where
-  pub places : All IsBasket baskets
+  pub each : All IsBasket baskets
   pub few : length baskets ≤ MOST_BASKETS
   pub light : total_of baskets ≤ MOST_WEIGHT
 
 -- the list with a basket's weight added to that of its equal, or with the basket at its end
 abbrev pub with_basket : List Weighted → Weighted → List Weighted
-with_basket [] place = place ∷ []
-with_basket (other ∷ others) place =
-    if pointwise nat_eq place.basket other.basket then weighted other.basket (other.weight + place.weight) ∷ others
-    else other ∷ with_basket others place
+with_basket [] receipt = receipt ∷ []
+with_basket (other ∷ others) receipt =
+    if pointwise nat_eq receipt.basket other.basket then weighted other.basket (other.weight + receipt.weight) ∷ others
+    else other ∷ with_basket others receipt
 
 -- each distinct basket once, where it first comes, with the sum of its weights
 abbrev pub merged_of : List Weighted → List Weighted

@@ -5,7 +5,7 @@ use Rattle.basket_sets.specs.Itemset.{contains, rising}
 
 -- what a weighted basket adds to the support of a set: its weight where it contains the set, else nothing
 abbrev pub weight_at : List ℕ → Weighted → ℕ
-weight_at set place = if contains place.basket set then place.weight else 0
+weight_at set receipt = if contains receipt.basket set then receipt.weight else 0
 
 -- the support of a set: the sum of the weights of the baskets that contain it
 abbrev pub support_of : List Weighted → List ℕ → ℕ
@@ -17,7 +17,7 @@ total_of baskets = support_of baskets []
 
 -- the items of all baskets, one basket after another
 abbrev pub all_items : List Weighted → List ℕ
-all_items baskets = flat_map (λ place. place.basket) baskets
+all_items baskets = flat_map (λ receipt. receipt.basket) baskets
 
 -- the items of a database: the rising list of the numbers that are in some basket
 abbrev pub items_of : List Weighted → List ℕ

@@ -100,7 +100,8 @@ impl Database {
 
     /// The baskets in the order in which they were added.
     pub fn into_baskets(self) -> Vec<Weighted>
-        ensures { result.items ≡ self }
+        ensures baskets { result.items ≡ self }
+        ensures database { IsDatabase self }
     {
         let Database { baskets, .. } = self;
         baskets

@@ -15,7 +15,7 @@ use Rattle.mine_baskets.specs.Words.{has_rank, ranks_in}
 pub no_ranks : (count : ℕ) → ranks_in count 0 ≡ []
 no_ranks count = grind (arith, common_steps, same_rising, filtered_range_rises, nil_rises, true≢false, Member-filter, bit_at-zero)
 
--- bits of which the highest is at a place
+-- bits of which the highest is at a receipt
 module _ (bits bit : ℕ) (low : 2 ^ bit ≤ bits) (high : bits < 2 * 2 ^ bit) where
   parts : bits ≡ 1 * 2 ^ bit + (bits - 2 ^ bit)
   parts = omega arith

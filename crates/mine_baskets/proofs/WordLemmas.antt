@@ -26,7 +26,7 @@ use Rattle.mine_baskets.specs.declared.words.TheConstants.{WORD_RANKS}
 
 module _ (test : List ℕ → Bool) where
   abbrev weigh : Weighted → ℕ
-  weigh place = cond (test place.basket) place.weight 0
+  weigh receipt = cond (test receipt.basket) receipt.weight 0
 
   -- more weight at a word is as good as an equal word
   pub heavier_word : (count : ℕ) (words : List Word) (i : ℕ) (d word : Word) → i < length words → (get_or words i d).bits ≡ word.bits
@@ -42,7 +42,7 @@ moved_words count words moved permutation = other_weights (word_baskets count wo
 pub words_ranked : (count : ℕ) (words : List Word) → All (λ word. 1 ≤ word.weight) words → sum_by (λ word. word.weight) words ≤ MOST_WEIGHT
     → AreRankBaskets (record { ranks = count; baskets = word_baskets count words })
 words_ranked count words some light = record {
-  places = λ k d here.
+  each = λ k d here.
       let inside : k < length words = omega (arith, here, length-map words (word_basket count)) in
       let bits = (get_or words k none).bits in
       subst (IsRankBasket count) (sym (get_or-map (word_basket count) words k none d inside)) (record {
@@ -64,7 +64,7 @@ words_ranked count words some light = record {
 module _ (count : ℕ) (words : List Word) (are : AreRankBaskets (record { ranks = count; baskets = word_baskets count words })) where
   pub some_words : All (λ (word : Word). 1 ≤ word.weight) words
   some_words i d here =
-      let is = are.places i (word_basket count d) (omega (arith, here, length-map words (word_basket count))) in
+      let is = are.each i (word_basket count d) (omega (arith, here, length-map words (word_basket count))) in
       let same = ap (λ (p : Weighted). p.weight) (get_or-map (word_basket count) words i d (word_basket count d) here) in
       omega (arith, is.weighs, same)
 

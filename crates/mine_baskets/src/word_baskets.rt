@@ -107,9 +107,9 @@ fn words_of_ranks(alloc: Global, count: u32, baskets: &[Weighted]) -> Result<Vec
     ensures { IfOk result (λ words. word_baskets count words.items ≡ baskets.now) }
 {
     let mut words = Vec::with_capacity(alloc, baskets.len())?;
-    for place in baskets {
-        let bits = bits_of_ranks(place.basket.items());
-        let weight = place.weight;
+    for basket in baskets {
+        let bits = bits_of_ranks(basket.basket.items());
+        let weight = basket.weight;
         words.push(Word { bits, weight })?;
     }
     Ok(words)

@@ -38,7 +38,7 @@ ListClasses baskets minimum classes = (rank : ℕ) → rank < length classes →
 
 -- each rank of the baskets is below a bound
 abbrev pub RanksAreBelow : ℕ → List Weighted → Type 0
-RanksAreBelow bound baskets = (rank : ℕ) → Contains (flat_map (λ place. place.basket) baskets) rank → rank < bound
+RanksAreBelow bound baskets = (rank : ℕ) → Contains (flat_map (λ receipt. receipt.basket) baskets) rank → rank < bound
 
 -- the classes of all ranks together have each frequent set once
 abbrev pub ClassesAreAll : Type 0

@@ -14,7 +14,7 @@ is_kept baskets least rank other = nat_lt other rank && is_frequent baskets (Cou
 
 -- a basket that has the rank, kept to the ranks that a test keeps
 abbrev pub kept_basket : (ℕ → Bool) → ℕ → Weighted → List Weighted
-kept_basket keeps rank place = if has place.basket rank then weighted (filter keeps place.basket) place.weight ∷ [] else []
+kept_basket keeps rank receipt = if has receipt.basket rank then weighted (filter keeps receipt.basket) receipt.weight ∷ [] else []
 
 -- the conditional database of a rank (Han, Pei and Yin 2000): the baskets that have it, kept to the ranks below it that are frequent together with it
 abbrev pub conditional : ℕ → List Weighted → ℕ → List Weighted

@@ -61,10 +61,10 @@ fills (suc n) a (x ∷ xs) up within long z low high =
 
 -- ---- weights
 
-weightless : (test : List ℕ → Bool) (places : List Weighted) → AreHeavy places → weight_where test places ≡ 0 → (place : Weighted) → Member place places → test place.basket ≡ false
-weightless test [] heavy none place m = absurd m
-weightless test (p ∷ places) heavy none place m =
-    let sum = sum_by-cons (λ (q : Weighted). cond (test q.basket) q.weight 0) p places in
+weightless : (test : List ℕ → Bool) (receipts : List Weighted) → AreHeavy receipts → weight_where test receipts ≡ 0 → (receipt : Weighted) → Member receipt receipts → test receipt.basket ≡ false
+weightless test [] heavy none receipt m = absurd m
+weightless test (p ∷ receipts) heavy none receipt m =
+    let sum = sum_by-cons (λ (q : Weighted). cond (test q.basket) q.weight 0) p receipts in
     elim m [
       | inl e ↦ elim (cases_Bool (test p.basket)) [
         | inl h ↦
@@ -73,18 +73,18 @@ weightless test (p ∷ places) heavy none place m =
             absurd (omega arith))
         | inr h ↦ ap (λ (q : Weighted). test q.basket) (sym e) ∙ h
       ]
-      | inr n ↦ (let rest : weight_where test places ≡ 0 = omega arith in weightless test places (λ q k. heavy q (inr k)) rest place n)
+      | inr n ↦ (let rest : weight_where test receipts ≡ 0 = omega arith in weightless test receipts (λ q k. heavy q (inr k)) rest receipt n)
     ]
 
-no_weight : (test : List ℕ → Bool) (places : List Weighted) → ((place : Weighted) → Member place places → test place.basket ≡ false) → weight_where test places ≡ 0
+no_weight : (test : List ℕ → Bool) (receipts : List Weighted) → ((receipt : Weighted) → Member receipt receipts → test receipt.basket ≡ false) → weight_where test receipts ≡ 0
 no_weight test [] fail = refl
-no_weight test (p ∷ places) fail =
-    sum_by-cons (λ (q : Weighted). cond (test q.basket) q.weight 0) p places
-    ∙ ap (λ b. cond b p.weight 0 + weight_where test places) (fail p (inl refl)) ∙ (let rest = no_weight test places (λ q m. fail q (inr m)) in omega arith)
+no_weight test (p ∷ receipts) fail =
+    sum_by-cons (λ (q : Weighted). cond (test q.basket) q.weight 0) p receipts
+    ∙ ap (λ b. cond b p.weight 0 + weight_where test receipts) (fail p (inl refl)) ∙ (let rest = no_weight test receipts (λ q m. fail q (inr m)) in omega arith)
 
 -- ---- runs
 
-pub branch_from_full : (count : ℕ) (baskets : List Weighted) → ((place : Weighted) → Member place baskets → AllBelow count place.basket) → ((rank : ℕ) → rank < count → IsFullAt rank baskets) → is_branch baskets ≡ true
+pub branch_from_full : (count : ℕ) (baskets : List Weighted) → ((receipt : Weighted) → Member receipt baskets → AllBelow count receipt.basket) → ((rank : ℕ) → rank < count → IsFullAt rank baskets) → is_branch baskets ≡ true
 branch_from_full count baskets low full = grind (arith, common_steps, all_of, has-from_Member)
 
 module _ (value : RankBaskets) (rank : ℕ) (paths : Baskets) (count : paths.count ≡ rank) (weights : HaveSameWeights (below rank value.baskets) (baskets_in paths)) (ranked : AreRankBaskets value) where
@@ -101,58 +101,58 @@ module _ (value : RankBaskets) (rank : ℕ) (paths : Baskets) (count : paths.cou
   is_whole run = eqb (run.end - run.start) rank
 
   abbrev has_rank : Weighted → Bool
-  has_rank place = has place.basket rank
+  has_rank receipt = has receipt.basket rank
 
   abbrev lower_part : Weighted → Weighted
-  lower_part place = weighted (filter (λ other. ltb other rank) place.basket) place.weight
+  lower_part receipt = weighted (filter (λ other. ltb other rank) receipt.basket) receipt.weight
 
-  abbrev places : List Weighted
-  places = baskets_in paths
+  abbrev receipts : List Weighted
+  receipts = baskets_in paths
 
-  run_basket : (place : Weighted) → Member place places → IsRankBasket rank place
-  run_basket place m = subst (λ n. IsRankBasket n place) count (at_Member (IsRankBasket paths.count) place places (recursion_from_All (IsRankBasket paths.count) places paths.ranked.places) m)
+  run_basket : (receipt : Weighted) → Member receipt receipts → IsRankBasket rank receipt
+  run_basket receipt m = subst (λ n. IsRankBasket n receipt) count (at_Member (IsRankBasket paths.count) receipt receipts (recursion_from_All (IsRankBasket paths.count) receipts paths.ranked.each) m)
 
   run_within : (run : Span) → Member run runs → IsWithin (length ranks) run
   run_within run m = at_Member (IsWithin (length ranks)) run runs (recursion_from_All (IsWithin (length ranks)) runs paths.within) m
 
   heavy : AreHeavy value.baskets
-  heavy place m = (at_Member (IsRankBasket value.ranks) place value.baskets (recursion_from_All (IsRankBasket value.ranks) value.baskets ranked.places) m).weighs
+  heavy receipt m = (at_Member (IsRankBasket value.ranks) receipt value.baskets (recursion_from_All (IsRankBasket value.ranks) value.baskets ranked.each) m).weighs
 
   below_heavy : AreHeavy (below rank value.baskets)
-  below_heavy place m = let p = from_picked has_rank lower_part value.baskets place m in subst (λ (q : Weighted). 1 ≤ q.weight) p.3 (heavy p.0 p.1)
+  below_heavy receipt m = let p = from_picked has_rank lower_part value.baskets receipt m in subst (λ (q : Weighted). 1 ≤ q.weight) p.3 (heavy p.0 p.1)
 
-  lower_contains : (place : Weighted) → contains place.basket (range_with_len 0 rank) ≡ true → contains (lower_part place).basket (range_with_len 0 rank) ≡ true
-  lower_contains place h = grind (arith, common_steps, contains_each, Member-from_filter, has_each, lt-ltb, Member-range)
+  lower_contains : (receipt : Weighted) → contains receipt.basket (range_with_len 0 rank) ≡ true → contains (lower_part receipt).basket (range_with_len 0 rank) ≡ true
+  lower_contains receipt h = grind (arith, common_steps, contains_each, Member-from_filter, has_each, lt-ltb, Member-range)
 
   not_lacking : (basket : List ℕ) → lacks basket ≡ false → contains basket (range_with_len 0 rank) ≡ true
   not_lacking basket h = grind (arith, common_steps)
 
-  in_range : (place : Weighted) → Member place places → IsInRange 0 rank place.basket
-  in_range place m y n = (omega arith, (let less = (run_basket place m).below y (has-from_Member place.basket y n) in omega arith))
+  in_range : (receipt : Weighted) → Member receipt receipts → IsInRange 0 rank receipt.basket
+  in_range receipt m y n = (omega arith, (let less = (run_basket receipt m).below y (has-from_Member receipt.basket y n) in omega arith))
 
   whole_full : (run : Span) → Member run runs → is_whole run ≡ true → lacks (basket_at ranks run).basket ≡ false
   whole_full run m h =
-      let place = basket_at ranks run in
+      let receipt = basket_at ranks run in
       let n = Member-map (basket_at ranks) run runs m in
       let long = length-range ranks run (run_within run m) ∙ eqb-true (run.end - run.start) rank h in
-      ap not (contains_each place.basket (range_with_len 0 rank) (λ z k. fills rank 0 place.basket (run_basket place n).rises (in_range place n) long z (omega arith) (let less = (Member-range 0 rank z k).1 in omega arith)))
+      ap not (contains_each receipt.basket (range_with_len 0 rank) (λ z k. fills rank 0 receipt.basket (run_basket receipt n).rises (in_range receipt n) long z (omega arith) (let less = (Member-range 0 rank z k).1 in omega arith)))
 
   full_whole : (run : Span) → Member run runs → lacks (basket_at ranks run).basket ≡ false → is_whole run ≡ true
   full_whole run m h =
-      let place = basket_at ranks run in
+      let receipt = basket_at ranks run in
       let n = Member-map (basket_at ranks) run runs m in
-      let short = at_most rank 0 place.basket (run_basket place n).rises (in_range place n) in
-      let more = length-le-contains (range_with_len 0 rank) place.basket (range_rises 0 rank) (run_basket place n).rises (has_each place.basket (range_with_len 0 rank) (not_lacking place.basket h)) in
+      let short = at_most rank 0 receipt.basket (run_basket receipt n).rises (in_range receipt n) in
+      let more = length-le-contains (range_with_len 0 rank) receipt.basket (range_rises 0 rank) (run_basket receipt n).rises (has_each receipt.basket (range_with_len 0 rank) (not_lacking receipt.basket h)) in
       eq-eqb (run.end - run.start) rank (omega (arith, length-range ranks run (run_within run m), short, more, length-range_with_len 0 rank))
 
   pub full_by_runs : list_all is_whole runs ≡ true → IsFullAt rank value.baskets
-  full_by_runs h place m here =
-      let none : weight_where lacks places ≡ 0 = no_weight lacks places (λ p n.
+  full_by_runs h receipt m here =
+      let none : weight_where lacks receipts ≡ 0 = no_weight lacks receipts (λ p n.
       let r = Member-from_map (basket_at ranks) p runs n in
       ap (λ (q : Weighted). lacks q.basket) (sym r.2) ∙ whole_full r.0 r.1 (each_of is_whole runs h r.0 r.1)) in
-      let lower = not_lacking (lower_part place).basket (weightless lacks (below rank value.baskets) below_heavy (weights lacks ∙ none) (lower_part place) (into_picked has_rank lower_part value.baskets place m here)) in
-      contains_each place.basket (range_with_len 0 rank) (λ r n.
-      (Member-filter (λ other. ltb other rank) r place.basket (has_each (lower_part place).basket (range_with_len 0 rank) lower r n)).0)
+      let lower = not_lacking (lower_part receipt).basket (weightless lacks (below rank value.baskets) below_heavy (weights lacks ∙ none) (lower_part receipt) (into_picked has_rank lower_part value.baskets receipt m here)) in
+      contains_each receipt.basket (range_with_len 0 rank) (λ r n.
+      (Member-filter (λ other. ltb other rank) r receipt.basket (has_each (lower_part receipt).basket (range_with_len 0 rank) lower r n)).0)
 
   pub runs_by_full : IsFullAt rank value.baskets → list_all is_whole runs ≡ true
   runs_by_full full =
@@ -160,4 +160,4 @@ module _ (value : RankBaskets) (rank : ℕ) (paths : Baskets) (count : paths.cou
       let r = from_picked has_rank lower_part value.baskets p n in
       ap (λ (q : Weighted). lacks q.basket) (sym r.3) ∙ ap not (lower_contains r.0 (full r.0 r.1 r.2))) in
       all_of is_whole runs (λ run m.
-      full_whole run m (weightless lacks places (λ p n. (run_basket p n).weighs) (sym (weights lacks) ∙ none) (basket_at ranks run) (Member-map (basket_at ranks) run runs m)))
+      full_whole run m (weightless lacks receipts (λ p n. (run_basket p n).weighs) (sym (weights lacks) ∙ none) (basket_at ranks run) (Member-map (basket_at ranks) run runs m)))

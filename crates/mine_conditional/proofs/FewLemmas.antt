@@ -36,8 +36,8 @@ module _ (keeps : ℕ → Bool) (x rank : ℕ) (only : (y : ℕ) → keeps y ≡
           let second = same z (inr (inl refl)) in
           absurd (omega (arith, less, first, second))
 
-  abbrev places : List Weighted → List Weighted
-  places baskets = flat_map (kept_basket keeps rank) baskets
+  abbrev receipts : List Weighted → List Weighted
+  receipts baskets = flat_map (kept_basket keeps rank) baskets
 
   -- what they weigh under a test, by the supports of that rank and of none
   pub record WeighsFew (test : List ℕ → Bool) (baskets : List Weighted) : Type 0 where
@@ -45,7 +45,7 @@ module _ (keeps : ℕ → Bool) (x rank : ℕ) (only : (y : ℕ) → keeps y ≡
     pub all : support_of baskets (x ∷ []) + rest ≡ support_of baskets []
     pub weight : weight_where test baskets ≡ cond (test (x ∷ [])) (support_of baskets (x ∷ [])) 0 + cond (test []) rest 0
 
-  pub weighs_few : (test : List ℕ → Bool) (baskets : List Weighted) → AllByRecursion (λ (index : Weighted). IsRising index.basket) baskets → WeighsFew test (places baskets)
+  pub weighs_few : (test : List ℕ → Bool) (baskets : List Weighted) → AllByRecursion (λ (index : Weighted). IsRising index.basket) baskets → WeighsFew test (receipts baskets)
   weighs_few test [] up = record { rest = 0; all = refl; weight = omega (arith, same_cond (test (x ∷ [])) 0, same_cond (test []) 0) }
   weighs_few test (index ∷ baskets) up = at (has index.basket rank) (weighs_few test baskets up.1)
     where
@@ -60,9 +60,9 @@ module _ (keeps : ℕ → Bool) (x rank : ℕ) (only : (y : ℕ) → keeps y ≡
       parts : (b : Bool) (weight : ℕ) → cond b weight 0 + cond b 0 weight ≡ weight
       parts h1 h2 = grind (arith, common_steps)
 
-      more : (b : Bool) (basket : List ℕ) → basket ≡ cond b (x ∷ []) [] → WeighsFew test (places baskets) → WeighsFew test (weighted basket index.weight ∷ places baskets)
+      more : (b : Bool) (basket : List ℕ) → basket ≡ cond b (x ∷ []) [] → WeighsFew test (receipts baskets) → WeighsFew test (weighted basket index.weight ∷ receipts baskets)
       more b basket is few =
-          let others = places baskets in
+          let others = receipts baskets in
           let own = weighted basket index.weight in
           let with_one = support-cons own others (x ∷ []) in
           let with_none = support-cons own others [] in
@@ -79,7 +79,7 @@ module _ (keeps : ℕ → Bool) (x rank : ℕ) (only : (y : ℕ) → keeps y ≡
             weight = omega (arith, cons, own_parts, few.weight, with, without);
           }
 
-      at : (h : Bool) → WeighsFew test (places baskets) → WeighsFew test (cond h (weighted (filter keeps index.basket) index.weight ∷ []) [] ++ places baskets)
+      at : (h : Bool) → WeighsFew test (receipts baskets) → WeighsFew test (cond h (weighted (filter keeps index.basket) index.weight ∷ []) [] ++ receipts baskets)
       at true few = elim (kept_to index.basket up.0) [ inl is ↦ more true (filter keeps index.basket) is few | inr is ↦ more false (filter keeps index.basket) is few ]
       at false few = few
 

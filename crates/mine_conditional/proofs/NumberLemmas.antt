@@ -26,7 +26,7 @@ pub index_le : (xs : List ℕ) (k : ℕ) → IsRising xs → k < length xs → k
 index_le xs zero up here = omega arith
 index_le xs (suc k) up here = let less = rising_at xs k (suc k) up (omega arith) here in let rest = index_le xs k up (omega arith) in omega arith
 
--- ---- the place of a rank
+-- ---- the receipt of a rank
 
 neither : (a b : Bool) → (a || b) ≡ false → (a ≡ false) × (b ≡ false)
 neither h1 h2 h3 = grind (arith, common_steps)
@@ -81,7 +81,7 @@ module _ {T : Type 0} (made_of : Option ℕ → T) (kept : List ℕ) (up : IsRis
 pub all_none : {T : Type 0} (none : T) (count : ℕ) (table : List T) → length table ≡ count → ((rank : ℕ) → get_or table rank none ≡ none) → table ≡ replicate count none
 all_none none count table long none_at = grind (arith, common_steps, ext_get_or none table (replicate count none) (long ∙ sym (length-replicate count none)), length-replicate count none)
 
--- ---- a basket's places
+-- ---- a basket's receipts
 
 filter_map-push : (h : ℕ → Option ℕ) (xs : List ℕ) (x : ℕ) → filter_map h (xs ++ x ∷ []) ≡ filter_map h xs ++ option_to_list (h x)
 filter_map-push h [] x = grind (arith, common_steps)
@@ -96,40 +96,40 @@ pub slot_put : (now front : List ℕ) (len : ℕ) (slot : Option ℕ) (more : �
     → take (len + more) (set now len (unwrap_or slot 0)) ≡ front ++ option_to_list slot
 slot_put h1 h2 h3 h4 h5 h6 h7 h8 = grind (arith, common_steps)
 
--- ---- places as a coding
+-- ---- receipts as a coding
 
--- the places of those ranks of a basket that have one
+-- the receipts of those ranks of a basket that have one
 abbrev pub numbers_in : List ℕ → List ℕ → List ℕ
 numbers_in kept basket = filter_map (rank_of kept) basket
 
 abbrev pub placed : List ℕ → Weighted → Weighted
-placed kept place = weighted (numbers_in kept place.basket) place.weight
+placed kept receipt = weighted (numbers_in kept receipt.basket) receipt.weight
 
 module _ (kept : List ℕ) (up : IsRising kept) where
-  -- a rank that has a place stands there
-  pub stands : (rank place : ℕ) → rank_of kept rank ≡ Some place → (place < length kept) × (get_or kept place 0 ≡ rank)
-  stands rank place is = elim (cases_Bool (has kept rank)) [
+  -- a rank that has a receipt stands there
+  pub stands : (rank receipt : ℕ) → rank_of kept rank ≡ Some receipt → (receipt < length kept) × (get_or kept receipt 0 ≡ rank)
+  stands rank receipt is = elim (cases_Bool (has kept rank)) [
     | inl e ↦
         (let c = Contains-from_Member rank kept (Member-from_has kept rank e) in
         let at = get_or_default kept c.0 0 rank c.1 ∙ c.2 in
-        let same : c.0 ≡ place = some_same (sym (rank_at kept c.0 up c.1) ∙ ap (rank_of kept) at ∙ is) in
+        let same : c.0 ≡ receipt = some_same (sym (rank_at kept c.0 up c.1) ∙ ap (rank_of kept) at ∙ is) in
         (subst (λ k. k < length kept) same c.1, ap (λ k. get_or kept k 0) (sym same) ∙ at))
-    | inr e ↦ (let no : None ≡ Some place = sym (rank_from_none 0 kept rank e) ∙ is in absurd cc)
+    | inr e ↦ (let no : None ≡ Some receipt = sym (rank_from_none 0 kept rank e) ∙ is in absurd cc)
   ]
     where
       some_same : {a b : ℕ} → Some a ≡ Some b → a ≡ b
       some_same e = cc
 
-  pub from_numbers : (basket : List ℕ) (place : ℕ) → Member place (numbers_in kept basket) → (rank : ℕ) × Member rank basket × (rank_of kept rank ≡ Some place)
-  from_numbers [] place m = absurd m
-  from_numbers (first ∷ basket) place m = grind (arith, common_steps, from_numbers basket place)
+  pub from_numbers : (basket : List ℕ) (receipt : ℕ) → Member receipt (numbers_in kept basket) → (rank : ℕ) × Member rank basket × (rank_of kept rank ≡ Some receipt)
+  from_numbers [] receipt m = absurd m
+  from_numbers (first ∷ basket) receipt m = grind (arith, common_steps, from_numbers basket receipt)
 
-  pub into_numbers : (basket : List ℕ) (rank place : ℕ) → Member rank basket → rank_of kept rank ≡ Some place → Member place (numbers_in kept basket)
-  into_numbers [] rank place m is = absurd m
-  into_numbers (first ∷ basket) rank place (inl same) is = grind (arith, common_steps)
-  into_numbers (first ∷ basket) rank place (inr m) is = grind (arith, common_steps, into_numbers basket rank place m is)
+  pub into_numbers : (basket : List ℕ) (rank receipt : ℕ) → Member rank basket → rank_of kept rank ≡ Some receipt → Member receipt (numbers_in kept basket)
+  into_numbers [] rank receipt m is = absurd m
+  into_numbers (first ∷ basket) rank receipt (inl same) is = grind (arith, common_steps)
+  into_numbers (first ∷ basket) rank receipt (inr m) is = grind (arith, common_steps, into_numbers basket rank receipt m is)
 
-  -- the places of a rising basket rise
+  -- the receipts of a rising basket rise
   pub numbers_rise : (basket : List ℕ) → IsRising basket → IsRising (numbers_in kept basket)
   numbers_rise [] rises = nil_rises
   numbers_rise (first ∷ basket) rises = at (rank_of kept first) refl (numbers_rise basket (rest_rises first basket rises))
@@ -157,35 +157,35 @@ module _ (kept : List ℕ) (up : IsRising kept) where
   -- they are the basket coded by the list
   pub numbers_are_coded : (basket : List ℕ) → IsRising basket → numbers_in kept basket ≡ coded kept basket
   numbers_are_coded basket rises = same_rising (numbers_in kept basket) (coded kept basket) (numbers_rise basket rises) (ranks_rise 0 kept basket)
-      (λ place m. let r = from_numbers basket place m in
-      let s = stands r.0 place r.2 in
-      subst (λ n. Member n (coded kept basket)) (zero-add place) (into_ranks 0 kept basket place s.0 (has-from_Member basket (get_or kept place 0) (subst (λ x. Member x basket) (sym s.1) r.1))))
-      (λ place m. let r = from_ranks 0 kept basket place m in
-      let same : place ≡ r.0 = r.2 ∙ zero-add r.0 in
-      into_numbers basket (get_or kept r.0 0) place (Member-from_has basket (get_or kept r.0 0) r.3) (rank_at kept r.0 up r.1 ∙ ap Some (sym same)))
+      (λ receipt m. let r = from_numbers basket receipt m in
+      let s = stands r.0 receipt r.2 in
+      subst (λ n. Member n (coded kept basket)) (zero-add receipt) (into_ranks 0 kept basket receipt s.0 (has-from_Member basket (get_or kept receipt 0) (subst (λ x. Member x basket) (sym s.1) r.1))))
+      (λ receipt m. let r = from_ranks 0 kept basket receipt m in
+      let same : receipt ≡ r.0 = r.2 ∙ zero-add r.0 in
+      into_numbers basket (get_or kept r.0 0) receipt (Member-from_has basket (get_or kept r.0 0) r.3) (rank_at kept r.0 up r.1 ∙ ap Some (sym same)))
 
   coded_each : (count : ℕ) (baskets : List Weighted) → AllByRecursion (IsRankBasket count) baskets → map (placed kept) baskets ≡ map (coded_basket kept) baskets
   coded_each count [] all = refl
-  coded_each count (place ∷ baskets) all = grind (arith, common_steps, coded_each count baskets all.1, numbers_are_coded)
+  coded_each count (receipt ∷ baskets) all = grind (arith, common_steps, coded_each count baskets all.1, numbers_are_coded)
 
   pub all_coded : (count : ℕ) (baskets : List Weighted) → All (IsRankBasket count) baskets → map (placed kept) baskets ≡ map (coded_basket kept) baskets
   all_coded count baskets all = coded_each count baskets (recursion_from_All (IsRankBasket count) baskets all)
 
-  -- and so are the places by a table
+  -- and so are the receipts by a table
   pub table_coded : (of : List (Option ℕ)) (count : ℕ) (baskets : List Weighted) → AreNumbers kept of → All (IsRankBasket count) baskets → map (by_table of) baskets ≡ map (coded_basket kept) baskets
-  table_coded of count baskets are all = (λ i. map (λ place. weighted (filter_map (λ rank. table_at (λ number. number) kept up of rank are i) place.basket) place.weight) baskets) ∙ all_coded count baskets all
+  table_coded of count baskets are all = (λ i. map (λ receipt. weighted (filter_map (λ rank. table_at (λ number. number) kept up of rank are i) receipt.basket) receipt.weight) baskets) ∙ all_coded count baskets all
 
 -- coded baskets of ranks are baskets of ranks
 pub coded_rank_baskets : (kept : List ℕ) (count : ℕ) (baskets : List Weighted) → AreRankBaskets (record { ranks = count; baskets = baskets })
     → AreRankBaskets (record { ranks = length kept; baskets = map (coded_basket kept) baskets })
 coded_rank_baskets kept count baskets are = record {
-  places = All-from_recursion (IsRankBasket (length kept)) (map (coded_basket kept) baskets) (each baskets (recursion_from_All (IsRankBasket count) baskets are.places));
+  each = All-from_recursion (IsRankBasket (length kept)) (map (coded_basket kept) baskets) (each baskets (recursion_from_All (IsRankBasket count) baskets are.each));
   light = subst (λ n. n ≤ MOST_WEIGHT) (sym (coded_total kept baskets)) are.light;
 }
   where
-    each : (places : List Weighted) → AllByRecursion (IsRankBasket count) places → AllByRecursion (IsRankBasket (length kept)) (map (coded_basket kept) places)
+    each : (receipts : List Weighted) → AllByRecursion (IsRankBasket count) receipts → AllByRecursion (IsRankBasket (length kept)) (map (coded_basket kept) receipts)
     each [] all = tt
-    each (place ∷ places) all = let is = coded_basket_is kept place in (record { rises = is.0; below = is.1; weighs = all.0.weighs }, each places all.1)
+    each (receipt ∷ receipts) all = let is = coded_basket_is kept receipt in (record { rises = is.0; below = is.1; weighs = all.0.weighs }, each receipts all.1)
 
 -- ---- the loops over baskets
 

@@ -108,12 +108,12 @@ one_fails count (word ∷ words) (suc k) here e = ap (λ b. fills count word.bit
 
 -- ---- words kept to some ranks
 
--- places decoded are the word's ranks that are kept
+-- receipts decoded are the word's ranks that are kept
 pub kept_decoded : (kept : List ℕ) (count bits new : ℕ) → AllBelow count kept
-    → ((place : ℕ) → place < length kept → has_rank new place ≡ has_rank bits (get_or kept place 0))
+    → ((receipt : ℕ) → receipt < length kept → has_rank new receipt ≡ has_rank bits (get_or kept receipt 0))
     → filter (has kept) (ranks_in count bits) ≡ decoded kept (ranks_in (length kept) new)
 kept_decoded kept count bits new low are = same_rising (filter (has kept) (ranks_in count bits)) (decoded kept (ranks_in (length kept) new))
-    (filter_rises (has kept) (ranks_in count bits) (filtered_range_rises (has_rank bits) 0 count)) (rising-rises (map (λ place. get_or kept place 0) (ranks_in (length kept) new))) into back
+    (filter_rises (has kept) (ranks_in count bits) (filtered_range_rises (has_rank bits) 0 count)) (rising-rises (map (λ receipt. get_or kept receipt 0) (ranks_in (length kept) new))) into back
   where
     into : (rank : ℕ) → Member rank (filter (has kept) (ranks_in count bits)) → Member rank (decoded kept (ranks_in (length kept) new))
     into rank m =
@@ -156,7 +156,7 @@ module _ (kept : List ℕ) (count rank : ℕ) (words : List Word) (i : ℕ) wher
   below_without here low h others so_far test = grind (arith, common_steps, next_below here low false h)
 
   pub below_with : i < length words → rank < count → has_rank word_at.bits rank ≡ true → AllBelow count kept → (old new : List Word) (bits : ℕ)
-      → ((place : ℕ) → place < length kept → has_rank bits place ≡ has_rank word_at.bits (get_or kept place 0))
+      → ((receipt : ℕ) → receipt < length kept → has_rank bits receipt ≡ has_rank word_at.bits (get_or kept receipt 0))
       → HaveSameWeights (below_words (take i words)) (map (decoded_basket kept) (word_baskets (length kept) old))
       → HaveSameWeights (word_baskets (length kept) (old ++ record { bits = bits; weight = word_at.weight } ∷ [])) (word_baskets (length kept) new)
       → HaveSameWeights (below_words (take (i + 1) words)) (map (decoded_basket kept) (word_baskets (length kept) new))
@@ -165,7 +165,7 @@ module _ (kept : List ℕ) (count rank : ℕ) (words : List Word) (i : ℕ) wher
       let own = filter (has kept) (ranks_in count word_at.bits) in
       let word : Word = record { bits = bits; weight = word_at.weight } in
       let inner = λ (basket : List ℕ). test (decoded kept basket) in
-      let weigh = λ (t : List ℕ → Bool) (place : Weighted). cond (t place.basket) place.weight 0 in
+      let weigh = λ (t : List ℕ → Bool) (receipt : Weighted). cond (t receipt.basket) receipt.weight 0 in
       ap (weight_where test) (next_below here low true h)
       ∙ sum_by_push (weigh test) (below_words (take i words)) (weighted own word_at.weight)
       ∙ ap (λ m. m + cond (test own) word_at.weight 0) (so_far test ∙ changed_weight test (decoded kept) (word_baskets n old))

@@ -39,13 +39,13 @@ shorter_begins q b p r short long less h =
 weight_push : (p q : List ℕ) (w : ℕ) (paths : List Weighted) → weight_begun p (paths ++ weighted q w ∷ []) ≡ weight_begun p paths + cond (begins p q) w 0
 weight_push p q w paths = grind (arith, common_steps)
 
-none_begun : (p : List ℕ) (paths : List Weighted) → ((place : Weighted) → Contains paths place → begins p place.basket ≡ true → ⊥) → weight_begun p paths ≡ 0
+none_begun : (p : List ℕ) (paths : List Weighted) → ((receipt : Weighted) → Contains paths receipt → begins p receipt.basket ≡ true → ⊥) → weight_begun p paths ≡ 0
 none_begun p [] none = refl
-none_begun p (place ∷ paths) none = elim (cases_Bool (begins p place.basket)) [
-  | inl e ↦ absurd (none place (0, omega arith, refl) e)
+none_begun p (receipt ∷ paths) none = elim (cases_Bool (begins p receipt.basket)) [
+  | inl e ↦ absurd (none receipt (0, omega arith, refl) e)
   | inr e ↦
-      sum_by-cons (λ (x : Weighted). cond (begins p x.basket) x.weight 0) place paths
-      ∙ ap (λ b. cond b place.weight 0 + weight_begun p paths) e ∙ zero-add (weight_begun p paths)
+      sum_by-cons (λ (x : Weighted). cond (begins p x.basket) x.weight 0) receipt paths
+      ∙ ap (λ b. cond b receipt.weight 0 + weight_begun p paths) e ∙ zero-add (weight_begun p paths)
       ∙ none_begun p paths (λ x has. none x (suc has.0, omega (arith, has.1), has.2))
 ]
 
@@ -193,8 +193,8 @@ module _ (nodes : List (List ℕ × ℕ)) (path : List ℕ) (w : ℕ) where
           let within : k < length path - known = omega (arith, here, length-range_with_len known (length path - known)) in
           let is = get_or-range_with_len known (length path - known) k d within in
           let low : rank < length path = omega (arith, is, within) in
-          let none = none_begun (prefix rank) paths (λ place has begun. is_new rank (omega (arith, is)) low
-          ((stands.begun (prefix rank)).1 ((λ e. omega (arith, prefix_long rank low, ap length e)), (place, has, begun)))) in
+          let none = none_begun (prefix rank) paths (λ receipt has begun. is_new rank (omega (arith, is)) low
+          ((stands.begun (prefix rank)).1 ((λ e. omega (arith, prefix_long rank low, ap length e)), (receipt, has, begun)))) in
           sym (weight_push (prefix rank) path w paths ∙ (λ i. none i + cond (take_begins (rank + 1) path i) w 0) ∙ zero-add w)));
-      total = ap (λ n. n + w) stands.total ∙ sym (sum_by-append (λ (place : Weighted). place.weight) paths (weighted path w ∷ []) ∙ ap (λ n. total_of paths + n) (zero-add w));
+      total = ap (λ n. n + w) stands.total ∙ sym (sum_by-append (λ (receipt : Weighted). receipt.weight) paths (weighted path w ∷ []) ∙ ap (λ n. total_of paths + n) (zero-add w));
     }

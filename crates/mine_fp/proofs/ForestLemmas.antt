@@ -54,7 +54,7 @@ module _ {all : PatternBase} (is : IsForest all) where
   pub entries : length all.ranks.items ≡ all.paths.ranks
   entries = ap length is.ranks ∙ length-map-range_with_len (λ rank. (rank, support_of all.paths.baskets (rank ∷ []))) 0 all.paths.ranks
 
-  -- what stands at the place of a rank
+  -- what stands at the receipt of a rank
   pub entry_support : (rank : ℕ) {one : ℕ × ℕ} → rank < count → one ≡ get_or all.ranks.items rank one → one.1 ≡ support_of coding.baskets (rank ∷ [])
   entry_support rank {one} here is_at =
       ap (λ (pair : ℕ × ℕ). pair.1) (is_at ∙ ap (λ l. get_or l rank one) is.ranks

@@ -19,11 +19,11 @@ begins_is (suc n) [] q here = absurd (omega arith)
 begins_is (suc n) (x ∷ p) [] here = sym (leb-suc-zero n)
 begins_is (suc n) (x ∷ p) (y ∷ q) here = grind (arith, common_steps, begins_is n p q (omega arith))
 
--- where the elements before a place are changed, the others are as they were
+-- where the elements before a receipt are changed, the others are as they were
 pub rest_at : {X : Type 0} (f : X → X) (xs now : List X) (k : ℕ) (d : X) → k < length xs → now ≡ map f (take k xs) ++ drop k xs → get_or now k d ≡ get_or xs k d
 rest_at f xs now k d here is = grind (arith, common_steps)
 
--- the nodes before a place have more weight
+-- the nodes before a receipt have more weight
 module _ (ranks path : List ℕ) (weight : ℕ) (nodes now : List Node) (k : ℕ) (d : Node) (here : k < length nodes) (there : k < length now)
     (is : now ≡ map (raised ranks path weight) (take k nodes) ++ drop k nodes) where
   abbrev node : Node

@@ -40,9 +40,9 @@ ranks_rise ranks (k ∷ numbers) up over within =
     (ranks_rise ranks numbers up (rest_rises k numbers over) (λ j h. within j (has-from_Member (k ∷ numbers) j (inr (Member-from_has numbers j h)))))
 
 coding_plain : (coding : Coding) → IsCoding coding → ArePlain coding.baskets
-coding_plain coding is place m = (
-  (at_Member (IsCodedBasket coding.items) place coding.baskets (recursion_from_All (IsCodedBasket coding.items) coding.baskets is.places) m).0,
-  at_Member HasWeight place coding.baskets (recursion_from_All HasWeight coding.baskets is.weights) m,
+coding_plain coding is receipt m = (
+  (at_Member (IsCodedBasket coding.items) receipt coding.baskets (recursion_from_All (IsCodedBasket coding.items) coding.baskets is.each) m).0,
+  at_Member HasWeight receipt coding.baskets (recursion_from_All HasWeight coding.baskets is.weights) m,
 )
 
 module _ {base : PatternBase} {node : Node} (is : IsNumbered base node) where

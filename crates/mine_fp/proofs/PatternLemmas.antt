@@ -28,10 +28,10 @@ use Rattle.mine_search.specs.Straight.{IsStraight}
 use Rattle.mine_search.proofs.theory.Walk.{kept_few, kept_lower, kept_passes, no_work_below}
 
 -- in a single branch a basket that has a rank has each lower one
-branch_has : (baskets : List Weighted) → is_branch baskets ≡ true → (place : Weighted) → Member place baskets → (i j : ℕ) → i < j → Member j place.basket → Member i place.basket
-branch_has baskets h place m i j less n =
-    let full = each_of (λ (p : Weighted). list_all (λ r. contains p.basket (range_with_len 0 r)) p.basket) baskets h place m in
-    has_each place.basket (range_with_len 0 j) (each_of (λ r. contains place.basket (range_with_len 0 r)) place.basket full j n) i (Member-into_range 0 j i (omega arith) (omega arith))
+branch_has : (baskets : List Weighted) → is_branch baskets ≡ true → (receipt : Weighted) → Member receipt baskets → (i j : ℕ) → i < j → Member j receipt.basket → Member i receipt.basket
+branch_has baskets h receipt m i j less n =
+    let full = each_of (λ (p : Weighted). list_all (λ r. contains p.basket (range_with_len 0 r)) p.basket) baskets h receipt m in
+    has_each receipt.basket (range_with_len 0 j) (each_of (λ r. contains receipt.basket (range_with_len 0 r)) receipt.basket full j n) i (Member-into_range 0 j i (omega arith) (omega arith))
 
 -- scratch memory with a slot for each rank has one for each that is kept
 pub slots_below : {base below : PatternBase} {number : ℕ} {before after : ClassScratch} → IsBelow base number below → number < base.paths.ranks → HaveSlots before base → KeepSlots before after → HaveSlots after below
@@ -76,7 +76,7 @@ module _ {base : PatternBase} {node : Node} (is : IsBase base node) where
   -- ---- the rank of a number, and the support of the set with it
 
   module _ (at : ℕ) (inside : at < length (ranks_of base)) where
-    -- what stands at the number's place
+    -- what stands at the number's receipt
     entry : {one : ℕ × ℕ} → one ≡ get_or base.ranks.items at one → one ≡ get_or base.ranks.items at (0, 0)
     entry {one} is_at = is_at ∙ sym (get_or_default base.ranks.items at (0, 0) one (omega (arith, inside, length-map base.ranks.items (λ (pair : ℕ × ℕ). pair.0))))
 
@@ -101,18 +101,18 @@ module _ {base : PatternBase} {node : Node} (is : IsBase base node) where
   -- ---- single branches
 
   into_branch : straight ≡ true → is_branch paths ≡ true
-  into_branch h = all_of (λ (p : Weighted). list_all (λ r. contains p.basket (range_with_len 0 r)) p.basket) paths (λ place m.
-      all_of (λ r. contains place.basket (range_with_len 0 r)) place.basket (λ j n. contains_each place.basket (range_with_len 0 j) (λ i less_m.
+  into_branch h = all_of (λ (p : Weighted). list_all (λ r. contains p.basket (range_with_len 0 r)) p.basket) paths (λ receipt m.
+      all_of (λ r. contains receipt.basket (range_with_len 0 r)) receipt.basket (λ j n. contains_each receipt.basket (range_with_len 0 j) (λ i less_m.
       let less : i < j = let p = (Member-range 0 j i less_m).1 in omega arith in
-      let low = (at_Member (IsRankBasket base.paths.ranks) place paths (recursion_from_All (IsRankBasket base.paths.ranks) paths is.numbered.ranked.places) m).below j (has-from_Member place.basket j n) in
+      let low = (at_Member (IsRankBasket base.paths.ranks) receipt paths (recursion_from_All (IsRankBasket base.paths.ranks) paths is.numbered.ranked.each) m).below j (has-from_Member receipt.basket j n) in
       let there : j < length (ranks_of base) = subst (λ c. j < c) (sym is.numbered.long) low in
       let here : i < length (ranks_of base) = omega arith in
       let same = sym (two_support i j here there)
       ∙ flat_from_straight baskets base.coded.now.minimum node.below others (plain is.numbered) h (rank_of is.numbered i) (rank_of is.numbered j) (ranks_less is.numbered i j less there) (joins_number i here) (joins_number j there)
       ∙ one_support j there in
-      has_each place.basket (i ∷ j ∷ [])
-      (has_more_too paths (i ∷ j ∷ []) (j ∷ []) (contains_each (i ∷ j ∷ []) (j ∷ []) (λ x o. inr o)) (λ p o. (at_Member (IsRankBasket base.paths.ranks) p paths (recursion_from_All (IsRankBasket base.paths.ranks) paths is.numbered.ranked.places) o).weighs) same place m
-      (contains_each place.basket (j ∷ []) (one place.basket j n))) i (inl refl))))
+      has_each receipt.basket (i ∷ j ∷ [])
+      (has_more_too paths (i ∷ j ∷ []) (j ∷ []) (contains_each (i ∷ j ∷ []) (j ∷ []) (λ x o. inr o)) (λ p o. (at_Member (IsRankBasket base.paths.ranks) p paths (recursion_from_All (IsRankBasket base.paths.ranks) paths is.numbered.ranked.each) o).weighs) same receipt m
+      (contains_each receipt.basket (j ∷ []) (one receipt.basket j n))) i (inl refl))))
     where
       one : (basket : List ℕ) (j : ℕ) → Member j basket → (x : ℕ) → Member x (j ∷ []) → Member x basket
       one basket j n x (inl e) = subst (λ z. Member z basket) e n
@@ -126,10 +126,10 @@ module _ {base : PatternBase} {node : Node} (is : IsBase base node) where
       let j = number_of is.numbered b pb.0 pb.1 in
       let before = numbers_less is.numbered i.0 j.0 i.1 j.1 (subst (λ n. n < rank_of is.numbered j.0) (sym i.2) (subst (λ n. a < n) (sym j.2) less)) in
       (λ q. support_of baskets (sym i.2 q ∷ sym j.2 q ∷ full)) ∙ two_support i.0 j.0 i.1 j.1
-      ∙ same_support paths (i.0 ∷ j.0 ∷ []) (j.0 ∷ []) (λ place m. same_test _ _
-      (λ k. (and_parts (has place.basket i.0) (contains place.basket (j.0 ∷ [])) k).1)
-      (λ k. and_from (has place.basket i.0) (contains place.basket (j.0 ∷ []))
-      (has-from_Member place.basket i.0 (branch_has paths h place m i.0 j.0 before (has_each place.basket (j.0 ∷ []) k j.0 (inl refl)))) k))
+      ∙ same_support paths (i.0 ∷ j.0 ∷ []) (j.0 ∷ []) (λ receipt m. same_test _ _
+      (λ k. (and_parts (has receipt.basket i.0) (contains receipt.basket (j.0 ∷ [])) k).1)
+      (λ k. and_from (has receipt.basket i.0) (contains receipt.basket (j.0 ∷ []))
+      (has-from_Member receipt.basket i.0 (branch_has paths h receipt m i.0 j.0 before (has_each receipt.basket (j.0 ∷ []) k j.0 (inl refl)))) k))
       ∙ sym (one_support j.0 j.1) ∙ (λ q. support_of baskets (j.2 q ∷ full)))
 
   -- the paths are a single branch exactly if the set's tree is
@@ -146,15 +146,15 @@ module _ {base : PatternBase} {node : Node} (is : IsBase base node) where
       let h = branch_is ∙ branch in record {
         supports = λ rank front less met each.
             ap (λ over. over.support (front ++ rank ∷ node.set)) is.numbered.over
-            ∙ same_support baskets (front ++ rank ∷ node.set) (rank ∷ node.set) (λ place m. same_test _ _
-            (λ k. contains_each place.basket (rank ∷ node.set) (λ x n. has_each place.basket (front ++ rank ∷ node.set) k x (Member-append_right x front (rank ∷ node.set) n)))
-            (λ k. contains_each place.basket (front ++ rank ∷ node.set) (λ x n. elim (Member-append x front (rank ∷ node.set) n) [
+            ∙ same_support baskets (front ++ rank ∷ node.set) (rank ∷ node.set) (λ receipt m. same_test _ _
+            (λ k. contains_each receipt.basket (rank ∷ node.set) (λ x n. has_each receipt.basket (front ++ rank ∷ node.set) k x (Member-append_right x front (rank ∷ node.set) n)))
+            (λ k. contains_each receipt.basket (front ++ rank ∷ node.set) (λ x n. elim (Member-append x front (rank ∷ node.set) n) [
               | inl in_front ↦
                   (let other = each x (has-from_Member front x in_front) in
-                  Member-from_has place.basket x
-                  (has_lower baskets base.coded.now.minimum node.below others (plain is.numbered) h x rank other.0 (joins x (omega (arith, other.0, less)) other.1) (joins rank less met) place m
-                  (subst (λ set. contains place.basket (rank ∷ set) ≡ true) is.first.1 k)))
-              | inr rest ↦ has_each place.basket (rank ∷ node.set) k x rest
+                  Member-from_has receipt.basket x
+                  (has_lower baskets base.coded.now.minimum node.below others (plain is.numbered) h x rank other.0 (joins x (omega (arith, other.0, less)) other.1) (joins rank less met) receipt m
+                  (subst (λ set. contains receipt.basket (rank ∷ set) ≡ true) is.first.1 k)))
+              | inr rest ↦ has_each receipt.basket (rank ∷ node.set) k x rest
             ])))
             ∙ ap (λ over. over.support (rank ∷ node.set)) (sym is.numbered.over);
         free = no_work_below (is_met node.over) node.over.work node.set (λ rank more.

@@ -59,7 +59,7 @@ one_begins (x ∷ xs) (y ∷ ys) up over low high = elim (cases_order x y) [
 -- ---- supports
 
 -- a set of some support stands in some basket
-pub some_basket : (baskets : List Weighted) (set : List ℕ) → 1 ≤ support_of baskets set → (place : Weighted) × Member place baskets × (contains place.basket set ≡ true)
+pub some_basket : (baskets : List Weighted) (set : List ℕ) → 1 ≤ support_of baskets set → (receipt : Weighted) × Member receipt baskets × (contains receipt.basket set ≡ true)
 some_basket [] set some = absurd (omega arith)
 some_basket (p ∷ baskets) set some = elim (cases_Bool (contains p.basket set)) [
   | inl e ↦ (p, inl refl, e)
@@ -72,9 +72,9 @@ some_basket (p ∷ baskets) set some = elim (cases_Bool (contains p.basket set))
 
 -- where more items have the same support, each basket that has the less has the more
 pub has_more_too : (baskets : List Weighted) (more less : List ℕ) → contains more less ≡ true → AreHeavy baskets → support_of baskets more ≡ support_of baskets less
-    → (place : Weighted) → Member place baskets → contains place.basket less ≡ true → contains place.basket more ≡ true
-has_more_too [] more less sub heavy same place m h = absurd m
-has_more_too (p ∷ baskets) more less sub heavy same place m h =
+    → (receipt : Weighted) → Member receipt baskets → contains receipt.basket less ≡ true → contains receipt.basket more ≡ true
+has_more_too [] more less sub heavy same receipt m h = absurd m
+has_more_too (p ∷ baskets) more less sub heavy same receipt m h =
     let falls = support_falls baskets more less sub in
     let one = support_falls (p ∷ []) more less sub in
     let all_more = support-cons p baskets more in
@@ -92,10 +92,10 @@ has_more_too (p ∷ baskets) more less sub heavy same place m h =
       ]
       | inr n ↦
           (let rest : support_of baskets more ≡ support_of baskets less = omega arith in
-          has_more_too baskets more less sub (λ q k. heavy q (inr k)) rest place n h)
+          has_more_too baskets more less sub (λ q k. heavy q (inr k)) rest receipt n h)
     ]
 
-pub same_support : (baskets : List Weighted) (one other : List ℕ) → ((place : Weighted) → Member place baskets → contains place.basket one ≡ contains place.basket other)
+pub same_support : (baskets : List Weighted) (one other : List ℕ) → ((receipt : Weighted) → Member receipt baskets → contains receipt.basket one ≡ contains receipt.basket other)
     → support_of baskets one ≡ support_of baskets other
 same_support [] one other same = refl
 same_support (p ∷ baskets) one other same =
@@ -107,7 +107,7 @@ same_support (p ∷ baskets) one other same =
 
 -- what the baskets are: they rise, and weigh something
 abbrev pub ArePlain : List Weighted → Type 0
-ArePlain baskets = (place : Weighted) → Member place baskets → IsRising place.basket × (1 ≤ place.weight)
+ArePlain baskets = (receipt : Weighted) → Member receipt baskets → IsRising receipt.basket × (1 ≤ receipt.weight)
 
 -- of two ranks that join a set, the lower one is in each basket that has the set and the higher one
 abbrev pub IsFlat : List Weighted → (ℕ → Bool) → List ℕ → Type 0
@@ -121,41 +121,41 @@ module _ (baskets : List Weighted) (minimum : Minimum) (first : ℕ) (others : L
   joined rank = ltb rank first && is_frequent baskets minimum (rank ∷ set)
 
   abbrev path_of : Weighted → List ℕ
-  path_of place = filter joined place.basket
+  path_of receipt = filter joined receipt.basket
 
   abbrev has_set : Weighted → Bool
-  has_set place = contains place.basket set
+  has_set receipt = contains receipt.basket set
 
   abbrev paths : List (List ℕ)
   paths = paths_below baskets minimum set
 
-  path_rises : (place : Weighted) → Member place baskets → IsRising (path_of place)
-  path_rises place m = IsStrictlySortedBy-filter nat_cmp joined place.basket (plain place m).0
+  path_rises : (receipt : Weighted) → Member receipt baskets → IsRising (path_of receipt)
+  path_rises receipt m = IsStrictlySortedBy-filter nat_cmp joined receipt.basket (plain receipt m).0
 
-  path_in : (place : Weighted) → Member place baskets → contains place.basket set ≡ true → Member (path_of place) paths
-  path_in place m h = into_picked has_set path_of baskets place m h
+  path_in : (receipt : Weighted) → Member receipt baskets → contains receipt.basket set ≡ true → Member (path_of receipt) paths
+  path_in receipt m h = into_picked has_set path_of baskets receipt m h
 
   pub has_lower : is_straight baskets minimum set ≡ true → (a b : ℕ) → a < b → joined a ≡ true → joined b ≡ true
-      → (place : Weighted) → Member place baskets → contains place.basket (b ∷ set) ≡ true → has place.basket a ≡ true
-  has_lower h a b less ja jb place m k =
+      → (receipt : Weighted) → Member receipt baskets → contains receipt.basket (b ∷ set) ≡ true → has receipt.basket a ≡ true
+  has_lower h a b less ja jb receipt m k =
       let met = (and_parts (ltb a first) (is_frequent baskets minimum (a ∷ set)) ja).1 in
       let other = some_basket baskets (a ∷ set) (at_least_one minimum (support_of baskets (a ∷ set)) (total_of baskets) met) in
-      let both = and_parts (has place.basket b) (contains place.basket set) k in
+      let both = and_parts (has receipt.basket b) (contains receipt.basket set) k in
       let its = and_parts (has other.0.basket a) (contains other.0.basket set) other.2 in
-      let higher = Member-from_filter joined b place.basket (Member-from_has place.basket b both.0) jb in
+      let higher = Member-from_filter joined b receipt.basket (Member-from_has receipt.basket b both.0) jb in
       let lower = Member-from_filter joined a other.0.basket (Member-from_has other.0.basket a its.0) ja in
-      let test = each_of (λ o. begins (path_of place) o || begins o (path_of place)) paths
-      (each_of (λ p. list_all (λ o. begins p o || begins o p) paths) paths h (path_of place) (path_in place m both.1)) (path_of other.0) (path_in other.0 other.1 its.1) in
-      let found = elim (or_cases (begins (path_of place) (path_of other.0)) (begins (path_of other.0) (path_of place)) test) as (λ _. Member a (path_of place)) [
-        | inl e ↦ lower_in (path_of place) (path_of other.0) a b (path_rises other.0 other.1) e higher lower less
-        | inr e ↦ begins_in (path_of other.0) (path_of place) a e lower
+      let test = each_of (λ o. begins (path_of receipt) o || begins o (path_of receipt)) paths
+      (each_of (λ p. list_all (λ o. begins p o || begins o p) paths) paths h (path_of receipt) (path_in receipt m both.1)) (path_of other.0) (path_in other.0 other.1 its.1) in
+      let found = elim (or_cases (begins (path_of receipt) (path_of other.0)) (begins (path_of other.0) (path_of receipt)) test) as (λ _. Member a (path_of receipt)) [
+        | inl e ↦ lower_in (path_of receipt) (path_of other.0) a b (path_rises other.0 other.1) e higher lower less
+        | inr e ↦ begins_in (path_of other.0) (path_of receipt) a e lower
       ] in
-      has-from_Member place.basket a (Member-filter joined a place.basket found).0
+      has-from_Member receipt.basket a (Member-filter joined a receipt.basket found).0
 
   pub flat_from_straight : is_straight baskets minimum set ≡ true → IsFlat baskets joined set
-  flat_from_straight h a b less ja jb = same_support baskets (a ∷ b ∷ set) (b ∷ set) (λ place m. same_test _ _
-      (λ k. (and_parts (has place.basket a) (contains place.basket (b ∷ set)) k).1)
-      (λ k. and_from (has place.basket a) (contains place.basket (b ∷ set)) (has_lower h a b less ja jb place m k) k))
+  flat_from_straight h a b less ja jb = same_support baskets (a ∷ b ∷ set) (b ∷ set) (λ receipt m. same_test _ _
+      (λ k. (and_parts (has receipt.basket a) (contains receipt.basket (b ∷ set)) k).1)
+      (λ k. and_from (has receipt.basket a) (contains receipt.basket (b ∷ set)) (has_lower h a b less ja jb receipt m k) k))
 
   path_has_lower : IsFlat baskets joined set → (one other : Weighted) → Member one baskets → contains one.basket set ≡ true → HasLower (path_of one) (path_of other)
   path_has_lower flat one other m h a b less higher lower =

@@ -61,7 +61,7 @@ impl<'a> Forest<'a> {
                 coded,
                 paths: Paths::of_runs(runs),
                 ranks,
-                least: coded.minimum().least(coded.total()),
+                least: coded.least_support(),
             },
             empty,
         })

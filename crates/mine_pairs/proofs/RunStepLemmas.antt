@@ -71,16 +71,16 @@ pushed_within : (n : ℕ) (runs : List Span) (run : Span) → AllByRecursion (Is
 pushed_within n [] run all one = (one, tt)
 pushed_within n (first ∷ runs) run all one = (all.0, pushed_within n runs run all.1 one)
 
-pub raised_repeats : (weight : ℕ) (places : List Weighted) (basket : List ℕ) → repeats_last (with_last_raised weight places) basket ≡ repeats_last places basket
+pub raised_repeats : (weight : ℕ) (receipts : List Weighted) (basket : List ℕ) → repeats_last (with_last_raised weight receipts) basket ≡ repeats_last receipts basket
 raised_repeats weight [] basket = refl
 raised_repeats weight (index ∷ []) basket = refl
 raised_repeats weight (index ∷ next ∷ []) basket = refl
-raised_repeats weight (index ∷ next ∷ third ∷ places) basket = raised_repeats weight (next ∷ third ∷ places) basket
+raised_repeats weight (index ∷ next ∷ third ∷ receipts) basket = raised_repeats weight (next ∷ third ∷ receipts) basket
 
-pub pushed_repeats : (places : List Weighted) (index : Weighted) → repeats_last (places ++ index ∷ []) index.basket ≡ true
+pub pushed_repeats : (receipts : List Weighted) (index : Weighted) → repeats_last (receipts ++ index ∷ []) index.basket ≡ true
 pushed_repeats [] index = (bytes_decides index.basket index.basket).1 refl
 pushed_repeats (first ∷ []) index = (bytes_decides index.basket index.basket).1 refl
-pushed_repeats (first ∷ second ∷ places) index = pushed_repeats (second ∷ places) index
+pushed_repeats (first ∷ second ∷ receipts) index = pushed_repeats (second ∷ receipts) index
 
 heavier_basket : (rank : ℕ) (index : Weighted) (weight : ℕ) → IsRankBasket rank index → IsRankBasket rank (weighted index.basket (index.weight + weight))
 heavier_basket rank index weight is = record { rises = is.rises; below = is.below; weighs = (let some = is.weighs in omega arith) }
@@ -94,17 +94,17 @@ module _ (ranks : List ℕ) (rank : ℕ) (done : List Weighted) (index : Weighte
   pub pushed_are : AreRunsOf ranks (done ++ index ∷ []) rank (runs ++ run ∷ [])
   pushed_are = record {
     within = All-from_recursion (IsWithin (length ranks)) (runs ++ run ∷ []) (pushed_within (length ranks) runs run (recursion_from_All (IsWithin (length ranks)) runs are.within) inside);
-    places = subst (All (IsRankBasket rank)) (sym (map-append (basket_at ranks) runs (run ∷ [])))
+    each = subst (All (IsRankBasket rank)) (sym (map-append (basket_at ranks) runs (run ∷ [])))
         (All-from_recursion (IsRankBasket rank) (baskets_at ranks runs ++ basket_at ranks run ∷ [])
-        (pushed_all (IsRankBasket rank) (heavier_basket rank) (baskets_at ranks runs) (basket_at ranks run) (recursion_from_All (IsRankBasket rank) (baskets_at ranks runs) are.places) is));
+        (pushed_all (IsRankBasket rank) (heavier_basket rank) (baskets_at ranks runs) (basket_at ranks run) (recursion_from_All (IsRankBasket rank) (baskets_at ranks runs) are.each) is));
     weights = λ test. grind (arith, common_steps);
   }
 
   pub heavier_are : repeats_last (baskets_at ranks runs) (basket_at ranks run).basket ≡ true → AreRunsOf ranks (done ++ index ∷ []) rank (with_last_heavier run.weight runs)
   heavier_are again = record {
     within = All-from_recursion (IsWithin (length ranks)) (with_last_heavier run.weight runs) (heavier_within (length ranks) run.weight runs (recursion_from_All (IsWithin (length ranks)) runs are.within));
-    places = subst (All (IsRankBasket rank)) (sym (heavier_baskets ranks run.weight runs))
+    each = subst (All (IsRankBasket rank)) (sym (heavier_baskets ranks run.weight runs))
         (All-from_recursion (IsRankBasket rank) (with_last_raised run.weight (baskets_at ranks runs))
-        (raised_all (IsRankBasket rank) (heavier_basket rank) run.weight (baskets_at ranks runs) (recursion_from_All (IsRankBasket rank) (baskets_at ranks runs) are.places)));
+        (raised_all (IsRankBasket rank) (heavier_basket rank) run.weight (baskets_at ranks runs) (recursion_from_All (IsRankBasket rank) (baskets_at ranks runs) are.each)));
     weights = λ test. grind (arith, common_steps, more_weight, heavier_baskets, raised_weight);
   }

@@ -38,7 +38,7 @@ lists_in of = map (λ runs. runs.items) of
 -- the baskets that have the rank are those that end in its runs
 pub record AreRunsOf (ranks : List ℕ) (baskets : List Weighted) (rank : ℕ) (runs : List Span) : Type 0 where
   pub within : All (IsWithin (length ranks)) runs
-  pub places : All (IsRankBasket rank) (baskets_at ranks runs)
+  pub each : All (IsRankBasket rank) (baskets_at ranks runs)
   pub weights : HaveSameWeights (below rank baskets) (baskets_at ranks runs)
 
 -- the runs of so many ranks from a first one on

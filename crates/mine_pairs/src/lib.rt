@@ -24,8 +24,7 @@ mod sums;
 mod triangle;
 
 pub use pairs::{
-    frequent_pairs, is_small_triangle, least_support, pays_for_classes, runs_keeping,
-    runs_with_least,
+    frequent_pairs, is_small_triangle, pays_for_classes, runs_keeping, runs_with_least,
 };
 pub use rank_range::RankRange;
 pub use rank_runs::runs_of_range;

@@ -1,7 +1,6 @@
 //! The frequent pairs of ranks, without a list of all pairs.
 ghost use Rattle.std.specs.Prelude.{◌≡◌, ◌<◌, ◌≤◌, ◌↔◌, ◌*◌, ◌/◌, ℕ, List, IfOk, IsTrue, length};
-ghost use Rattle.basket_sets.specs.Minimum.{IsLeastSupport};
-ghost use Rattle.basket_sets.specs.Support.{support_of, total_of};
+ghost use Rattle.basket_sets.specs.Support.{support_of};
 ghost use Rattle.mine_pairs.specs.Pairs.{ArePairs, lists_of, pairs_by_greater};
 
 use crate::rank_range::RankRange;
@@ -26,7 +25,7 @@ pub fn frequent_pairs(alloc: Global, coded: &Coded) -> Result<Vec<Vec<(u32, u64)
             first: 0,
             count: coded.ranks(),
         };
-        return pairs_of_range(alloc, coded, range, least_support(coded.coded_items()));
+        return pairs_of_range(alloc, coded, range, coded.coded_items().least_support());
     }
     let (runs, least) = runs_with_least(alloc, coded)?;
     pairs_by_runs(alloc, &runs, least)
@@ -37,16 +36,7 @@ pub fn runs_with_least(alloc: Global, coded: &Coded) -> Result<(Runs, u64), Allo
     ensures { IfOk result (λ found. ArePairs coded.now (pairs_by_greater found.0.baskets found.1 found.0.ranks)) }
 {
     let runs = Runs::of(alloc, ListBaskets::of_coded(alloc, coded)?)?;
-    Ok((runs, least_support(coded.coded_items())))
-}
-
-/// The least support that meets the minimum of a coding.
-pub fn least_support(coded: &CodedItems) -> u64
-    ensures { IsLeastSupport coded.now.minimum (total_of coded.now.baskets) result }
-{
-    // The baskets of a coding are light enough for a least support.
-    let _ = coded.items();
-    coded.minimum().least(coded.total())
+    Ok((runs, coded.coded_items().least_support()))
 }
 
 /// The runs of the coded baskets, which keep the frequent pairs of each rank, or none if none are
@@ -57,7 +47,7 @@ pub fn runs_keeping(coded: &CodedItems, mut runs: Runs, pairs: Vec<Vec<(u32, u64
     requires pairs { 0 < length pairs.items → ArePairs coded.now (lists_of pairs.items) }
     ensures { result ≡ runs }
 {
-    runs.keep_pairs(pairs, least_support(coded));
+    runs.keep_pairs(pairs, coded.least_support());
     runs
 }
 

@@ -2,14 +2,14 @@
 use Rattle.std.specs.Prelude.{◌≡◌, ◌≤◌, ◌<◌, ◌-◌, ◌*◌, ◌%◌, ◌==◌, ◌⊎◌, ℕ, All, List, Err, IfOk, Vec, filter, length, map, slice_index}
 use Rattle.std.specs.Global.{Global}
 use Rattle.std.specs.List.{range_with_len, sum_by}
-use Rattle.basket_ranks.specs.Codes.{Coding}
+use Rattle.basket_ranks.specs.Codes.{Coding, IsCoding, frequent_of_coding}
 use Rattle.mine_limit.specs.declared.fault.MineFault.TheVariants.{TooMany}
 use Rattle.basket_sets.specs.declared.counted.Counted.{Counted}
 use Rattle.mine_classes.specs.Mined.{ListsClassItems, MOST_SET_WORK, class_size}
 use Rattle.mine_round.specs.RoundView.{RoundView}
 use Rattle.mine_round.specs.SeatView.{SeatView}
 use Rattle.mine_pieces.specs.declared.worker_result.WorkerResult.{WorkerResult}
-use Rattle.mine_pieces.specs.Pieces.{IsPieceShare}
+use Rattle.mine_pieces.specs.Pieces.{HasEach, IsPieceShare}
 
 -- the rank that has so many ranks after it
 abbrev pub rank_from_end : ℕ → ℕ → ℕ
@@ -27,7 +27,7 @@ ranks_of coding pieces claimed = map (rank_from_end (length coding.items)) (inde
 abbrev pub claimed_size : Coding → ℕ → ℕ → ℕ
 claimed_size coding pieces claimed = sum_by (class_size coding) (ranks_of coding pieces claimed)
 
--- the class of a rank, and the work that it took: that of the rank, if it is rests_on, and no more than its sets can take
+-- the class of a rank, and the work that it took: no more than its sets can take, and that of the rank if what this rests on holds
 pub record IsMined (coding : Coding) (rests_on : Type 0) (work : ℕ → ℕ) (rank : ℕ) (class : List Counted × ℕ) : Type 0 where
   pub listed : ListsClassItems coding rank class.0
   pub worked : rests_on → class.1 ≡ work rank
@@ -36,6 +36,12 @@ pub record IsMined (coding : Coding) (rests_on : Type 0) (work : ℕ → ℕ) (r
 -- each of these is a rank with its class
 abbrev pub AreMined : Coding → Type 0 → (ℕ → ℕ) → List (ℕ × (List Counted × ℕ)) → Type 0
 AreMined coding rests_on work values = All (λ value. IsMined coding rests_on work value.0 value.1) values
+
+-- the classes of all ranks of a coding, which have no more sets together than the limit
+pub record AreAllMined (coding : Coding) (rests_on : Type 0) (work : ℕ → ℕ) (limit : ℕ) (classes : List (List Counted × ℕ)) : Type 0 where
+  pub is_coding : IsCoding coding
+  pub each : HasEach (IsMined coding rests_on work) (length coding.items) classes
+  pub within : length (frequent_of_coding coding) ≤ limit
 
 -- a class alone has more sets than the limit
 pub record HasLargeClass (coding : Coding) (limit : ℕ) : Type 0 where

@@ -6,8 +6,7 @@ ghost use Rattle.basket_ranks.specs.Codes.{frequent_of_coding};
 ghost use Rattle.basket_core.specs.Listing.{listing_of};
 ghost use Rattle.mine_conditional.specs.ClassScratch.{IsScratchOf};
 ghost use Rattle.mine_round.specs.Record.{unused};
-ghost use Rattle.mine_phases.specs.Classes.{AreMined, HasLargeClass, IsClassShare, IsMined, claimed_size, ranks_of};
-ghost use Rattle.mine_pieces.specs.Pieces.{HasEach};
+ghost use Rattle.mine_phases.specs.Classes.{AreAllMined, AreMined, HasLargeClass, IsClassShare, claimed_size, ranks_of};
 ghost use Rattle.mine_phases.specs.RoundTally.{CountsSets, still};
 ghost use Rattle.mine_pieces.specs.WorkerResult.{numbers_of};
 
@@ -167,18 +166,16 @@ fn mined_classes<'a, 'g, R: Threads + Sync, G: Gate + Sync, M: ClassMiner + Sync
     phase: &Phase<'g, G>,
 ) -> Result<Vec<Class>, MineFault>
     requires coding { M.coding_of miner.now ≡ coded.now }
-    ensures each { IfOk result (λ mined. HasEach (IsMined coded.now (M.rests_on miner.now) (M.work_of miner.now)) (length coded.now.items) mined.items) }
-    ensures within { IfOk result (λ _. length (frequent_of_coding coded.now) ≤ limit) }
+    ensures mined { IfOk result (λ classes. AreAllMined coded.now (M.rests_on miner.now) (M.work_of miner.now) limit classes.items) }
     ensures too_many { (most : ℕ) → result ≡ Err (TooMany most) → (most ≡ limit) × (limit < length (frequent_of_coding coded.now)) }
 {
-    let _items = coded.items();
-    let ranks = coded.ranks();
-    let cutting = phase.for_parts(ranks as usize).cutting;
+    let ranks = coded.items().len();
+    let cutting = phase.for_parts(ranks).cutting;
     let (round, seats) = Round::new(alloc, cutting.pieces, 1, cutting.workers)?;
     let classes = Classes {
         round: &round,
         pieces: cutting.pieces,
-        ranks,
+        ranks: ranks as u32,
         miner,
         limit,
         gate: phase.gate,
@@ -196,8 +193,7 @@ fn mined_classes<'a, 'g, R: Threads + Sync, G: Gate + Sync, M: ClassMiner + Sync
     let Ok(_) = round.close(seats) else {
         unreachable!()
     };
-    let classes = collected(alloc, ranks, values?)?;
-    Ok(classes)
+    Ok(collected(alloc, ranks as u32, values?)?)
 }
 
 /// The list of the frequent sets, mined class by class by a number of workers over pieces of the
@@ -217,7 +213,6 @@ pub fn mine_shared<R: Threads + Sync, G: Gate + Sync, M: ClassMiner + Sync + Dro
     ensures work { IfOk result (λ mined. M.rests_on miner → mined.1 ≡ sum_by (M.work_of miner) (range_with_len 0 (length coded.now.items))) }
     ensures too_many { (most : ℕ) → result ≡ Err (TooMany most) → (most ≡ limit) × (limit < length (frequent_of_coding coded.now)) }
 {
-    let _items = coded.items();
     let classes = mined_classes(rt, alloc, coded, &miner, limit, phase)?;
     drop(miner);
     let (classes, work) = joined(alloc, classes)?;

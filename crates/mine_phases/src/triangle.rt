@@ -8,7 +8,7 @@ use crate::joined::in_a_row;
 use crate::pairs::{PHASE, Pairs};
 use crate::ranges::{Cost, ranges_of};
 use basket_core::Coded;
-use mine_pairs::{RankRange, RankedBaskets, least_support, pairs_of_range};
+use mine_pairs::{RankRange, RankedBaskets, pairs_of_range};
 use mine_pieces::{Cutting, Gate, PartWork, Phase, by_pieces};
 use std::alloc::{AllocError, Global};
 use std::thread::Threads;
@@ -60,7 +60,7 @@ pub fn triangle_pairs<R: Threads + Sync, G: Gate + Sync, B: RankedBaskets + Sync
 {
     let counting = PairCounting {
         baskets,
-        least: least_support(coded.coded_items()),
+        least: coded.coded_items().least_support(),
         ranges: ranges_of(alloc, coded, cutting, Cost::Pairs)?,
     };
     let lists = by_pieces(rt, alloc, &counting, &Phase::new(PHASE, cutting, gate))?;

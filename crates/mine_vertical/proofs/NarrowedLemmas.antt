@@ -88,7 +88,7 @@ module _ (local : LocalBaskets) (set : List ℕ) (chosen : List Span) (are : cho
 
   pub chosen_ranked : AreRankBaskets (record { ranks = length local.ranks.items; baskets = baskets_at local.numbers.items chosen })
   chosen_ranked = subst (λ l. AreRankBaskets (record { ranks = length local.ranks.items; baskets = l })) (sym chosen_are) (record {
-    places = all_at (IsRankBasket (length local.ranks.items)) baskets none_at (cover_of baskets set) (λ index m. (from_cover baskets set index m).0) local.ranked.places;
+    each = all_at (IsRankBasket (length local.ranks.items)) baskets none_at (cover_of baskets set) (λ index m. (from_cover baskets set index m).0) local.ranked.each;
     light = omega (arith, covered_light baskets set, local.ranked.light);
   })
 

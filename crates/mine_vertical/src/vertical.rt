@@ -58,14 +58,12 @@ impl<'a> Vertical<'a> {
         requires weights { HaveSameWeights coded.now.baskets runs.baskets }
         ensures { IfOk result (λ vertical. vertical ≡ coded.now) }
     {
-        // The baskets of a coding are light enough for a least support.
-        let _ = coded.items();
-        let least = coded.minimum().least(coded.total());
+        let empty = CountedSets::new(alloc, coded.items(), coded.total())?;
         Ok(Vertical {
             coded,
-            least,
+            least: coded.least_support(),
             runs,
-            empty: CountedSets::new(alloc, coded.items(), coded.total())?,
+            empty,
         })
     }
 }

@@ -51,35 +51,35 @@ ranks_rise number (x ∷ items) basket =
     let rest = ranks_rise (number + 1) items basket in
     cond_both (has basket x) (number ∷ later) later IsRising (λ e. cons_rises number later (λ y m. let r = from_ranks (number + 1) items basket y m in omega (arith, r.2)) rest) (λ e. rest)
 
--- a place of a coding
-pub coded_basket_is : (items : List ℕ) (place : Weighted) → IsCodedBasket items (coded_basket items place)
-coded_basket_is items place = (
-  ranks_rise 0 items place.basket,
-  λ rank h. let r = from_ranks 0 items place.basket rank (Member-from_has (coded items place.basket) rank h) in omega (arith, r.1, r.2),
+-- a receipt of a coding
+pub coded_basket_is : (items : List ℕ) (receipt : Weighted) → IsCodedBasket items (coded_basket items receipt)
+coded_basket_is items receipt = (
+  ranks_rise 0 items receipt.basket,
+  λ rank h. let r = from_ranks 0 items receipt.basket rank (Member-from_has (coded items receipt.basket) rank h) in omega (arith, r.1, r.2),
 )
 
 -- coding keeps the total weight
 pub coded_total : (items : List ℕ) (baskets : List Weighted) → total_of (map (coded_basket items) baskets) ≡ total_of baskets
-coded_total items baskets = fold-map (λ n place. n + weight_at [] place) (coded_basket items) 0 baskets
+coded_total items baskets = fold-map (λ n receipt. n + weight_at [] receipt) (coded_basket items) 0 baskets
 
 -- a rank has the support of its item
 pub coded_support : (items : List ℕ) (baskets : List Weighted) (rank : ℕ) → rank < length items
     → support_of (map (coded_basket items) baskets) (rank ∷ []) ≡ support_of baskets (get_or items rank 0 ∷ [])
 coded_support items baskets rank below =
-    fold-map (λ n place. n + weight_at (rank ∷ []) place) (coded_basket items) 0 baskets ∙ (λ i. sum_by (λ place. cond (same_test _ _ (there place) (back place) i) place.weight 0) baskets)
+    fold-map (λ n receipt. n + weight_at (rank ∷ []) receipt) (coded_basket items) 0 baskets ∙ (λ i. sum_by (λ receipt. cond (same_test _ _ (there receipt) (back receipt) i) receipt.weight 0) baskets)
   where
-    there : (place : Weighted) → contains (coded items place.basket) (rank ∷ []) ≡ true → contains place.basket (get_or items rank 0 ∷ []) ≡ true
-    there place h =
-        let r = from_ranks 0 items place.basket rank (has_each (coded items place.basket) (rank ∷ []) h rank (inl refl)) in
-        contains_each place.basket (get_or items rank 0 ∷ []) (λ item m. elim m [
-          | inl e ↦ subst (λ x. Member x place.basket) (ap (λ k. get_or items k 0) (omega (arith, r.2)) ∙ e) (Member-from_has place.basket (get_or items r.0 0) r.3)
+    there : (receipt : Weighted) → contains (coded items receipt.basket) (rank ∷ []) ≡ true → contains receipt.basket (get_or items rank 0 ∷ []) ≡ true
+    there receipt h =
+        let r = from_ranks 0 items receipt.basket rank (has_each (coded items receipt.basket) (rank ∷ []) h rank (inl refl)) in
+        contains_each receipt.basket (get_or items rank 0 ∷ []) (λ item m. elim m [
+          | inl e ↦ subst (λ x. Member x receipt.basket) (ap (λ k. get_or items k 0) (omega (arith, r.2)) ∙ e) (Member-from_has receipt.basket (get_or items r.0 0) r.3)
           | inr n ↦ absurd n
         ])
 
-    back : (place : Weighted) → contains place.basket (get_or items rank 0 ∷ []) ≡ true → contains (coded items place.basket) (rank ∷ []) ≡ true
-    back place h = contains_each (coded items place.basket) (rank ∷ []) (λ other m. elim m [
-      | inl e ↦ subst (λ x. Member x (coded items place.basket)) (omega (arith, e))
-          (into_ranks 0 items place.basket rank below (has-from_Member place.basket (get_or items rank 0) (has_each place.basket (get_or items rank 0 ∷ []) h (get_or items rank 0) (inl refl))))
+    back : (receipt : Weighted) → contains receipt.basket (get_or items rank 0 ∷ []) ≡ true → contains (coded items receipt.basket) (rank ∷ []) ≡ true
+    back receipt h = contains_each (coded items receipt.basket) (rank ∷ []) (λ other m. elim m [
+      | inl e ↦ subst (λ x. Member x (coded items receipt.basket)) (omega (arith, e))
+          (into_ranks 0 items receipt.basket rank below (has-from_Member receipt.basket (get_or items rank 0) (has_each receipt.basket (get_or items rank 0 ∷ []) h (get_or items rank 0) (inl refl))))
       | inr n ↦ absurd n
     ])
 
@@ -122,14 +122,14 @@ kept_contains items basket set ranked = same_test _ _
 
 -- the support of a set over the baskets as items, told over the baskets of ranks
 decoded_support : (items : List ℕ) (baskets : List Weighted) (set : List ℕ)
-    → support_of (map (decoded_basket items) baskets) set ≡ sum_by (λ place. cond (contains (decoded items place.basket) set) place.weight 0) baskets
-decoded_support items baskets set = fold-map (λ n place. n + weight_at set place) (decoded_basket items) 0 baskets
+    → support_of (map (decoded_basket items) baskets) set ≡ sum_by (λ receipt. cond (contains (decoded items receipt.basket) set) receipt.weight 0) baskets
+decoded_support items baskets set = fold-map (λ n receipt. n + weight_at set receipt) (decoded_basket items) 0 baskets
 
 kept_support : (items : List ℕ) (baskets : List Weighted) (set : List ℕ) → ((item : ℕ) → Member item set → Member item items)
     → support_of (map (decoded_basket items) (map (coded_basket items) baskets)) set ≡ support_of baskets set
 kept_support items baskets set ranked =
-    decoded_support items (map (coded_basket items) baskets) set ∙ fold-map (λ n place. n + weight_at set (decoded_basket items place)) (coded_basket items) 0 baskets
-    ∙ (λ i. sum_by (λ place. cond (kept_contains items place.basket set ranked i) place.weight 0) baskets)
+    decoded_support items (map (coded_basket items) baskets) set ∙ fold-map (λ n receipt. n + weight_at set (decoded_basket items receipt)) (coded_basket items) 0 baskets
+    ∙ (λ i. sum_by (λ receipt. cond (kept_contains items receipt.basket set ranked i) receipt.weight 0) baskets)
 
 -- a frequent item has a rank
 pub item_ranked : (baskets : List Weighted) (minimum : Minimum) (item : ℕ) → is_frequent baskets minimum (item ∷ []) ≡ true → Member item (ranks_of baskets minimum)
@@ -166,10 +166,10 @@ module _ (baskets : List Weighted) (minimum : Minimum) where
   kept_items : (set : List ℕ) → is_frequent kept minimum set ≡ true → (item : ℕ) → Member item set → Member item (ranks_of baskets minimum)
   kept_items set h item m =
       let ranked = ranks_of baskets minimum in
-      let from = Member-flat_map (λ (place : Weighted). place.basket) item kept (in_items kept set (at_least_one minimum (support_of kept set) (total_of kept) h) item m) in
+      let from = Member-flat_map (λ (receipt : Weighted). receipt.basket) item kept (in_items kept set (at_least_one minimum (support_of kept set) (total_of kept) h) item m) in
       let coded = Member-from_map (decoded_basket ranked) from.0 (map (coded_basket ranked) baskets) from.1 in
-      let place = Member-from_map (coded_basket ranked) coded.0 baskets coded.1 in
-      (kept_from ranked place.0.basket item (subst (λ (w : Weighted). Member item w.basket) (sym (ap (decoded_basket ranked) place.2 ∙ coded.2)) from.2)).1
+      let receipt = Member-from_map (coded_basket ranked) coded.0 baskets coded.1 in
+      (kept_from ranked receipt.0.basket item (subst (λ (w : Weighted). Member item w.basket) (sym (ap (decoded_basket ranked) receipt.2 ∙ coded.2)) from.2)).1
 
   frequent_kept : (set : List ℕ) → is_frequent baskets minimum set ≡ true → is_frequent kept minimum set ≡ true
   frequent_kept set h = grind (arith, common_steps, kept_support, has_ranks, kept_total)

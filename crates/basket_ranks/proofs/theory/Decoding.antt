@@ -47,11 +47,11 @@ decoded_contains items basket set apart below within = same_test _ _
 
 decoded_supports : (items : List ℕ) (baskets : List Weighted) (set : List ℕ) → IsDistinct nat_eq items → AllByRecursion (IsCodedBasket items) baskets → AllBelow (length items) set
     → support_of (map (decoded_basket items) baskets) (decoded items set) ≡ support_of baskets set
-decoded_supports items [] set apart places within = refl
-decoded_supports items (place ∷ baskets) set apart places within =
-    sum_by-cons (weight_at (decoded items set)) (decoded_basket items place) (map (decoded_basket items) baskets)
-    ∙ ap (λ b. cond b place.weight 0 + support_of (map (decoded_basket items) baskets) (decoded items set)) (decoded_contains items place.basket set apart places.0.1 within)
-    ∙ ap (λ n. weight_at set place + n) (decoded_supports items baskets set apart places.1 within) ∙ sym (sum_by-cons (weight_at set) place baskets)
+decoded_supports items [] set apart receipts within = refl
+decoded_supports items (receipt ∷ baskets) set apart receipts within =
+    sum_by-cons (weight_at (decoded items set)) (decoded_basket items receipt) (map (decoded_basket items) baskets)
+    ∙ ap (λ b. cond b receipt.weight 0 + support_of (map (decoded_basket items) baskets) (decoded items set)) (decoded_contains items receipt.basket set apart receipts.0.1 within)
+    ∙ ap (λ n. weight_at set receipt + n) (decoded_supports items baskets set apart receipts.1 within) ∙ sym (sum_by-cons (weight_at set) receipt baskets)
 
 -- two rising lists of ranks with the same items are equal
 pub decoded_apart : (items a b : List ℕ) → IsDistinct nat_eq items → IsRising a → IsRising b → AllBelow (length items) a → AllBelow (length items) b → decoded items a ≡ decoded items b → a ≡ b
@@ -92,7 +92,7 @@ module _ (coding : Coding) (is : IsCoding coding) where
   IsRankSet set = AllBelow (length coding.items) set
 
   support_is : (set : List ℕ) → IsRankSet set → support_of (baskets_of coding) (decoded coding.items set) ≡ support_of coding.baskets set
-  support_is set within = decoded_supports coding.items coding.baskets set is.distinct (recursion_from_All (IsCodedBasket coding.items) coding.baskets is.places) within
+  support_is set within = decoded_supports coding.items coding.baskets set is.distinct (recursion_from_All (IsCodedBasket coding.items) coding.baskets is.each) within
 
   total_is : total_of (baskets_of coding) ≡ total_of coding.baskets
   total_is = support_is [] (λ item h. absurd (true≢false (sym h)))
@@ -100,24 +100,24 @@ module _ (coding : Coding) (is : IsCoding coding) where
   pub test_is : (set : List ℕ) → IsRankSet set → is_frequent (baskets_of coding) coding.minimum (decoded coding.items set) ≡ is_frequent coding.baskets coding.minimum set
   test_is set within = grind (arith, common_steps, support_is, total_is)
 
-  coded_at : (place : Weighted) → Member place coding.baskets → IsCodedBasket coding.items place
-  coded_at place = at_Member (IsCodedBasket coding.items) place coding.baskets (recursion_from_All (IsCodedBasket coding.items) coding.baskets is.places)
+  coded_at : (receipt : Weighted) → Member receipt coding.baskets → IsCodedBasket coding.items receipt
+  coded_at receipt = at_Member (IsCodedBasket coding.items) receipt coding.baskets (recursion_from_All (IsCodedBasket coding.items) coding.baskets is.each)
 
   -- a frequent set of ranks has ranks of items
   pub ranks_below : (set : List ℕ) → is_frequent coding.baskets coding.minimum set ≡ true → IsRankSet set
   ranks_below set h rank here =
-      let from = Member-flat_map (λ (place : Weighted). place.basket) rank coding.baskets
+      let from = Member-flat_map (λ (receipt : Weighted). receipt.basket) rank coding.baskets
       (in_items coding.baskets set (at_least_one coding.minimum (support_of coding.baskets set) (total_of coding.baskets) h) rank (Member-from_has set rank here)) in
       (coded_at from.0 from.1).1 rank (has-from_Member from.0.basket rank from.2)
 
   -- a frequent set of items has items that have ranks
   pub items_ranked : (set : List ℕ) → is_frequent (baskets_of coding) coding.minimum set ≡ true → (item : ℕ) → Member item set → Member item coding.items
   items_ranked set h item m =
-      let from = Member-flat_map (λ (place : Weighted). place.basket) item (baskets_of coding)
+      let from = Member-flat_map (λ (receipt : Weighted). receipt.basket) item (baskets_of coding)
       (in_items (baskets_of coding) set (at_least_one coding.minimum (support_of (baskets_of coding) set) (total_of (baskets_of coding)) h) item m) in
-      let place = Member-from_map (decoded_basket coding.items) from.0 coding.baskets from.1 in
-      let d = from_decoded coding.items place.0.basket item (subst (λ (other : Weighted). Member item other.basket) (sym place.2) from.2) in
-      let below = (coded_at place.0 place.1).1 d.0 (has-from_Member place.0.basket d.0 d.1) in
+      let receipt = Member-from_map (decoded_basket coding.items) from.0 coding.baskets from.1 in
+      let d = from_decoded coding.items receipt.0.basket item (subst (λ (other : Weighted). Member item other.basket) (sym receipt.2) from.2) in
+      let below = (coded_at receipt.0 receipt.1).1 d.0 (has-from_Member receipt.0.basket d.0 d.1) in
       Member-from_Contains item coding.items (d.0, below, get_or_default coding.items d.0 item 0 below ∙ d.2)
 
   -- a frequent set of ranks is, decoded, a frequent set of items

@@ -87,7 +87,7 @@ tally_fits baskets item = let e = tally_number baskets item in let falls = suppo
 
 -- over two lists of baskets
 pub items-append : (a b : List Weighted) (item : ℕ) → has (all_items (a ++ b)) item ≡ (has (all_items a) item || has (all_items b) item)
-items-append a b item = ap (λ l. has l item) (flat_map-append (λ place. place.basket) a b) ∙ has-append (all_items a) (all_items b) item
+items-append a b item = ap (λ l. has l item) (flat_map-append (λ receipt. receipt.basket) a b) ∙ has-append (all_items a) (all_items b) item
 
 pub tally-append : (a b : List Weighted) (item : ℕ) → tally (a ++ b) item ≡ slots_joined (tally a item) (tally b item)
 tally-append a b item = grind (arith, common_steps, items-append, support-append, support_absent)

@@ -41,7 +41,7 @@ module _ (baskets : List Weighted) (minimum : Minimum) where
   IsSound c = IsNonemptySet c.set × (is_frequent baskets minimum c.set ≡ true) × (c.count ≡ support_of baskets c.set)
 
   items_rise : IsRising (items_of baskets)
-  items_rise = rising-rises (flat_map (λ place. place.basket) baskets)
+  items_rise = rising-rises (flat_map (λ receipt. receipt.basket) baskets)
 
   frequent_sets_sorted : IsStrictlySortedBy report_order frequent_sets
   frequent_sets_sorted = IsStrictlySortedBy-filter report_order (is_frequent baskets minimum) (subsets_of (items_of baskets)) (subsets_sorted (items_of baskets) items_rise)

@@ -287,13 +287,13 @@ with_found items item found up is = same_rising items (with_item item items) up 
       | inr n ↦ n
     ])
 
-pub with_put : (items : List ℕ) (item place : ℕ) → IsRising items → IsBinarySearchResult (λ y. nat_cmp y item) items (Err place)
-    → (place ≤ length items) × (insert items place item ≡ with_item item items)
-with_put items item place up is = let s = searched items item (Err place) is (rises_by_index items up) in grind (arith, common_steps, inserted_is)
+pub with_put : (items : List ℕ) (item index : ℕ) → IsRising items → IsBinarySearchResult (λ y. nat_cmp y item) items (Err index)
+    → (index ≤ length items) × (insert items index item ≡ with_item item items)
+with_put items item index up is = let s = searched items item (Err index) is (rises_by_index items up) in grind (arith, common_steps, inserted_is)
 
 -- an item that was not found stands nowhere
-pub found_nowhere : (items : List ℕ) (item place : ℕ) → IsRising items → IsBinarySearchResult (λ y. nat_cmp y item) items (Err place) → (k : ℕ) → k < length items → get_or items k 0 ≢ item
-found_nowhere items item place up is k below e = grind (arith, common_steps, searched items item (Err place) is (rises_by_index items up), rises_by_index items up, cases_lt k place)
+pub found_nowhere : (items : List ℕ) (item index : ℕ) → IsRising items → IsBinarySearchResult (λ y. nat_cmp y item) items (Err index) → (k : ℕ) → k < length items → get_or items k 0 ≢ item
+found_nowhere items item index up is k below e = grind (arith, common_steps, searched items item (Err index) is (rises_by_index items up), rises_by_index items up, cases_lt k index)
 
 -- a rising list without its last item rises
 pub front_rises : (front : List ℕ) (last : ℕ) → IsRising (front ++ last ∷ []) → IsRising front

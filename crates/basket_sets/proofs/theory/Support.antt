@@ -13,20 +13,20 @@ use Rattle.basket_sets.specs.Frequent.{is_frequent, SubsetsAreFrequent, Frequent
 use Rattle.basket_sets.proofs.theory.Members.{Member, Member-append_left, Member-append_right}
 use Rattle.basket_sets.proofs.theory.Rising.{has_each, contains_each, contains-trans, Member-into_rising}
 
-weight_at-contains : (place : Weighted) (set subset : List ℕ) → contains set subset ≡ true → weight_at set place ≤ weight_at subset place
-weight_at-contains place set subset h = grind (arith, common_steps, cond_both, contains-trans)
+weight_at-contains : (receipt : Weighted) (set subset : List ℕ) → contains set subset ≡ true → weight_at set receipt ≤ weight_at subset receipt
+weight_at-contains receipt set subset h = grind (arith, common_steps, cond_both, contains-trans)
 
 -- a set has at most the support of its subsets
 pub support_falls : SupportFalls
-support_falls baskets set subset h = sum_by-le-sum_by (weight_at set) (weight_at subset) baskets (λ place. weight_at-contains place set subset h)
+support_falls baskets set subset h = sum_by-le-sum_by (weight_at set) (weight_at subset) baskets (λ receipt. weight_at-contains receipt set subset h)
 
 -- supports over two lists of baskets add up
 pub support-append : (a b : List Weighted) (set : List ℕ) → support_of (a ++ b) set ≡ support_of a set + support_of b set
 support-append a b set = sum_by-append (weight_at set) a b
 
 -- a basket more
-pub support-cons : (place : Weighted) (baskets : List Weighted) (set : List ℕ) → support_of (place ∷ baskets) set ≡ weight_at set place + support_of baskets set
-support-cons place baskets set = sum_by-cons (weight_at set) place baskets
+pub support-cons : (receipt : Weighted) (baskets : List Weighted) (set : List ℕ) → support_of (receipt ∷ baskets) set ≡ weight_at set receipt + support_of baskets set
+support-cons receipt baskets set = sum_by-cons (weight_at set) receipt baskets
 
 -- supports over the parts of a list of baskets add up
 pub supports_add_up : SupportsAddUp
@@ -34,12 +34,12 @@ supports_add_up [] set = refl
 supports_add_up (part ∷ parts) set = grind (arith, common_steps, supports_add_up parts set)
 
 -- a set of some support stands in some basket, whose items are the database's
-pub in_items : (baskets : List Weighted) (set : List ℕ) → 1 ≤ support_of baskets set → (item : ℕ) → Member item set → Member item (flat_map (λ place. place.basket) baskets)
+pub in_items : (baskets : List Weighted) (set : List ℕ) → 1 ≤ support_of baskets set → (item : ℕ) → Member item set → Member item (flat_map (λ receipt. receipt.basket) baskets)
 in_items [] set some item m = absurd (omega arith)
-in_items (place ∷ baskets) set some item m = elim (cases_Bool (contains place.basket set)) [
-  | inl e ↦ Member-append_left item place.basket (flat_map (λ p. p.basket) baskets) (has_each place.basket set e item m)
-  | inr e ↦ Member-append_right item place.basket (flat_map (λ p. p.basket) baskets)
-      (in_items baskets set (let z = cond-false (contains place.basket set) place.weight 0 e in let c = support-cons place baskets set in omega arith) item m)
+in_items (receipt ∷ baskets) set some item m = elim (cases_Bool (contains receipt.basket set)) [
+  | inl e ↦ Member-append_left item receipt.basket (flat_map (λ p. p.basket) baskets) (has_each receipt.basket set e item m)
+  | inr e ↦ Member-append_right item receipt.basket (flat_map (λ p. p.basket) baskets)
+      (in_items baskets set (let z = cond-false (contains receipt.basket set) receipt.weight 0 e in let c = support-cons receipt baskets set in omega arith) item m)
 ]
 
 -- ---- minimums

@@ -12,12 +12,12 @@ const MOST: u64 = 1 << 40;
 /// The tree of coded baskets.
 fn tree(alloc: Global, coded: &Coded) -> Result<FpTree, Fail> {
     let mut tree = FpTree::new(alloc);
-    for place in coded.baskets() {
-        let room = place.weight <= MOST && tree.total() <= MOST - place.weight;
-        if place.weight == 0 || !room {
+    for basket in coded.baskets() {
+        let room = basket.weight <= MOST && tree.total() <= MOST - basket.weight;
+        if basket.weight == 0 || !room {
             return Err(Fail::from("a path weighs nothing or too much"));
         }
-        tree.insert(place.basket.items(), place.weight)?;
+        tree.insert(basket.basket.items(), basket.weight)?;
     }
     Ok(tree)
 }

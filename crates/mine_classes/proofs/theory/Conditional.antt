@@ -45,12 +45,12 @@ contains-push : (basket set : List ℕ) (rank : ℕ) → contains basket (set ++
 contains-push basket set rank = list_all-append (has basket) set (rank ∷ []) ∙ and_last (contains basket set) (has basket rank)
 
 module _ (keeps : ℕ → Bool) (rank : ℕ) (set : List ℕ) where
-  weight_kept : (place : Weighted) → support_of (kept_basket keeps rank place) set ≡ cond (list_all keeps set) (weight_at (set ++ rank ∷ []) place) 0
-  weight_kept place = grind (arith, common_steps, support-cons, contains-filter, both, contains-push, and_every, and_none, same_cond)
+  weight_kept : (receipt : Weighted) → support_of (kept_basket keeps rank receipt) set ≡ cond (list_all keeps set) (weight_at (set ++ rank ∷ []) receipt) 0
+  weight_kept receipt = grind (arith, common_steps, support-cons, contains-filter, both, contains-push, and_every, and_none, same_cond)
 
   pub kept_support : (baskets : List Weighted) → support_of (flat_map (kept_basket keeps rank) baskets) set ≡ cond (list_all keeps set) (support_of baskets (set ++ rank ∷ [])) 0
   kept_support [] = sym (same_cond (list_all keeps set) 0)
-  kept_support (place ∷ baskets) = grind (arith, common_steps, kept_support baskets, support-append, weight_kept, cond_sum, support-cons)
+  kept_support (receipt ∷ baskets) = grind (arith, common_steps, kept_support baskets, support-append, weight_kept, cond_sum, support-cons)
 
 pub conditional_supports : ConditionalSupports
 conditional_supports baskets least rank set = kept_support (is_kept baskets least rank) rank set baskets

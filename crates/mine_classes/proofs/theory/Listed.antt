@@ -64,8 +64,8 @@ class_items_are_all decoding coding classes is long lists =
     subst (ListsOnce (baskets_of coding) coding.minimum) (flat_mapped (decoded_set coding.items) g.of ∙ ap (flat_map (λ class. class)) g.decoded)
     (decoding coding (flat_map (λ class. class) g.of) is
     (classes_are_all coding.baskets coding.minimum g.of
-    (λ rank m. subst (λ n. rank < n) (sym (g.long ∙ long)) (ranks_below coding.items coding.baskets (recursion_from_All (IsCodedBasket coding.items) coding.baskets is.places) rank
-    (Member-from_Contains rank (flat_map (λ place. place.basket) coding.baskets) m)))
+    (λ rank m. subst (λ n. rank < n) (sym (g.long ∙ long)) (ranks_below coding.items coding.baskets (recursion_from_All (IsCodedBasket coding.items) coding.baskets is.each) rank
+    (Member-from_Contains rank (flat_map (λ receipt. receipt.basket) coding.baskets) m)))
     (λ rank below. subst (λ r. ListsClass coding.baskets coding.minimum r (get_or g.of rank [])) (omega arith) (g.lists rank below))))
 
 -- ---- the ranks of a coded database

@@ -85,8 +85,8 @@ classes_are_all baskets minimum classes below lists = record {
       (λ c m. let r = from_all baskets minimum 0 classes from_zero c m in (r.2.0, r.2.2, r.2.3)));
   complete = λ set n h.
       let e = some_end set n.1 in
-      let place = in_items baskets set (at_least_one minimum (support_of baskets set) (total_of baskets) h) e.0 (Member-end e.0 set e.1) in
-      let here = below e.0 (Contains-from_Member e.0 (flat_map (λ place. place.basket) baskets) place) in
+      let receipt = in_items baskets set (at_least_one minimum (support_of baskets set) (total_of baskets) h) e.0 (Member-end e.0 set e.1) in
+      let here = below e.0 (Contains-from_Member e.0 (flat_map (λ receipt. receipt.basket) baskets) receipt) in
       Contains-from_Member (counted baskets set) (all baskets minimum classes)
       (into_all baskets minimum 0 classes from_zero e.0 here set n (subst (λ rank. ends_in rank set ≡ true) (omega arith) e.1) h);
 }
@@ -96,11 +96,11 @@ classes_are_all baskets minimum classes below lists = record {
 
 -- ---- coded baskets
 
-pub ranks_below : (items : List ℕ) (places : List Weighted) → AllByRecursion (IsCodedBasket items) places → (rank : ℕ) → Member rank (flat_map (λ place. place.basket) places) → rank < length items
+pub ranks_below : (items : List ℕ) (receipts : List Weighted) → AllByRecursion (IsCodedBasket items) receipts → (rank : ℕ) → Member rank (flat_map (λ receipt. receipt.basket) receipts) → rank < length items
 ranks_below items [] coded rank m = absurd m
-ranks_below items (place ∷ places) coded rank m = elim (Member-append rank place.basket (flat_map (λ p. p.basket) places) m) [
-  | inl here ↦ coded.0.1 rank (has-from_Member place.basket rank here)
-  | inr later ↦ ranks_below items places coded.1 rank later
+ranks_below items (receipt ∷ receipts) coded rank m = elim (Member-append rank receipt.basket (flat_map (λ p. p.basket) receipts) m) [
+  | inl here ↦ coded.0.1 rank (has-from_Member receipt.basket rank here)
+  | inr later ↦ ranks_below items receipts coded.1 rank later
 ]
 
 -- ---- the class as a part of the frequent list

@@ -11,33 +11,33 @@ use Rattle.mine_conditional.specs.Paths.{is_branch}
 
 module _ {X : Type 0} (test : Weighted → Bool) (f : Weighted → X) where
   abbrev pub picked_basket : Weighted → List X
-  picked_basket place = cond (test place) (f place ∷ []) []
+  picked_basket receipt = cond (test receipt) (f receipt ∷ []) []
 
-  pub into_picked : (places : List Weighted) (place : Weighted) → Member place places → test place ≡ true → Member (f place) (flat_map picked_basket places)
-  into_picked [] place m h = absurd m
-  into_picked (p ∷ places) place (inl e) h = grind (arith, common_steps)
-  into_picked (p ∷ places) place (inr m) h = grind (arith, common_steps, into_picked places place m h)
+  pub into_picked : (receipts : List Weighted) (receipt : Weighted) → Member receipt receipts → test receipt ≡ true → Member (f receipt) (flat_map picked_basket receipts)
+  into_picked [] receipt m h = absurd m
+  into_picked (p ∷ receipts) receipt (inl e) h = grind (arith, common_steps)
+  into_picked (p ∷ receipts) receipt (inr m) h = grind (arith, common_steps, into_picked receipts receipt m h)
 
-  pub from_picked : (places : List Weighted) (x : X) → Member x (flat_map picked_basket places) → (place : Weighted) × Member place places × (test place ≡ true) × (f place ≡ x)
+  pub from_picked : (receipts : List Weighted) (x : X) → Member x (flat_map picked_basket receipts) → (receipt : Weighted) × Member receipt receipts × (test receipt ≡ true) × (f receipt ≡ x)
   from_picked [] x m = absurd m
-  from_picked (p ∷ places) x m = elim (Member-append x (picked_basket p) (flat_map picked_basket places) m) [
+  from_picked (p ∷ receipts) x m = elim (Member-append x (picked_basket p) (flat_map picked_basket receipts) m) [
     | inl n ↦ here (test p) refl n
-    | inr n ↦ (let r = from_picked places x n in (r.0, inr r.1, r.2, r.3))
+    | inr n ↦ (let r = from_picked receipts x n in (r.0, inr r.1, r.2, r.3))
   ]
     where
-      here : (b : Bool) → test p ≡ b → Member x (cond b (f p ∷ []) []) → (place : Weighted) × Member place (p ∷ places) × (test place ≡ true) × (f place ≡ x)
+      here : (b : Bool) → test p ≡ b → Member x (cond b (f p ∷ []) []) → (receipt : Weighted) × Member receipt (p ∷ receipts) × (test receipt ≡ true) × (f receipt ≡ x)
       here h1 h2 h3 = grind (arith, common_steps)
 
 -- ---- single branches
 
 abbrev pub AreHeavy : List Weighted → Type 0
-AreHeavy baskets = (place : Weighted) → Member place baskets → 1 ≤ place.weight
+AreHeavy baskets = (receipt : Weighted) → Member receipt baskets → 1 ≤ receipt.weight
 
 -- each basket that has the rank has all lower ones
 abbrev pub IsFullAt : ℕ → List Weighted → Type 0
-IsFullAt rank baskets = (place : Weighted) → Member place baskets → has place.basket rank ≡ true → contains place.basket (range_with_len 0 rank) ≡ true
+IsFullAt rank baskets = (receipt : Weighted) → Member receipt baskets → has receipt.basket rank ≡ true → contains receipt.basket (range_with_len 0 rank) ≡ true
 
 pub full_from_branch : (baskets : List Weighted) → is_branch baskets ≡ true → (rank : ℕ) → IsFullAt rank baskets
-full_from_branch baskets h rank place m here =
-    each_of (λ r. contains place.basket (range_with_len 0 r)) place.basket
-    (each_of (λ (p : Weighted). list_all (λ r. contains p.basket (range_with_len 0 r)) p.basket) baskets h place m) rank (Member-from_has place.basket rank here)
+full_from_branch baskets h rank receipt m here =
+    each_of (λ r. contains receipt.basket (range_with_len 0 r)) receipt.basket
+    (each_of (λ (p : Weighted). list_all (λ r. contains p.basket (range_with_len 0 r)) p.basket) baskets h receipt m) rank (Member-from_has receipt.basket rank here)

@@ -26,15 +26,15 @@ use Rattle.mine_conditional.specs.Paths.{IsConditional}
 abbrev named : List ℕ → List ℕ → List ℕ
 named ranks numbers = map (λ number. get_or ranks number 0) numbers
 
--- places in a list of numbers, whose ranks are named, are numbers of ranks
-pub named_twice : (ranks chosen places : List ℕ) → AllBelow (length chosen) places → named (named ranks chosen) places ≡ named ranks (named chosen places)
+-- receipts in a list of numbers, whose ranks are named, are numbers of ranks
+pub named_twice : (ranks chosen receipts : List ℕ) → AllBelow (length chosen) receipts → named (named ranks chosen) receipts ≡ named ranks (named chosen receipts)
 named_twice ranks chosen [] low = refl
-named_twice ranks chosen (k ∷ places) low =
-    λ i. get_or-map (λ number. get_or ranks number 0) chosen k 0 0 (low k (has-from_Member (k ∷ places) k (inl refl))) i ∷ named_twice ranks chosen places (λ j h. low j (has-from_Member (k ∷ places) j (inr (Member-from_has places j h)))) i
+named_twice ranks chosen (k ∷ receipts) low =
+    λ i. get_or-map (λ number. get_or ranks number 0) chosen k 0 0 (low k (has-from_Member (k ∷ receipts) k (inl refl))) i ∷ named_twice ranks chosen receipts (λ j h. low j (has-from_Member (k ∷ receipts) j (inr (Member-from_has receipts j h)))) i
 
 -- and the numbers that stand at them are in the list
-pub named_among : (chosen places : List ℕ) → AllBelow (length chosen) places → (number : ℕ) → Member number (named chosen places) → Member number chosen
-named_among chosen places low number m = grind (arith, common_steps, Member-from_map, Member, Member-at, has-from_Member)
+pub named_among : (chosen receipts : List ℕ) → AllBelow (length chosen) receipts → (number : ℕ) → Member number (named chosen receipts) → Member number chosen
+named_among chosen receipts low number m = grind (arith, common_steps, Member-from_map, Member, Member-at, has-from_Member)
 
 module _ (baskets : List Weighted) (least rank : ℕ) (below : RankBaskets) (is : IsConditional baskets least rank below) where
   abbrev kept : List ℕ
@@ -44,11 +44,11 @@ module _ (baskets : List Weighted) (least rank : ℕ) (below : RankBaskets) (is 
   rank_of number = get_or kept number 0
 
   abbrev AreWithin : List Weighted → Type 0
-  AreWithin places = (place : Weighted) → Member place places → AllBelow (length kept) place.basket
+  AreWithin receipts = (receipt : Weighted) → Member receipt receipts → AllBelow (length kept) receipt.basket
 
   within : AreWithin below.baskets
-  within place m = subst (λ n. AllBelow n place.basket) is.ranks
-      (at_Member (IsRankBasket below.ranks) place below.baskets (recursion_from_All (IsRankBasket below.ranks) below.baskets is.ranked.places) m).below
+  within receipt m = subst (λ n. AllBelow n receipt.basket) is.ranks
+      (at_Member (IsRankBasket below.ranks) receipt below.baskets (recursion_from_All (IsRankBasket below.ranks) below.baskets is.ranked.each) m).below
 
   module _ (numbers : List ℕ) (low : AllBelow (length kept) numbers) where
     known : (number : ℕ) → Member number numbers → number < length kept
@@ -63,12 +63,12 @@ module _ (baskets : List Weighted) (least rank : ℕ) (below : RankBaskets) (is 
         let d = Member-from_map rank_of item numbers m in
         subst (λ x. Member x (decoded kept basket)) d.2 (into_decoded kept basket d.0 (has_each basket numbers h d.0 d.1))))
 
-    decoded_support : (places : List Weighted) → AreWithin places → support_of (map (decoded_basket kept) places) (map rank_of numbers) ≡ support_of places numbers
+    decoded_support : (receipts : List Weighted) → AreWithin receipts → support_of (map (decoded_basket kept) receipts) (map rank_of numbers) ≡ support_of receipts numbers
     decoded_support [] inside = refl
-    decoded_support (place ∷ places) inside =
-        support-cons (decoded_basket kept place) (map (decoded_basket kept) places) (map rank_of numbers)
-        ∙ (λ i. cond (contains_ranks place.basket (inside place (inl refl)) i) place.weight 0 + decoded_support places (λ p m. inside p (inr m)) i)
-        ∙ sym (support-cons place places numbers)
+    decoded_support (receipt ∷ receipts) inside =
+        support-cons (decoded_basket kept receipt) (map (decoded_basket kept) receipts) (map rank_of numbers)
+        ∙ (λ i. cond (contains_ranks receipt.basket (inside receipt (inl refl)) i) receipt.weight 0 + decoded_support receipts (λ p m. inside p (inr m)) i)
+        ∙ sym (support-cons receipt receipts numbers)
 
     all_kept : list_all (is_kept baskets least rank) (map rank_of numbers) ≡ true
     all_kept = all_of (is_kept baskets least rank) (map rank_of numbers) (λ item m.

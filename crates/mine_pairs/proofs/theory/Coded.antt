@@ -24,10 +24,10 @@ use Rattle.mine_baskets.proofs.theory.Weights.{changed_weight}
 
 -- ---- weights of baskets that a function changes
 
-same_tests_weigh : (P : Weighted → Type 0) (p q : List ℕ → Bool) (places : List Weighted) → ((index : Weighted) → P index → p index.basket ≡ q index.basket) → AllByRecursion P places
-    → weight_where p places ≡ weight_where q places
+same_tests_weigh : (P : Weighted → Type 0) (p q : List ℕ → Bool) (receipts : List Weighted) → ((index : Weighted) → P index → p index.basket ≡ q index.basket) → AllByRecursion P receipts
+    → weight_where p receipts ≡ weight_where q receipts
 same_tests_weigh P p q [] same all = refl
-same_tests_weigh P p q (index ∷ places) same all = grind (arith, common_steps, same_tests_weigh P p q places same all.1)
+same_tests_weigh P p q (index ∷ receipts) same all = grind (arith, common_steps, same_tests_weigh P p q receipts same all.1)
 
 -- ---- the ranks that are kept
 
@@ -63,9 +63,9 @@ module _ (baskets : List Weighted) (least rank : ℕ) where
   filter_twice [] = refl
   filter_twice (x ∷ basket) = grind (arith, common_steps, filter_twice basket)
 
-  below_weight : (test : List ℕ → Bool) (places : List Weighted) → weight_where (λ basket. test (filter keeps basket)) (below rank places) ≡ weight_where test (flat_map (kept_basket keeps rank) places)
+  below_weight : (test : List ℕ → Bool) (receipts : List Weighted) → weight_where (λ basket. test (filter keeps basket)) (below rank receipts) ≡ weight_where test (flat_map (kept_basket keeps rank) receipts)
   below_weight test [] = refl
-  below_weight test (index ∷ places) = grind (arith, common_steps, below_weight test places, sum_by-cons, filter_twice)
+  below_weight test (index ∷ receipts) = grind (arith, common_steps, below_weight test receipts, sum_by-cons, filter_twice)
 
   pub conditional_weights : (count : ℕ) (paths : List Weighted) → HaveSameWeights (below rank baskets) paths → All (IsRankBasket count) paths → (others : List Weighted)
       → HaveSameWeights (map (coded_basket kept) paths) others → HaveSameWeights (conditional least baskets rank) (map (decoded_basket kept) others)

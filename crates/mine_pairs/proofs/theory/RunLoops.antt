@@ -77,7 +77,7 @@ module _ (ranks : List ℕ) (count : ℕ) (basket : Span) (inside : IsWithin (le
         let same = have.off n (λ k here e. true≢false (sym (subst (λ r. has path r ≡ true) e (has-from_Member path (get_or path k 0) (Member-at path k here))) ∙ none)) in
         subst (AreRunsOf ranks (done ++ basket_at ranks basket ∷ []) (first + n)) (sym same) (record {
           within = (are n inside).within;
-          places = (are n inside).places;
+          each = (are n inside).each;
           weights = λ test. ap (λ l. sum_by (λ (p : Weighted). cond (test p.basket) p.weight 0) l) (below_without (first + n) (basket_at ranks basket) done none) ∙ (are n inside).weights test;
         })
 

@@ -86,9 +86,9 @@ met_is count least sums found baskets are added =
 
 -- ---- two sums over the same baskets
 
-same_sums : (f g : Weighted → ℕ) (places : List Weighted) → ((index : Weighted) → f index ≡ g index) → sum_by f places ≡ sum_by g places
+same_sums : (f g : Weighted → ℕ) (receipts : List Weighted) → ((index : Weighted) → f index ≡ g index) → sum_by f receipts ≡ sum_by g receipts
 same_sums f g [] same = refl
-same_sums f g (index ∷ places) same = grind (arith, common_steps, same_sums f g places same)
+same_sums f g (index ∷ receipts) same = grind (arith, common_steps, same_sums f g receipts same)
 
 and_every : (b : Bool) → (b && true) ≡ b
 and_every h1 = grind (arith, common_steps)

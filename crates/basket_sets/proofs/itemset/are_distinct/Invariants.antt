@@ -3,4 +3,4 @@ use Rattle.basket_sets.specs.Itemset.{has}
 use Rattle.basket_sets.proofs.itemset.are_distinct.Given as goal
 
 abbrev pub invariant-loop-index : goal.invariant-loop-index
-invariant-loop-index l = (place : ℕ) → place < l.index → has (take place l.numbers) (get_or l.numbers place 0) ≡ false
+invariant-loop-index l = (earlier : ℕ) → earlier < l.index → has (take earlier l.numbers) (get_or l.numbers earlier 0) ≡ false

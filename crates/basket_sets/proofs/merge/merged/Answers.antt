@@ -15,6 +15,6 @@ loop-weighted-preserved c =
     record {
       can = tt;
       ends = tt;
-      whole = ap (λ places. fold with_basket places rest) c.in_ok-add.ensures ∙ ap (fold with_basket old) (sym steps) ∙ c.loop-weighted.invariant.whole;
+      whole = ap (λ receipts. fold with_basket receipts rest) c.in_ok-add.ensures ∙ ap (fold with_basket old) (sym steps) ∙ c.loop-weighted.invariant.whole;
       light = omega (arith, c.loop-weighted.invariant.light, ap total_of steps, sum_by-cons (weight_at []) c.in-Some.weighted rest, ap total_of c.in_ok-add.ensures, total_with old c.in-Some.weighted);
     }

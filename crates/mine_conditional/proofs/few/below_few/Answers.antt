@@ -14,10 +14,10 @@ pub returns : goal.returns
 returns c all least rank ranked paired supported =
     let kept = kept_ranks all.baskets least rank in
     let long : length c.args.pairs.now ≡ length kept = ap length paired ∙ length-map kept (λ other. (other, support_of all.baskets (other ∷ rank ∷ []))) in
-    let places = All-weaker (IsRankBasket all.ranks) (λ (place : Weighted). IsRising place.basket) (λ place is. is.rises) all.baskets ranked.places in
+    let receipts = All-weaker (IsRankBasket all.ranks) (λ (receipt : Weighted). IsRising receipt.basket) (λ receipt is. is.rises) all.baskets ranked.each in
     record {
       ranks = c.in_ok-below.ensures.ranks ∙ long;
       ranked = c.in_ok-below.ensures.ranked;
-      weights = few_weights all.baskets least rank (recursion_from_All (λ (place : Weighted). IsRising place.basket) all.baskets places) kept refl (omega (arith, long, c.requires.few)) c.first_support-with.result
+      weights = few_weights all.baskets least rank (recursion_from_All (λ (receipt : Weighted). IsRising receipt.basket) all.baskets receipts) kept refl (omega (arith, long, c.requires.few)) c.first_support-with.result
           (c.args.support - c.first_support-with.result) (c.first_support-with.ensures ∙ ap first_support paired) (omega (arith, c.requires.falls, c.first_support-with.ensures, supported)) c.in_ok-below.below.baskets c.in_ok-below.ensures.weights;
     }

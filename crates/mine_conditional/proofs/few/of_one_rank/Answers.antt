@@ -11,7 +11,7 @@ use Rattle.mine_conditional.proofs.few.of_one_rank.Goals as goal
 
 module _ (test : List ℕ → Bool) (count : ℕ) where
   abbrev weigh : Weighted → ℕ
-  weigh place = cond (test place.basket) place.weight 0
+  weigh receipt = cond (test receipt.basket) receipt.weight 0
 
   -- what words weigh with one more, unless it has no weight
   one_more : (words more : List Word) (word : Word) → more ≡ cond (ltb 0 word.weight) (words ++ word ∷ []) words

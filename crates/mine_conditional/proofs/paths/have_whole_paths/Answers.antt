@@ -31,5 +31,5 @@ pub returns : goal.returns
 returns c =
     let ranks = c.args.runs.now.ranks in
     sym (branch_from_full ranks c.args.runs.now.baskets
-    (λ place m. (at_Member (IsRankBasket ranks) place c.args.runs.now.baskets (recursion_from_All (IsRankBasket ranks) c.args.runs.now.baskets c.requires.places) m).below)
+    (λ receipt m. (at_Member (IsRankBasket ranks) receipt c.args.runs.now.baskets (recursion_from_All (IsRankBasket ranks) c.args.runs.now.baskets c.requires.each) m).below)
     (λ rank less. c.loop-rank.invariant rank (omega (arith, less, c.loop-rank-test.false, c.ranks-rank-end.ensures, c.loop-rank.auto.rank-end))))

@@ -20,7 +20,7 @@ none = record { start = 0; end = 0; weight = 0 }
 
 pub add_runs-requires-clause-rises : goal.add_runs-requires-clause-rises
 add_runs-requires-clause-rises c = subst IsRising (sym c.of-path.ensures)
-    (rank_basket_at c.args.baskets.ranks.now c.args.baskets.count c.args.baskets.spans.now c.loop-basket.basket-index none c.args.baskets.ranked.places c.loop-basket-test.true).rises
+    (rank_basket_at c.args.baskets.ranks.now c.args.baskets.count c.args.baskets.spans.now c.loop-basket.basket-index none c.args.baskets.ranked.each c.loop-basket-test.true).rises
 
 pub add_runs-requires-clause-long : goal.add_runs-requires-clause-long
 add_runs-requires-clause-long c = ap length c.deref_mut.ensures.value ∙ sym (length-lists_in c.loop-basket.of.items) ∙ c.loop-basket.invariant.runs.long
@@ -63,7 +63,7 @@ loop-basket-preserved c =
     let new = lists_in c.add_runs.new.of in
     let inv = c.loop-basket.invariant in
     let inside = c.args.baskets.within i none here in
-    let is = rank_basket_at ranks count baskets i none c.args.baskets.ranked.places here in
+    let is = rank_basket_at ranks count baskets i none c.args.baskets.ranked.each here in
     let back = with_items_is vec c.add_runs.new.of (omega (arith, vec.ok, c.add_runs.auto.of, c.deref_mut.ensures.len)) in
     let have : HaveRuns path basket shared (length path) first old new = grind (arith, common_steps) in
     let are = λ (n : ℕ) (below : n < length old). inv.runs.are n (omega (arith, below, inv.runs.long)) in

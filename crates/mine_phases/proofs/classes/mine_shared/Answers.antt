@@ -8,15 +8,15 @@ use Rattle.mine_phases.proofs.classes.mine_shared.Goals as goal
 
 pub joined-requires : goal.joined-requires
 joined-requires g c =
-    let each = c.in_ok-classes.ensures.each in
-    work_fits c.args.coded.now (g.M.ClassMiner.rests_on c.args.miner) (g.M.ClassMiner.work_of c.args.miner) c.in_ok-classes.classes.items each c.args.limit
-    c.items-items.ensures.coding c.in_ok-classes.ensures.within (omega (arith, c.ranges.limit))
+    let mined = c.in_ok-classes.ensures.mined in
+    work_fits c.args.coded.now (g.M.ClassMiner.rests_on c.args.miner) (g.M.ClassMiner.work_of c.args.miner) c.in_ok-classes.classes.items mined.each c.args.limit
+    mined.is_coding mined.within (omega (arith, c.ranges.limit))
 
 pub of_classes_shared-requires-after_bounds : goal.of_classes_shared-requires-after_bounds
 of_classes_shared-requires-after_bounds g c κs within =
     let coding : Coding = c.args.coded.now in
     subst (λ (l : List (List Counted)). ListsOnce (baskets_of coding) coding.minimum (flat_map (λ (class : List Counted). class) l)) (sym c.in_ok-classes-2.ensures.classes)
-    (once_of_all coding (g.M.ClassMiner.rests_on c.args.miner) (g.M.ClassMiner.work_of c.args.miner) c.in_ok-classes.classes.items c.in_ok-classes.ensures.each c.items-items.ensures.coding)
+    (once_of_all coding (g.M.ClassMiner.rests_on c.args.miner) (g.M.ClassMiner.work_of c.args.miner) c.in_ok-classes.classes.items c.in_ok-classes.ensures.mined.each c.in_ok-classes.ensures.mined.is_coding)
 
 pub returns-clause-work : goal.returns-clause-work
-returns-clause-work g c = work_of_all c.args.coded.now (g.M.ClassMiner.rests_on c.args.miner) (g.M.ClassMiner.work_of c.args.miner) c.in_ok-classes.classes.items c.in_ok-classes.ensures.each c.in_ok-classes-2.work c.in_ok-classes-2.ensures.work
+returns-clause-work g c = work_of_all c.args.coded.now (g.M.ClassMiner.rests_on c.args.miner) (g.M.ClassMiner.work_of c.args.miner) c.in_ok-classes.classes.items c.in_ok-classes.ensures.mined.each c.in_ok-classes-2.work c.in_ok-classes-2.ensures.work

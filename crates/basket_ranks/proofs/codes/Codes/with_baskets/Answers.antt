@@ -13,7 +13,7 @@ new-requires-clause-coding c =
     let database = c.requires.0 in
     let is = c.requires.1 in
     let made = c.requires.3 ∙ sym (ap (λ (r : Ranking). map (coded_basket r.items) database) c.self.view_is) in
-    coding_is items c.self.inside.minimum database _ c.self.invariant.0 c.self.invariant.1 is.light (All-weaker IsBasket HasWeight (λ place at. at.2) _ is.places) made
+    coding_is items c.self.inside.minimum database _ c.self.invariant.0 c.self.invariant.1 is.light (All-weaker IsBasket HasWeight (λ receipt at. at.2) _ is.each) made
 
 pub new-requires-clause-total : goal.new-requires-clause-total
 new-requires-clause-total c =

@@ -13,6 +13,6 @@ pub returns-clause-ranked : goal.returns-clause-ranked
 returns-clause-ranked c =
     let all = c.args.self in
     let i = c.args.index in
-    let place = basket_at all.ranks.now in
+    let receipt = basket_at all.ranks.now in
     subst (λ l. IsRankBasket all.count (weighted l (get_or all.spans.now i none).weight)) (sym c.of.ensures)
-    (subst (IsRankBasket all.count) (get_or-map place all.spans.now i none (weighted [] 0) (omega (arith, c.requires, length-map all.spans.now place))) (all.ranked.places i (weighted [] 0) c.requires))
+    (subst (IsRankBasket all.count) (get_or-map receipt all.spans.now i none (weighted [] 0) (omega (arith, c.requires, length-map all.spans.now receipt))) (all.ranked.each i (weighted [] 0) c.requires))

@@ -49,5 +49,5 @@ returns-clause-below c =
     record {
       ranks = c.in_ok-below-2.ensures.ranks ∙ ap length kept;
       ranked = c.in_ok-below-2.ensures.ranked;
-      weights = conditional_weights baskets c.args.least c.args.rank paths.count (baskets_in paths) c.of_rank-paths.ensures.weights paths.ranked.places others same;
+      weights = conditional_weights baskets c.args.least c.args.rank paths.count (baskets_in paths) c.of_rank-paths.ensures.weights paths.ranked.each others same;
     }

@@ -12,7 +12,7 @@ of_spans-requires-clause-ranked c =
     let baskets = baskets_in c.args.baskets in
     let table = c.self.inside.of in
     let whole = c.deref.ensures.value ∙ with_items_is table c.put.new.of (omega (arith, table.ok, c.put.auto.of, c.deref_mut.ensures.len)) in
-    let coded = c.in_ok-coded.ensures.placed ∙ table_coded kept c.requires.rises c.deref.result.now c.args.baskets.count baskets (subst (AreNumbers kept) (sym whole) c.put.ensures) c.args.baskets.ranked.places in
+    let coded = c.in_ok-coded.ensures.placed ∙ table_coded kept c.requires.rises c.deref.result.now c.args.baskets.count baskets (subst (AreNumbers kept) (sym whole) c.put.ensures) c.args.baskets.ranked.each in
     rw (c.in_ok-count.ensures, coded) (coded_rank_baskets kept c.args.baskets.count baskets c.args.baskets.ranked)
 
 pub returns-clause-weights : goal.returns-clause-weights
@@ -21,5 +21,5 @@ returns-clause-weights c = λ test.
     let baskets = baskets_in c.args.baskets in
     let table = c.self.inside.of in
     let whole = c.deref.ensures.value ∙ with_items_is table c.put.new.of (omega (arith, table.ok, c.put.auto.of, c.deref_mut.ensures.len)) in
-    let coded = c.in_ok-coded.ensures.placed ∙ table_coded kept c.requires.rises c.deref.result.now c.args.baskets.count baskets (subst (AreNumbers kept) (sym whole) c.put.ensures) c.args.baskets.ranked.places in
+    let coded = c.in_ok-coded.ensures.placed ∙ table_coded kept c.requires.rises c.deref.result.now c.args.baskets.count baskets (subst (AreNumbers kept) (sym whole) c.put.ensures) c.args.baskets.ranked.each in
     ap (weight_where test) (sym (ap (λ (lists : RankBaskets). lists.baskets) c.of_spans.ensures ∙ coded))

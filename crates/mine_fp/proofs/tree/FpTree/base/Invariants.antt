@@ -6,4 +6,4 @@ use Rattle.mine_fp.proofs.tree.FpTree.base.Given as goal
 
 abbrev pub invariant-loop-node : goal.invariant-loop-node
 invariant-loop-node l =
-    map (λ (place : Vec ℕ Global × ℕ). (place.0.items, place.1)) l.base.items ≡ base_of (tree_of l.self-inside.ranks.items (take l.node-index l.node-items) l.self-inside.total) l.rank
+    map (λ (receipt : Vec ℕ Global × ℕ). (receipt.0.items, receipt.1)) l.base.items ≡ base_of (tree_of l.self-inside.ranks.items (take l.node-index l.node-items) l.self-inside.total) l.rank

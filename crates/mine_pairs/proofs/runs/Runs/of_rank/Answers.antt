@@ -14,7 +14,7 @@ invariant_of-result c =
     let are = runs_at inside.ranks.items c.deref.result.now baskets inside.count inside.of.items c.args.rank c.index.result.now c.deref-2.result.now c.self.invariant.1 here c.index.ensures c.deref-2.ensures.value c.deref.ensures.value in
     record {
       within = are.within;
-      ranked = record { places = are.places; light = paths_light baskets c.args.rank (baskets_at c.deref.result.now c.deref-2.result.now) are.weights c.self.invariant.0.light };
+      ranked = record { each = are.each; light = paths_light baskets c.args.rank (baskets_at c.deref.result.now c.deref-2.result.now) are.weights c.self.invariant.0.light };
     }
 
 pub returns-clause-weights : goal.returns-clause-weights
