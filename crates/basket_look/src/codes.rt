@@ -27,8 +27,10 @@ pub fn determines(alloc: Global, keys: &[u32], others: &[u32]) -> Result<bool, A
 
 /// The codes of two keys together.
 pub fn joined(alloc: Global, keys: &[u32], others: &[u32]) -> Result<Vec<u32>, AllocError> {
-    let mut both: IndexSet<(u32, u32), BuildHasherDefault<FoldHasher>> =
-        IndexSet::with_hasher(alloc, BuildHasherDefault::new());
+    let mut both: IndexSet<(u32, u32), BuildHasherDefault<FoldHasher>> = IndexSet::with_hasher(
+        alloc,
+        BuildHasherDefault::new(),
+    );
     let mut codes = Vec::new(alloc);
     for (key, other) in keys.iter().zip(others) {
         let (index, _) = both.insert_full((*key, *other))?;

@@ -30,6 +30,8 @@ pub struct Counts {
     pub days: usize,
     /// Dates with a time.
     pub times: usize,
+    /// Times of the day alone.
+    pub hours: usize,
     pub negatives: usize,
     pub nulls: usize,
     /// Values that are not equal to the one before.
@@ -93,6 +95,10 @@ impl<'a> Column<'a> {
         self.are_most(self.counts.times)
     }
 
+    pub fn is_of_times_of_day(&self) -> bool {
+        self.are_most(self.counts.hours)
+    }
+
     pub fn is_blank(&self) -> bool {
         self.counts.blanks > self.len() / 50 * 49
     }
@@ -109,8 +115,10 @@ impl<'a> Column<'a> {
 
     /// The codes of the days in it, without their times.
     pub fn day_codes(&self, alloc: Global) -> Result<Vec<u32>, AllocError> {
-        let mut days: IndexSet<&str, BuildHasherDefault<FoldHasher>> =
-            IndexSet::with_hasher(alloc, BuildHasherDefault::new());
+        let mut days: IndexSet<&str, BuildHasherDefault<FoldHasher>> = IndexSet::with_hasher(
+            alloc,
+            BuildHasherDefault::new(),
+        );
         let mut day_of_code = Vec::new(alloc);
         for value in self.values.iter() {
             let (index, _) = days.insert_full(day_of(*value))?;
@@ -134,6 +142,10 @@ impl Counts {
         count_if(&mut self.measures, is_measure);
         count_if(&mut self.days, is_day);
         count_if(&mut self.times, is_day && value.contains(':'));
+        count_if(
+            &mut self.hours,
+            !is_day && is_measure && value.contains(':'),
+        );
         count_if(&mut self.negatives, is_measure && value.starts_with('-'));
         count_if(&mut self.nulls, is_null(value));
     }

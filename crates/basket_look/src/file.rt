@@ -3,9 +3,9 @@ use crate::foreign::{Foreign, Remedy};
 use crate::json::{say_json, say_nothing_in_json};
 use crate::letters::{encoding_of, text_of};
 use crate::lines::{LineEnds, NumberLines, lines};
-use crate::numbers::NumberText;
+use crate::numbers::number_readings;
 use crate::quotes::long_quote;
-use crate::rules::{Rule, read_by_rules};
+use crate::rules::read_by_rules;
 use crate::said::Said;
 use crate::sample::Sample;
 use crate::separating::fields_of;
@@ -54,7 +54,10 @@ pub struct Nothing<'a> {
 }
 
 const FEW_LINES: &str = "too short to tell what it is";
-const BY_HAND: Remedy = Remedy::Say("Say it yourself: --form, --sep and --header, as `basket sets --help` has them.");
+
+const BY_HAND: Remedy = Remedy::Say(
+    "Say it yourself: --form, --sep and --header, as `basket sets --help` has them.",
+);
 
 impl<'a> File<'a> {
     pub fn shown_name(&self) -> &'a str {
@@ -76,7 +79,18 @@ impl<'a> File<'a> {
             self.say_nothing(alloc, &mut said, style, nothing)?;
         } else {
             match encoding_of(alloc, self.bytes)? {
-                Some(encoding) => self.say_decoded(alloc, &mut said, style, encoding)?,
+                Some(encoding) => {
+                    let text = text_of(alloc, encoding, self.bytes)?;
+                    let text = whole_lines(alloc, text, self.is_whole)?;
+                    let decoded = Decoded {
+                        alloc,
+                        file: *self,
+                        text,
+                        encoding,
+                        style,
+                    };
+                    decoded.say(&mut said)?;
+                }
                 None => {
                     let remedy = Remedy::Say("basket reads numbers, or names as CSV.");
                     let nothing = Nothing::new("binary", "no text", remedy);
@@ -112,35 +126,6 @@ impl<'a> File<'a> {
     ) -> Result<(), AllocError> {
         self.say_nothing(alloc, said, style, Nothing::new("foreign", kind.1, kind.2))
     }
-
-    /// Says what a text is.
-    fn say_decoded(
-        &self,
-        alloc: Global,
-        said: &mut Said,
-        style: Style,
-        encoding: Encoding,
-    ) -> Result<(), AllocError> {
-        let decoded = text_of(alloc, encoding, self.bytes)?;
-        let text = whole_lines(decoded.as_str(), self.is_whole);
-        let lines = lines(alloc, text)?;
-        let numbers = NumberLines::of(&lines);
-        let view = Decoded { file: self, text, lines: &lines, encoding, style };
-        if let Some(kind) = Foreign::of_lines(&lines) {
-            return self.say_foreign(alloc, said, style, kind);
-        }
-        if lines.is_empty() {
-            let nothing = Nothing::new("empty", "blank lines alone: it has no basket", Remedy::Say(""));
-            return self.say_nothing(alloc, said, style, nothing);
-        }
-        if numbers.are_counts() || numbers.are_baskets() {
-            return view.say_numbers(alloc, said, &numbers);
-        }
-        if lines.len() < 3 {
-            return self.say_nothing(alloc, said, style, Nothing::new("short", FEW_LINES, BY_HAND));
-        }
-        view.say_table(alloc, said)
-    }
 }
 
 impl<'a> Nothing<'a> {
@@ -150,90 +135,133 @@ impl<'a> Nothing<'a> {
 }
 
 /// A text without its last line, if that may be cut off.
-fn whole_lines(text: &str, is_whole: bool) -> &str {
-    match text.rsplit_once(['\n', '\r']) {
-        Some((front, _)) if !is_whole => front,
-        _ => text,
+fn whole_lines(alloc: Global, text: String, is_whole: bool) -> Result<String, AllocError> {
+    match text.as_str().rsplit_once(['\n', '\r']) {
+        Some((front, _)) if !is_whole => String::from_str(alloc, front),
+        _ => Ok(text),
+    }
+}
+
+/// The line of a quote that opens and is closed lines later or never.
+fn open_quote(text: &str, fields: &Fields) -> Option<u32> {
+    match fields {
+        Fields::Separated(separator) => long_quote(text, char::from(*separator)),
+        _ => None,
     }
 }
 
 /// A file whose text is known.
-#[derive(Clone, Copy)]
+#[derive(Drop)]
 struct Decoded<'a> {
-    file: &'a File<'a>,
-    text: &'a str,
-    lines: &'a [&'a str],
+    alloc: Global,
+    file: File<'a>,
+    text: String,
     encoding: Encoding,
     style: Style,
 }
 
 impl Decoded<'_> {
+    fn say(&self, said: &mut Said) -> Result<(), AllocError> {
+        let lines = lines(self.alloc, self.text.as_str())?;
+        let numbers = NumberLines::of(&lines);
+        if let Some(kind) = Foreign::of_lines(&lines) {
+            return self.file.say_foreign(self.alloc, said, self.style, kind);
+        }
+        if lines.is_empty() {
+            let nothing = Nothing::new(
+                "empty",
+                "blank lines alone: it has no basket",
+                Remedy::Say(""),
+            );
+            return self.file.say_nothing(self.alloc, said, self.style, nothing);
+        }
+        if numbers.are_counts() || numbers.are_baskets() {
+            return self.say_numbers(said, &lines, &numbers);
+        }
+        if lines.len() < 3 {
+            let nothing = Nothing::new("short", FEW_LINES, BY_HAND);
+            return self.file.say_nothing(self.alloc, said, self.style, nothing);
+        }
+        self.say_table(said, &lines)
+    }
+
     /// Says what a text of lines of numbers is.
     fn say_numbers(
         &self,
-        alloc: Global,
         said: &mut Said,
+        lines: &[&str],
         numbers: &NumberLines<'_>,
     ) -> Result<(), AllocError> {
-        let ends = LineEnds::of(self.text);
-        let text = NumberText { alloc, lines: self.lines, numbers, encoding: self.encoding, ends };
-        let readings = text.readings()?;
+        let alloc = self.alloc;
+        let ends = LineEnds::of(self.text.as_str());
+        let readings = number_readings(alloc, lines, numbers, self.encoding, ends)?;
         let sample = match readings.first() {
             Some(first) if numbers.weighted == 0 && numbers.counted == 0 => {
-                Sample::of(alloc, self.text, &first.recipe)?
+                Sample::of(alloc, self.text.as_str(), &first.recipe)?
             }
             _ => Sample::empty(alloc),
         };
-        self.say_view(alloc, said, &View {
-            file: self.file,
-            encoding: self.encoding,
-            ends,
-            kind: if numbers.are_counts() { "counts" } else { "fimi" },
-            records: self.lines.len(),
-            fields: &Fields::Blanks,
-            table: None,
-            readings: &readings,
-            sample: &sample,
-        })
+        self.say_view(
+            said,
+            View {
+                file: self.file,
+                encoding: self.encoding,
+                ends,
+                kind: if numbers.are_counts() {
+                    "counts"
+                } else {
+                    "fimi"
+                },
+                records: lines.len(),
+                table: None,
+                readings,
+                sample,
+            },
+        )
     }
 
     /// Says what a text of records is.
-    fn say_table(&self, alloc: Global, said: &mut Said) -> Result<(), AllocError> {
-        let fields = fields_of(alloc, self.lines)?;
-        let records = records_of(alloc, self.text, &fields)?;
-        let table = Table::of(alloc, &fields, &records)?;
+    fn say_table(&self, said: &mut Said, lines: &[&str]) -> Result<(), AllocError> {
+        let (alloc, text) = (self.alloc, self.text.as_str());
+        let fields = fields_of(alloc, lines)?;
+        let opened = open_quote(text, &fields);
+        let records = records_of(alloc, text, &fields)?;
+        let table = Table::of(alloc, fields, &records)?;
         let Some((rule, mut reading)) = read_by_rules(&table, self.encoding)? else {
             let what = "a table in which no column looks like baskets and none like items";
             let nothing = Nothing::new("unclear", what, BY_HAND);
             return self.file.say_nothing(alloc, said, self.style, nothing);
         };
-        if let Fields::Separated(separator) = &fields
-            && let Some(line) = long_quote(self.text, char::from(*separator))
-        {
-            write!(reading.doubts, "The quote that opens on line {line} is closed lines later or never: all between is one field.\n");
+        if let Some(line) = opened {
+            write!(
+                reading.doubts,
+                "The quote that opens on line {line} is closed lines later or never: all between is one field.\n"
+            );
         }
-        let readings = settled(&table, reading, self.lines)?;
+        let readings = settled(&table, reading, lines)?;
         let sample = match readings.first() {
-            Some(first) => Sample::of(alloc, self.text, &first.recipe)?,
+            Some(first) => Sample::of(alloc, text, &first.recipe)?,
             None => Sample::empty(alloc),
         };
-        self.say_view(alloc, said, &View {
-            file: self.file,
-            encoding: self.encoding,
-            ends: LineEnds::of(self.text),
-            kind: Rule::name(rule),
-            records: records.len(),
-            fields: &fields,
-            table: Some(&table),
-            readings: &readings,
-            sample: &sample,
-        })
+        self.say_view(
+            said,
+            View {
+                file: self.file,
+                encoding: self.encoding,
+                ends: LineEnds::of(text),
+                kind: rule.name(),
+                records: records.len(),
+                table: Some(table),
+                readings,
+                sample,
+            },
+        )
     }
 
-    fn say_view(&self, alloc: Global, said: &mut Said, view: &View<'_>) -> Result<(), AllocError> {
+    fn say_view(&self, said: &mut Said, view: View<'_, '_>) -> Result<(), AllocError> {
         match self.style {
-            Style::Text => say_text(alloc, said, view, self.text),
-            Style::Json => say_json(alloc, said, view),
+            Style::Text => say_text(self.alloc, said, &view, self.text.as_str()),
+            Style::Json => say_json(self.alloc, said, &view),
         }
     }
 }

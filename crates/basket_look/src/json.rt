@@ -11,7 +11,9 @@ use std::alloc::{AllocError, Global};
 
 /// How many values, records and baskets are given.
 const MOST_VALUES: usize = 3;
+
 const MOST_ROWS: usize = 8;
+
 const MOST_BASKETS: usize = 5;
 
 /// Says why no way is shown to read a file.
@@ -28,21 +30,21 @@ pub fn say_nothing_in_json(said: &mut Said, file: &File<'_>, nothing: Nothing<'_
 }
 
 /// Says what was recognised of a file.
-pub fn say_json(alloc: Global, said: &mut Said, view: &View<'_>) -> Result<(), AllocError> {
-    say_file(said, view.file, view.kind);
+pub fn say_json(alloc: Global, said: &mut Said, view: &View<'_, '_>) -> Result<(), AllocError> {
+    say_file(said, &view.file, view.kind);
     said.push_str(",\"encoding\":");
     said.quote(view.encoding.name());
     said.push_str(",\"separator\":");
-    match view.fields.word() {
+    match view.separator() {
         Some(word) => said.quote(word),
         None => said.push_str("null"),
     }
     write!(said, ",\"records\":{}", view.records);
-    match view.table {
+    match &view.table {
         Some(table) => say_table(said, view, table),
         None => said.push_str(",\"skip\":0,\"header\":false,\"columns\":[],\"rows\":[]"),
     }
-    let minimum = minimum_of(alloc, view.sample)?;
+    let minimum = minimum_of(alloc, &view.sample)?;
     said.push_str(",\"minimum\":");
     said.quote(minimum);
     said.push_str(",\"readings\":[");
@@ -64,13 +66,20 @@ fn say_file(said: &mut Said, file: &File<'_>, kind: &str) {
         None => said.push_str("null"),
     }
     let (len, whole, long) = (file.bytes.len(), file.is_whole, file.is_too_long());
-    write!(said, ",\"read\":{len},\"whole\":{whole},\"too_long\":{long},\"kind\":");
+    write!(
+        said,
+        ",\"read\":{len},\"whole\":{whole},\"too_long\":{long},\"kind\":"
+    );
     said.quote(kind);
 }
 
-fn say_table(said: &mut Said, view: &View<'_>, table: &Table<'_>) {
+fn say_table(said: &mut Said, view: &View<'_, '_>, table: &Table<'_>) {
     let (skip, header) = (table.skip, table.header.is_some());
-    write!(said, ",\"skip\":{skip},\"header\":{header},\"width\":{},\"columns\":[", table.width);
+    write!(
+        said,
+        ",\"skip\":{skip},\"header\":{header},\"width\":{},\"columns\":[",
+        table.width
+    );
     for (place, column) in table.columns.iter().enumerate() {
         said.push_comma(place);
         let (number, different) = (column.number, column.different());
@@ -101,7 +110,7 @@ fn say_table(said: &mut Said, view: &View<'_>, table: &Table<'_>) {
 fn say_reading(
     alloc: Global,
     said: &mut Said,
-    view: &View<'_>,
+    view: &View<'_, '_>,
     reading: &Reading,
     minimum: &str,
 ) -> Result<(), AllocError> {
@@ -127,18 +136,29 @@ fn say_reading(
         said.push_comma(place);
         said.quote(word.as_str());
     }
-    write!(said, "],\"as_it_is\":{},\"commands\":[", reading.form != Form::Pairs);
+    write!(
+        said,
+        "],\"as_it_is\":{},\"commands\":[",
+        reading.form != Form::Pairs
+    );
     for (place, question) in QUESTIONS.iter().enumerate() {
         said.push_comma(place);
         let mut command = Said::new(alloc);
-        say_command(alloc, &mut command, reading, *question, minimum, view.file.name)?;
+        say_command(
+            alloc,
+            &mut command,
+            reading,
+            *question,
+            minimum,
+            view.file.name,
+        )?;
         said.quote(command.into_text()?.as_str());
     }
     said.push_str("]}");
     Ok(())
 }
 
-fn say_baskets(said: &mut Said, view: &View<'_>) {
+fn say_baskets(said: &mut Said, view: &View<'_, '_>) {
     let baskets = view.sample.ids.iter().zip(&view.sample.baskets);
     for (place, (id, basket)) in baskets.take(MOST_BASKETS).enumerate() {
         said.push_comma(place);

@@ -17,9 +17,13 @@ pub fn read(table: &Table<'_>, reading: &mut Reading) -> Result<bool, AllocError
     let front = front(table);
     if front == 0 {
         reading.form = Form::Baskets;
-        reading.because.push_str("A basket in each record: the same names come in several columns.\n");
+        reading.because.push_str(
+            "A basket in each record: the same names come in several columns.\n",
+        );
         if table.width == 1 {
-            reading.doubts.push_str("Most records have one name alone, and so no two items together.\n");
+            reading.doubts.push_str(
+                "Most records have one name alone, and so no two items together.\n",
+            );
         }
     } else if let Some(first) = table.columns.first() {
         take_front(table, first, front, reading)?;
@@ -105,16 +109,29 @@ fn take_front(
         );
     } else if front == 1 && is_weight(first) {
         reading.form = Form::WeightedBaskets;
-        because.push_str("A basket in each record, and first its weight: small numbers that come again.\n");
+        because.push_str(
+            "A basket in each record, and first its weight: small numbers that come again.\n",
+        );
         reading.doubts.push_str(
             "The number before a basket may be something else than how many such baskets there were. \
 If it is the count of a set, it is --form csv-counts.\n",
         );
     } else if first.is_unique() || first.is_of_measures() {
-        write!(because, "A basket in each record, from column {} on: before it stand an id and the like, which no other column has.\n", front.saturating_add(1));
+        write!(
+            because,
+            "A basket in each record, from column {} on: before it stand an id and the like, which no other column has.\n",
+            front.saturating_add(1)
+        );
     } else {
-        write!(because, "Column 1 is the id of a basket, which comes again, and from column {} on are its items.\n", front.saturating_add(1));
-        reading.recipe.basket.push(Key { column: 1, is_day: false })?;
+        write!(
+            because,
+            "Column 1 is the id of a basket, which comes again, and from column {} on are its items.\n",
+            front.saturating_add(1)
+        );
+        reading.recipe.basket.push(Key {
+            column: 1,
+            is_day: false,
+        })?;
     }
     Ok(())
 }

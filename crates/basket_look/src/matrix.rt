@@ -92,7 +92,11 @@ fn is_mostly(both: usize, width: usize) -> bool {
 pub fn read(table: &Table<'_>, reading: &mut Reading) -> Result<bool, AllocError> {
     let marks = mark_columns(table.alloc, table.body, table.width)?;
     let both = count_of_both(&marks);
-    if !table.is_even || both < 2 || !is_mostly(both, table.width) || has_blank_columns(table, &marks) {
+    if !table.is_even
+        || both < 2
+        || !is_mostly(both, table.width)
+        || has_blank_columns(table, &marks)
+    {
         return Ok(false);
     }
     let mut items: usize = 0;
@@ -110,9 +114,14 @@ pub fn read(table: &Table<'_>, reading: &mut Reading) -> Result<bool, AllocError
     }
     reading.recipe.are_marks = true;
     let because = &mut reading.because;
-    write!(because, "A basket in each record and a column for each of {items} items: nearly each cell is blank, or says yes or no, or how many.\n");
+    write!(
+        because,
+        "A basket in each record and a column for each of {items} items: nearly each cell is blank, or says yes or no, or how many.\n"
+    );
     if table.header.is_none() {
-        reading.doubts.push_str("No record names the columns, so an item is called by its column's number.\n");
+        reading.doubts.push_str(
+            "No record names the columns, so an item is called by its column's number.\n",
+        );
     }
     Ok(items > 0)
 }

@@ -58,7 +58,9 @@ fn counts_of(alloc: Global, sample: &Sample) -> Result<Vec<u64>, AllocError> {
         let mut items = Vec::new(alloc);
         for name in basket {
             match ranks.get(*name as usize) {
-                Some(rank) if *rank < MOST_ITEMS && items.len() < MOST_TOGETHER => items.push(*rank)?,
+                Some(rank) if *rank < MOST_ITEMS && items.len() < MOST_TOGETHER => items.push(
+                    *rank,
+                )?,
                 _ => (),
             }
         }
@@ -78,10 +80,15 @@ fn counts_of(alloc: Global, sample: &Sample) -> Result<Vec<u64>, AllocError> {
 fn add_together(items: &[usize], together: &mut [u64], triples: &mut [u64]) {
     for (first, low) in items.iter().enumerate() {
         for (second, middle) in items.iter().enumerate().skip(first.saturating_add(1)) {
-            add_one(together, low.saturating_mul(MOST_ITEMS).saturating_add(*middle));
+            add_one(
+                together,
+                low.saturating_mul(MOST_ITEMS).saturating_add(*middle),
+            );
             for high in items.iter().skip(second.saturating_add(1)) {
                 if *high < 32 {
-                    let place = low.saturating_mul(1024).saturating_add(middle.saturating_mul(32));
+                    let place = low
+                        .saturating_mul(1024)
+                        .saturating_add(middle.saturating_mul(32));
                     add_one(triples, place.saturating_add(*high));
                 }
             }

@@ -33,8 +33,15 @@ pub fn add_parts(
             break;
         };
         let (id, other) = (basket.number, part.column.number);
-        let several = if part.is_day { "days" } else { "values" };
-        write!(reading.because, "One id of column {id} comes with several {several} of column {other}, so a basket is known by both.\n");
+        let several = if part.column.is_of_days() {
+            "days"
+        } else {
+            "values"
+        };
+        write!(
+            reading.because,
+            "One id of column {id} comes with several {several} of column {other}, so a basket is known by both.\n"
+        );
         reading.recipe.basket.push(Key {
             column: other,
             is_day: part.is_day,
@@ -53,12 +60,8 @@ fn best_part<'t, 'a>(
     is_customer: bool,
 ) -> Result<Option<Part<'t, 'a>>, AllocError> {
     let alloc = table.alloc;
-    let (ids, id_runs) = (different(key), runs(key));
+    let ids = different(key);
     let (mut best, mut most) = (None, ids.saturating_add(ids / 20));
-    // Ids that each stand together come from one receipt.
-    if id_runs <= most {
-        return Ok(None);
-    }
     for column in &table.columns {
         if column.number == basket.number || column.number == item.number {
             continue;
@@ -70,14 +73,25 @@ fn best_part<'t, 'a>(
             continue;
         }
         let both = joined(alloc, key, &part.codes)?;
-        // A day decides before a till; a part that breaks receipts is none.
         let count = different(&both);
-        let keeps_runs = runs(&both) <= id_runs.saturating_add(id_runs / 20);
-        if (keeps_runs || part.column.is_of_days()) && count > most {
+        if count > most && makes_receipts(&part, basket, key, &both) {
             (best, most) = (Some(part), count);
         }
     }
     Ok(best)
+}
+
+/// Whether an id is one receipt's only with this part. A receipt has one till. Otherwise ids have to
+/// come again further below, and then be others: on another day, or without breaking what stands
+/// together.
+fn makes_receipts(part: &Part<'_, '_>, basket: &Column<'_>, key: &[u32], both: &[u32]) -> bool {
+    let (ids, id_runs) = (different(key), runs(key));
+    let come_again = id_runs > ids.saturating_add(ids / 20);
+    let keeps_runs = runs(both) <= id_runs.saturating_add(id_runs / 20);
+    let is_time_of_day = basket.is_of_days() && part.column.is_of_measures();
+    Word::Place.is_in(part.column.header)
+        || is_time_of_day
+        || come_again && (keeps_runs || part.column.is_of_days())
 }
 
 /// Whether a part is determined by the id, or by the item as its price is.
@@ -104,17 +118,21 @@ fn part_of<'t, 'a>(
         } else {
             column.codes.as_slice().to_vec(alloc)?
         };
-        return Ok(Some(Part { column, codes, is_day }));
-    }
-    let may_be = !column.is_of_measures() && !column.is_unique() && column.has_neighbours();
-    Ok(match may_be {
-        true => Some(Part {
+        return Ok(Some(Part {
             column,
-            codes: column.codes.as_slice().to_vec(alloc)?,
-            is_day: false,
-        }),
-        false => None,
-    })
+            codes,
+            is_day,
+        }));
+    }
+    let is_time = column.is_of_times_of_day();
+    let is_measure = column.is_of_measures() || Word::Other.is_in(column.header);
+    let may_be = is_time || !is_measure && !column.is_unique() && !column.is_blank();
+    let codes = column.codes.as_slice().to_vec(alloc)?;
+    Ok(may_be.then_some(Part {
+        column,
+        codes,
+        is_day: false,
+    }))
 }
 
 /// Whether the times of a customer are those of purchases: whether several records have each.
@@ -129,9 +147,18 @@ pub fn note_others(table: &Table<'_>, reading: &mut Reading) {
         let number = column.number;
         if column.counts.negatives > 0 {
             let count = column.counts.negatives;
-            write!(reading.notes, "Column {number} is below 0 in {count} records, as returned goods are: they count as bought.\n");
-        } else if Word::Other.is_in(column.header) && column.is_of_numbers() && column.different() > 1 {
-            write!(reading.notes, "Column {number} is left out: a basket has an item once, however many of it.\n");
+            write!(
+                reading.notes,
+                "Column {number} is below 0 in {count} records, as returned goods are: they count as bought.\n"
+            );
+        } else if Word::Other.is_in(column.header)
+            && column.is_of_numbers()
+            && column.different() > 1
+        {
+            write!(
+                reading.notes,
+                "Column {number} is left out: a basket has an item once, however many of it.\n"
+            );
         }
     }
 }

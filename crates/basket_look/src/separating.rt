@@ -11,6 +11,10 @@ const MOST_LINES: usize = 400;
 /// What most likely separates the fields of lines.
 pub fn fields_of(alloc: Global, lines: &[&str]) -> Result<Fields, AllocError> {
     let lines = lines.get(..lines.len().min(MOST_LINES)).unwrap_or(&[]);
+    if are_lists(lines) {
+        // Each line is one field.
+        return Ok(Fields::Columns(vec![in alloc; 1]?));
+    }
     if let Some(starts) = ruled_columns(alloc, lines)? {
         return Ok(Fields::Columns(starts));
     }
@@ -23,11 +27,23 @@ pub fn fields_of(alloc: Global, lines: &[&str]) -> Result<Fields, AllocError> {
     if let Some(starts) = aligned_columns(alloc, lines)? {
         return Ok(Fields::Columns(starts));
     }
-    let blanks = lines.iter().filter(|line| line.trim().contains(' ')).count();
+    let blanks = lines
+        .iter()
+        .filter(|line| line.trim().contains(' '))
+        .count();
     Ok(match blanks > lines.len() / 2 {
         true => Fields::Blanks,
         false => Fields::Separated(b','),
     })
+}
+
+/// Whether nearly all lines are lists in brackets, as `{bread,milk}`.
+fn are_lists(lines: &[&str]) -> bool {
+    let lists = lines.iter().filter(|line| {
+        let line = line.trim();
+        line.starts_with(['{', '[']) && line.ends_with(['}', ']'])
+    });
+    lists.count() > lines.len() / 20 * 19
 }
 
 /// The separator that stands equally often on most lines, outside of quotes.
@@ -113,14 +129,20 @@ fn aligned_columns(alloc: Global, lines: &[&str]) -> Result<Option<Vec<usize>>, 
     let [first, rest @ ..] = lines else {
         return Ok(None);
     };
-    let gaps = rest.iter().filter(|line| line.trim().contains("  ")).count();
+    let gaps = rest
+        .iter()
+        .filter(|line| line.trim().contains("  "))
+        .count();
     if rest.len() < 2 || gaps < rest.len() / 5 * 4 {
         return Ok(None);
     }
     let mut starts = Vec::new(alloc);
     for start in starts_of_words(alloc, first, 1)? {
         let before = start.saturating_sub(2);
-        let open = rest.iter().filter(|line| is_blank_at(*line, before)).count();
+        let open = rest
+            .iter()
+            .filter(|line| is_blank_at(*line, before))
+            .count();
         if start == 1 || open >= rest.len().saturating_sub(rest.len() / 50) {
             starts.push(start)?;
         }
@@ -130,5 +152,7 @@ fn aligned_columns(alloc: Global, lines: &[&str]) -> Result<Option<Vec<usize>>, 
 
 /// Whether a line has a blank or nothing at a place, counted from 0.
 fn is_blank_at(line: &str, place: usize) -> bool {
-    line.chars().nth(place).is_none_or(|letter| letter.is_whitespace())
+    line.chars()
+        .nth(place)
+        .is_none_or(|letter| letter.is_whitespace())
 }

@@ -17,7 +17,9 @@ pub fn settled(
     if !is_mined_as_it_is(table, &reading, lines) {
         reading.form = Form::Pairs;
         if is_weighted {
-            reading.doubts.push_str("The weights are left out, since the file has to be rewritten.\n");
+            reading.doubts.push_str(
+                "The weights are left out, since the file has to be rewritten.\n",
+            );
         }
     }
     let has_weights = reading.form == Form::WeightedBaskets;
@@ -40,11 +42,12 @@ fn is_mined_as_it_is(table: &Table<'_>, reading: &Reading, lines: &[&str]) -> bo
         && recipe.skip == 0
         && recipe.skip_last == 0
         && !lines.iter().any(|line| is_rule(*line));
+    let has_nulls = table.columns.iter().any(|column| column.counts.nulls > 0);
     is_plain
         && match reading.form {
-            Form::Baskets => recipe.items.as_slice() == [Span::from(1)].as_slice(),
+            Form::Baskets => !has_nulls && recipe.items.as_slice() == [Span::from(1)].as_slice(),
             Form::WeightedBaskets => true,
-            Form::Single => is_of_first_two(table, reading),
+            Form::Single => !recipe.fills && is_of_first_two(table, reading),
             _ => false,
         }
 }

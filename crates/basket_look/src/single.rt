@@ -17,7 +17,11 @@ pub fn read(table: &Table<'_>, reading: &mut Reading) -> Result<bool, AllocError
     };
     reading.form = Form::Single;
     reading.recipe.items.push(Span::one(item.number))?;
-    reading.recipe.basket.push(Key { column: basket.number, is_day: basket.is_of_measures() && !basket.has_times() })?;
+    reading.recipe.basket.push(Key {
+        column: basket.number,
+        is_day: false,
+    })?;
+    reading.recipe.fills = basket.counts.blanks > basket.len() / 10;
     say_choice(table, basket, item, reading)?;
     crate::parts::add_parts(table, basket, item, reading)?;
     crate::parts::note_others(table, reading);
@@ -56,7 +60,8 @@ fn item_score(column: &Column<'_>) -> i32 {
         }
     };
     add(Word::Item.is_in(header), 6);
-    add(Word::Other.is_in(header), -6);
+    add(Word::Name.is_in(header), 2);
+    add(Word::Other.is_in(header) || Word::Place.is_in(header), -6);
     add(Word::Basket.is_in(header), -6);
     add(Word::Customer.is_in(header), -6);
     add(Word::Time.is_in(header), -6);
@@ -106,17 +111,27 @@ fn basket_score(column: &Column<'_>) -> i32 {
     let is_basket = Word::Basket.is_in(header);
     add(is_basket, 8);
     add(!is_basket && Word::Customer.is_in(header), 4);
-    add(!is_basket && Word::Other.is_in(header), -5);
+    add(
+        !is_basket && (Word::Other.is_in(header) || Word::Place.is_in(header)),
+        -20,
+    );
     add(!is_basket && Word::Item.is_in(header), -4);
     add(column.has_neighbours(), 3);
     add(column.is_of_numbers(), 1);
-    add(column.is_of_measures() && !column.has_times(), -6);
-    add(column.has_times(), -3);
+    add(
+        column.is_of_days(),
+        if column.has_times() { -3 } else { -6 },
+    );
+    add(column.is_of_measures() && !column.is_of_days(), -20);
     score
 }
 
 /// Whether a column only says more of the item, as its price and its group do.
-fn is_of_item(table: &Table<'_>, column: &Column<'_>, item: &Column<'_>) -> Result<bool, AllocError> {
+fn is_of_item(
+    table: &Table<'_>,
+    column: &Column<'_>,
+    item: &Column<'_>,
+) -> Result<bool, AllocError> {
     Ok(!Word::Basket.is_in(column.header) && determines(table.alloc, &item.codes, &column.codes)?)
 }
 
@@ -133,7 +148,10 @@ fn say_choice(
     reading: &mut Reading,
 ) -> Result<(), AllocError> {
     let (basket_number, item_number) = (basket.number, item.number);
-    write!(reading.because, "An item of a basket in each record: column {basket_number} is the basket");
+    write!(
+        reading.because,
+        "An item of a basket in each record: column {basket_number} is the basket"
+    );
     let named = |word: Word, column: &Column<'_>| word.is_in(column.header);
     let (because, doubts) = (&mut reading.because, &mut reading.doubts);
     if named(Word::Basket, basket) {
@@ -141,15 +159,34 @@ fn say_choice(
     } else if basket.has_neighbours() {
         because.push_str(", since records with one id stand together");
     } else if !named(Word::Customer, basket) {
-        write!(doubts, "Nothing but its repeats says that column {basket_number} is the basket.\n");
+        write!(
+            doubts,
+            "Nothing but its repeats says that column {basket_number} is the basket.\n"
+        );
     }
     write!(because, "; column {item_number} is the item");
-    because.push_str(if named(Word::Item, item) { ", by its name.\n" } else { ", since its values come again in other baskets.\n" });
+    because.push_str(if named(Word::Item, item) {
+        ", by its name.\n"
+    } else {
+        ", since its values come again in other baskets.\n"
+    });
     if named(Word::Customer, basket) && !named(Word::Basket, basket) {
-        write!(doubts, "Column {basket_number} is a customer, it seems, and no column a receipt.\n");
+        write!(
+            doubts,
+            "Column {basket_number} is a customer, it seems, and no column a receipt.\n"
+        );
+    }
+    if basket.is_of_days() && !basket.has_times() {
+        doubts.push_str("Without an id of receipts, what was sold at one time is one basket.\n");
+    }
+    if basket.counts.blanks > basket.len() / 10 {
+        reading.notes.push_str("Where the basket is blank, it is that of the record above.\n");
     }
     if !named(Word::Item, item) && item.is_of_numbers() {
-        write!(doubts, "Column {item_number} has numbers, which may be no items.\n");
+        write!(
+            doubts,
+            "Column {item_number} has numbers, which may be no items.\n"
+        );
     }
     Ok(())
 }

@@ -16,7 +16,7 @@ const MOST_TITLES: usize = 20;
 #[derive(Drop)]
 pub struct Table<'a> {
     pub alloc: Global,
-    pub fields: &'a Fields,
+    pub fields: Fields,
     /// Records above the header or the first basket, as titles are.
     pub skip: usize,
     pub header: Option<&'a StringRecord>,
@@ -53,7 +53,7 @@ pub fn records_of(
 impl<'a> Table<'a> {
     pub fn of(
         alloc: Global,
-        fields: &'a Fields,
+        fields: Fields,
         records: &'a [StringRecord],
     ) -> Result<Self, AllocError> {
         let width = usual(alloc, records, StringRecord::len)?;
@@ -167,7 +167,10 @@ pub fn cell(record: &StringRecord, place: usize) -> &str {
 
 /// How many cells of a record are not blank.
 pub fn filled(record: &StringRecord) -> usize {
-    record.iter().filter(|field| !field.trim().is_empty()).count()
+    record
+        .iter()
+        .filter(|field| !field.trim().is_empty())
+        .count()
 }
 
 /// Whether all but one of so many records are so.
@@ -246,5 +249,8 @@ fn without_totals(records: &[StringRecord]) -> (&[StringRecord], usize) {
 }
 
 fn is_total(record: &StringRecord) -> bool {
-    record.iter().take(4).any(|field| Word::Total.is_in(field.trim()))
+    record
+        .iter()
+        .take(4)
+        .any(|field| Word::Total.is_in(field.trim()))
 }

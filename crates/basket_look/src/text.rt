@@ -6,15 +6,17 @@ use crate::letters::word_beyond_ascii;
 use crate::minimum::minimum_of;
 use crate::said::Said;
 use crate::view::{Role, View};
-use basket_pairs::{Encoding, Fields};
+use basket_pairs::Encoding;
 use std::alloc::{AllocError, Global};
 
 /// How many columns are shown, and how many values of each.
 const SHOWN_COLUMNS: usize = 12;
+
 const SHOWN_VALUES: usize = 3;
 
 /// How many baskets are shown, and how many items of each.
 const SHOWN_BASKETS: usize = 5;
+
 const SHOWN_ITEMS: usize = 8;
 
 /// Says why no way is shown to read a file.
@@ -30,7 +32,10 @@ pub fn say_nothing_in_text(
         Remedy::Say(text) => write!(said, "{shown} is {what}. {text}\n"),
         Remedy::Unpack(program) => {
             let word = shell_word(alloc, file.name.unwrap_or("FILE"))?;
-            write!(said, "{shown} is {what}. To look at what is in it:\n\n  {program} {word} | basket look\n");
+            write!(
+                said,
+                "{shown} is {what}. To look at what is in it:\n\n  {program} {word} | basket look\n"
+            );
         }
     }
     Ok(())
@@ -40,13 +45,13 @@ pub fn say_nothing_in_text(
 pub fn say_text(
     alloc: Global,
     said: &mut Said,
-    view: &View<'_>,
+    view: &View<'_, '_>,
     text: &str,
 ) -> Result<(), AllocError> {
     say_file(said, view, text);
     say_records(said, view);
     say_columns(said, view);
-    let minimum = minimum_of(alloc, view.sample)?;
+    let minimum = minimum_of(alloc, &view.sample)?;
     for (place, reading) in view.readings.iter().enumerate() {
         if place > 0 {
             said.push_str("\nOr else:\n");
@@ -68,8 +73,8 @@ pub fn say_text(
 }
 
 /// Says how the text is written, and whether it is too long.
-fn say_file(said: &mut Said, view: &View<'_>, text: &str) {
-    let (file, shown) = (view.file, view.file.shown_name());
+fn say_file(said: &mut Said, view: &View<'_, '_>, text: &str) {
+    let (file, shown) = (&view.file, view.file.shown_name());
     let read = if file.is_whole {
         ""
     } else {
@@ -80,15 +85,23 @@ fn say_file(said: &mut Said, view: &View<'_>, text: &str) {
         Encoding::Utf8 if file.bytes.is_ascii() => "ascii",
         encoding => encoding.name(),
     };
-    write!(said, "{shown} ({read}{len} bytes): text in {encoding}; {ends}.\n");
+    write!(
+        said,
+        "{shown} ({read}{len} bytes): text in {encoding}; {ends}.\n"
+    );
     if file.is_too_long() {
         said.push_str(
             "It is longer than the 4294967295 bytes that basket takes: cut it after lines (split -n l/8 FILE part.), \
 and mine the parts as docs/PARTS.md says.\n",
         );
     }
-    if !matches!(view.encoding, Encoding::Utf8 | Encoding::Utf16Le | Encoding::Utf16Be) {
-        said.push_str("Not sure: how its letters are written is guessed from how they stand in words");
+    if !matches!(
+        view.encoding,
+        Encoding::Utf8 | Encoding::Utf16Le | Encoding::Utf16Be
+    ) {
+        said.push_str(
+            "Not sure: how its letters are written is guessed from how they stand in words",
+        );
         if let Some(word) = word_beyond_ascii(text) {
             said.push_str("; is this one right: ");
             said.show(word);
@@ -99,15 +112,17 @@ and mine the parts as docs/PARTS.md says.\n",
 }
 
 /// Says what separates fields, how many records there are, and whether they have a header.
-fn say_records(said: &mut Said, view: &View<'_>) {
-    let Some(table) = view.table else {
+fn say_records(said: &mut Said, view: &View<'_, '_>) {
+    let Some(table) = &view.table else {
         return;
     };
     let count = view.records;
-    match view.fields {
-        Fields::Columns(_) => write!(said, "Records: {count}, whose fields stand below one another.\n"),
-        fields => {
-            let word = fields.word().unwrap_or("comma");
+    match view.separator() {
+        None => write!(
+            said,
+            "Records: {count}, whose fields stand below one another.\n"
+        ),
+        Some(word) => {
             write!(said, "Records: {count}, with fields separated by {word}");
             if table.is_even {
                 write!(said, ", nearly all of {} fields", table.width);
@@ -116,7 +131,11 @@ fn say_records(said: &mut Said, view: &View<'_>) {
         }
     }
     if table.skip > 0 {
-        write!(said, "Records above the table, which are left out: {}.\n", table.skip);
+        write!(
+            said,
+            "Records above the table, which are left out: {}.\n",
+            table.skip
+        );
     }
     if table.totals > 0 {
         said.push_str("The last record has totals, and is left out.\n");
@@ -129,8 +148,8 @@ fn say_records(said: &mut Said, view: &View<'_>) {
 }
 
 /// Says what the columns have in them, and which are the basket and the item.
-fn say_columns(said: &mut Said, view: &View<'_>) {
-    let Some(table) = view.table else {
+fn say_columns(said: &mut Said, view: &View<'_, '_>) {
+    let Some(table) = &view.table else {
         return;
     };
     if !table.is_even {
@@ -163,12 +182,18 @@ fn say_columns(said: &mut Said, view: &View<'_>) {
 }
 
 /// Says the first baskets.
-fn say_baskets(said: &mut Said, view: &View<'_>) {
+fn say_baskets(said: &mut Said, view: &View<'_, '_>) {
     if view.sample.baskets.is_empty() {
         return;
     }
     said.push_str("The first baskets, as they are read:\n");
-    for (id, basket) in view.sample.ids.iter().zip(&view.sample.baskets).take(SHOWN_BASKETS) {
+    for (id, basket) in view
+        .sample
+        .ids
+        .iter()
+        .zip(&view.sample.baskets)
+        .take(SHOWN_BASKETS)
+    {
         said.push_str("  ");
         said.show(id.as_str());
         said.push_str(":");

@@ -79,7 +79,11 @@ pub fn has_word(header: &str, words: &str) -> bool {
 pub enum Word {
     Basket,
     Customer,
+    /// A till or a shop, of which a receipt has one.
+    Place,
     Item,
+    /// What may be an item's name, or another's.
+    Name,
     /// A quantity, a price, a place or a group: neither a basket nor an item.
     Other,
     /// A day or a time.
@@ -87,18 +91,24 @@ pub enum Word {
     Total,
 }
 
-const BASKET_WORDS: &str = "receipt basket order invoice transaction trans_ ticket bill session cart \
+const BASKET_WORDS: &str =
+    "receipt basket order invoice transaction trans_ ticket bill session cart \
 beleg bon rechnung facture factura fattura auftrag einkauf tid commande pedido";
 
 const CUSTOMER_WORDS: &str =
     "customer member client kunde user household buyer visitor besucher cliente";
 
-const ITEM_WORDS: &str = "product produkt produit item article artikel articulo descri \
-bezeichnung sku name title titel ware stock goods material ean barcode plu gtin asin upc";
+const PLACE_WORDS: &str =
+    "till register kasse store shop filiale branch terminal outlet caisse caja";
+
+const NAME_WORDS: &str = "name title titel page url";
+
+const ITEM_WORDS: &str = "product produkt produit item article artikel articulo artículo descri \
+bezeichnung sku ware stock goods material ean barcode plu gtin asin upc";
 
 const OTHER_WORDS: &str = "price preis prix quant qty menge anzahl amount betrag discount rabatt \
-country land region city stadt store shop filiale branch markt kasse till register cashier \
-payment zahl categor kategor group gruppe brand marke pos line zeile index unit einheit count \
+country land region city stadt markt cashier payment zahl categor kategor group gruppe brand \
+marke pos line_no lineno line-no linenumber zeile index unit einheit count cart_order reorder \
 department aisle type status currency tax mwst";
 
 const TIME_WORDS: &str = "date datum day tag time zeit uhr fecha jour hora stamp";
@@ -107,13 +117,18 @@ const TOTAL_WORDS: &str = "total summe gesamt sum ergebnis somme totale";
 
 impl Word {
     pub fn is_in(self, header: &str) -> bool {
-        has_word(header, match self {
-            Word::Basket => BASKET_WORDS,
-            Word::Customer => CUSTOMER_WORDS,
-            Word::Item => ITEM_WORDS,
-            Word::Other => OTHER_WORDS,
-            Word::Time => TIME_WORDS,
-            Word::Total => TOTAL_WORDS,
-        })
+        has_word(
+            header,
+            match self {
+                Word::Basket => BASKET_WORDS,
+                Word::Customer => CUSTOMER_WORDS,
+                Word::Place => PLACE_WORDS,
+                Word::Item => ITEM_WORDS,
+                Word::Name => NAME_WORDS,
+                Word::Other => OTHER_WORDS,
+                Word::Time => TIME_WORDS,
+                Word::Total => TOTAL_WORDS,
+            },
+        )
     }
 }

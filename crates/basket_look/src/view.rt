@@ -4,25 +4,24 @@ use crate::lines::LineEnds;
 use crate::reading::Reading;
 use crate::sample::Sample;
 use crate::table::Table;
-use basket_pairs::{Encoding, Fields};
+use basket_pairs::Encoding;
 
 /// All that was recognised of a file.
-#[derive(Clone, Copy)]
-pub struct View<'a> {
-    pub file: &'a File<'a>,
+#[derive(Drop)]
+pub struct View<'f, 't> {
+    pub file: File<'f>,
     pub encoding: Encoding,
     pub ends: LineEnds,
     /// A word for programs: the rule that applies, `fimi` or `counts`.
     pub kind: &'static str,
     /// How many records or lines were read.
     pub records: usize,
-    pub fields: &'a Fields,
     /// None for lines of numbers.
-    pub table: Option<&'a Table<'a>>,
+    pub table: Option<Table<'t>>,
     /// How it is read, the most likely way first.
-    pub readings: &'a [Reading],
+    pub readings: Vec<Reading>,
     /// The baskets of the first of these.
-    pub sample: &'a Sample,
+    pub sample: Sample,
 }
 
 /// What a column is in the first reading.
@@ -46,7 +45,15 @@ impl Role {
     }
 }
 
-impl View<'_> {
+impl View<'_, '_> {
+    /// The word for what separates fields, if there is one.
+    pub fn separator(&self) -> Option<&'static str> {
+        match &self.table {
+            Some(table) => table.fields.word(),
+            None => Some("space"),
+        }
+    }
+
     /// What a column, counted from 1, is in the first reading.
     pub fn role(&self, column: usize) -> Role {
         let Some(reading) = self.readings.first() else {
@@ -59,7 +66,11 @@ impl View<'_> {
         }
         for span in &reading.recipe.items {
             if span.first <= column && span.last.is_none_or(|last| column <= last) {
-                return if reading.recipe.are_marks { Role::Mark } else { Role::Item };
+                return if reading.recipe.are_marks {
+                    Role::Mark
+                } else {
+                    Role::Item
+                };
             }
         }
         Role::Nothing

@@ -26,9 +26,9 @@ fn is_zero(cell: &str) -> bool {
     cell.starts_with('0')
 }
 
-/// Whether a cell has nothing in it, as a database writes that.
+/// Whether a cell has nothing in it, as databases and pandas write that.
 pub fn is_null(cell: &str) -> bool {
-    cell == "NULL" || cell == "\\N"
+    matches!(cell, "NULL" | "\\N" | "nan" | "NaN")
 }
 
 /// The part of a time that is the day.

@@ -35,15 +35,25 @@ pub fn pairs_of<T: TakesPairs>(
     }
     let mut widest = header.len();
     let first = recipe.skip.saturating_add(u64::from(recipe.has_header));
+    let mut id = String::new(alloc);
     for place in first..end {
         if !records.read(&mut record)? {
             break;
         }
         widest = widest.max(record.len());
         let number = place.saturating_sub(first).saturating_add(1);
-        let id = id_of(alloc, &record, &recipe.basket, number)?;
+        let own = id_of(alloc, &record, &recipe.basket, number)?;
+        if !own.is_empty() || !recipe.fills {
+            id = own;
+        }
         if !id.is_empty() {
-            Row { recipe, header: &header, record: &record, id: id.as_str() }.hand_on(alloc, taker)?;
+            Row {
+                recipe,
+                header: &header,
+                record: &record,
+                id: id.as_str(),
+            }
+            .hand_on(alloc, taker)?;
         }
     }
     seen(recipe, widest)

@@ -46,6 +46,8 @@ pub struct Recipe {
     pub has_header: bool,
     /// The columns of the basket's id. If there are none, each record is a basket.
     pub basket: Vec<Key>,
+    /// Whether a blank in these means what stands above it.
+    pub fills: bool,
     pub items: Vec<Span>,
     /// Whether a cell only says if the basket has the item, which is named by the header.
     pub are_marks: bool,
@@ -63,6 +65,7 @@ impl Recipe {
             skip_last: 0,
             has_header: false,
             basket: Vec::new(alloc),
+            fills: false,
             items: Vec::new(alloc),
             are_marks: false,
             within: None,
@@ -81,7 +84,11 @@ impl Recipe {
         }
         if self.skip_last > 0 {
             let skip = self.skip_last;
-            add(&mut words, "--skip-last", format!(in alloc; "{skip}")?.as_str())?;
+            add(
+                &mut words,
+                "--skip-last",
+                format!(in alloc; "{skip}")?.as_str(),
+            )?;
         }
         match &self.fields {
             Fields::Columns(starts) => {
@@ -100,6 +107,9 @@ impl Recipe {
     fn add_roles(&self, alloc: Global, words: &mut Vec<String>) -> Result<(), AllocError> {
         if !self.basket.is_empty() {
             add(words, "--basket", keys(alloc, &self.basket)?.as_str())?;
+        }
+        if self.fills {
+            words.push(String::from_str(alloc, "--fill")?)?;
         }
         let role = if self.are_marks { "--marks" } else { "--item" };
         add(words, role, spans(alloc, &self.items)?.as_str())?;

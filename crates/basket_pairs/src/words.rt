@@ -18,6 +18,7 @@ Options:
                           whose name is in the header
       --basket <COLUMNS>  The columns that together are the basket's id: 1, or 2,1, or 2,1:day,
                           which leaves out the time behind a day. Without it, each record is one
+      --fill              A blank id is that of the record above
       --within <S>        What separates several names in a cell: comma, semicolon, pipe, slash, plus
       --header            The first record has the names of the columns
       --skip <N>          Leaves out so many records at the beginning
@@ -27,8 +28,8 @@ Options:
       --encoding <E>      utf-8, utf-16le, utf-16be, windows-1252, cp850, macintosh [default: utf-8]
   -h, --help              Print help
 
-Blank lines and lines of dashes are no records. A cell that is blank, NULL or \\N is no item; a mark
-is none if it says no or is not above 0. The whole file is kept in memory.
+Blank lines and lines of dashes are no records. A cell that is blank, NULL, \\N or nan is no item; a
+mark is none if it says no or is not above 0. The whole file is kept in memory.
 
 Example:
   basket look FILE shows these options for a file
@@ -89,11 +90,7 @@ pub fn pairs_asked<'a>(alloc: Global, words: &[&'a str]) -> Result<Pairs<'a>, Al
 const NO_ITEM: &str = "error: --item or --marks says which columns have the items\n\n\
 For more information, try 'basket pairs --help'.\n";
 
-fn mistake<'a>(
-    alloc: Global,
-    option: &str,
-    value: Option<&str>,
-) -> Result<Pairs<'a>, AllocError> {
+fn mistake<'a>(alloc: Global, option: &str, value: Option<&str>) -> Result<Pairs<'a>, AllocError> {
     let what = match value {
         Some(value) => format!(in alloc; "invalid value '{value}' for '{option}'")?,
         None => format!(in alloc; "unexpected argument '{option}' found")?,
@@ -104,7 +101,7 @@ fn mistake<'a>(
 }
 
 fn takes_value(option: &str) -> bool {
-    option.starts_with("--") && option != "--header"
+    option.starts_with("--") && !matches!(option, "--header" | "--fill")
 }
 
 impl<'a> Asked<'a> {
@@ -141,10 +138,16 @@ impl<'a> Asked<'a> {
 
     /// Takes a word without a value.
     fn take_alone(&mut self, word: &'a str) -> bool {
-        if word == "--header" {
-            self.recipe.has_header = true;
-            return true;
+        match word {
+            "--header" => self.recipe.has_header = true,
+            "--fill" => self.recipe.fills = true,
+            _ => return self.take_file(word),
         }
+        true
+    }
+
+    /// Takes the name of the file, which comes once.
+    fn take_file(&mut self, word: &'a str) -> bool {
         if self.has_file || word.starts_with('-') && word != "-" {
             return false;
         }

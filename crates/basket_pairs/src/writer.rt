@@ -14,7 +14,9 @@ pub fn write_pairs<W: Write + Drop>(
     recipe: &Recipe,
     output: W,
 ) -> Result<(), PairsFault> {
-    let mut writer = PairWriter { writer: WriterBuilder::new().from_writer(output) };
+    let mut writer = PairWriter {
+        writer: WriterBuilder::new().from_writer(output),
+    };
     match recipe.encoding {
         Encoding::Utf8 => pairs_of(alloc, utf8_text(bytes)?, recipe, &mut writer)?,
         encoding => {
