@@ -28,8 +28,8 @@ places of their columns.
 `minimum`, the least support, is a count of baskets as an `int` from 1 on, or a share of all
 baskets: a `float` or a `decimal.Decimal` from 0 to 1, which means the decimal that it prints (0.005
 is 1/200 exactly), a `fractions.Fraction`, or a text: "20" is a count, "5%", "0.5%", "1/200" and
-"0.005" are shares. So 1 is one basket, and 1.0 is all of them. A computed float, as 50 / 300 or one
-of `numpy.arange`, has many digits and means the fraction of numbers up to 67,108,864 that it rounds.
+"0.005" are shares. So 1 is one basket, and 1.0 is all of them. A float of twelve digits or more was
+computed, as 50 / 300 or one of `numpy.arange`, and is met by the count that it is the share of.
 
 `help(sets)` has all keywords. Those of the program's work, as `miner` and `workers`, change time and
 memory, and no report. The floats of a frame are those nearest to the exact values. An interrupt
