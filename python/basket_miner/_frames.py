@@ -1,5 +1,6 @@
 """Baskets from data frames with a row for each item, and from sparse matrices; columns by their names."""
 
+import contextlib
 from collections.abc import Hashable, Iterable
 from dataclasses import dataclass
 from typing import Any
@@ -86,12 +87,22 @@ def matrix(values: Any, names: Labels | None) -> Baskets:
         rows.sum_duplicates()
     labels: Labels = range(rows.shape[1])
     if names is not None:
-        labels = distinct(list(names), "name")
+        labels = distinct(_names(names), "name")
     if len(labels) != rows.shape[1]:
         raise DataError(f"{len(labels)} names for {rows.shape[1]} columns")
     is_in = ones(rows.data, "the matrix")
     places = np.repeat(np.arange(rows.shape[0]), np.diff(rows.indptr))
     return baskets_of(places[is_in], rows.indices[is_in], labels)
+
+
+def _names(given: Any) -> list[Hashable]:
+    """The names of columns, or `DataError` where they have no order, or are none."""
+    if not isinstance(given, (str, bytes, set, frozenset)):
+        with contextlib.suppress(TypeError):
+            return list(given)
+    raise DataError(
+        f"names= are the labels of the columns in their order, as a list, not {type(given).__name__}"
+    )
 
 
 def column_of(frame: pd.DataFrame, name: Hashable) -> pd.Series:

@@ -1,7 +1,9 @@
 """Numbers for the values of a column."""
 
-from collections.abc import Hashable
+from collections.abc import Hashable, Iterable
 from types import SimpleNamespace
+
+from typing import Any
 
 import numpy as np
 import pandas as pd
@@ -72,6 +74,22 @@ def addresses(values: Array) -> Array:
     del interface["descr"]
     # The objects stay as long as the array of their addresses does.
     return np.asarray(SimpleNamespace(__array_interface__=interface, kept=values))
+
+
+def in_order(labels: Iterable[Hashable]) -> list[Any]:
+    """The labels of a set in ascending order, or that of their texts where they can't be compared.
+
+    That in which Python goes through a set of texts differs from process to process.
+    """
+    try:
+        return sorted(labels)  # type: ignore[type-var]
+    except TypeError:
+        return by_text(labels)
+
+
+def by_text(labels: Iterable[Hashable]) -> list[Any]:
+    """Labels in the order of their texts; a number comes before the text that it prints."""
+    return sorted(labels, key=lambda label: (str(label), isinstance(label, str)))
 
 
 def is_missing(label: object) -> bool:

@@ -1,6 +1,7 @@
 """Offers by rules."""
 
 import itertools
+import numbers
 import operator
 import os
 from collections import Counter, defaultdict
@@ -19,7 +20,7 @@ from ._given_sets import itemsets_of
 from ._lists import each
 from ._measures import measures
 from ._minimum import whole_of
-from ._numbering import numbered
+from ._numbering import by_text, numbered
 from ._ranks import FIGURES, best_first
 from ._rule_counts import RuleCounts, counts_of
 from ._tables import frame_of, is_table
@@ -97,6 +98,8 @@ class Recommender:
             if items not in known:
                 known[items] = self._index.offers(items, most)
             rows += [(name, *offer) for offer in known[items]]
+        if not rows:
+            self._index.refuse_other_types(set().union(*known))
         places = self._order[np.array([rank for *_, rank in rows], dtype=np.intp)]
         found = {
             "basket": labels_column([name for name, _, _ in rows]),
@@ -128,6 +131,7 @@ class _Index:
         left, right = (
             itemsets_of(rules, name) for name in ("antecedents", "consequents")
         )
+        self._sides = left, right
         self._consequents = [right[place] for place in order]
         ranks: dict[frozenset[Any], list[int]] = defaultdict(list)
         for rank, place in enumerate(order):
@@ -141,6 +145,19 @@ class _Index:
                 rarest = min(items, key=frequencies.__getitem__)
                 self._by_item[rarest].append((items, found))
 
+    def refuse_other_types(self, items: set[Any]) -> None:
+        """Raises `DataError` if no item can be in a rule, since the rules' items are of other types."""
+        known = set().union(*itertools.chain.from_iterable(self._sides))
+        types, own = (
+            {_kind(label): label for label in by_text(side)} for side in (known, items)
+        )
+        if types and own and not {*types} & {*own}:
+            labels = [next(iter(side.values())) for side in (types, own)]
+            told = [f"{type(label).__name__}, as {label!r}" for label in labels]
+            raise DataError(
+                f"no item of the baskets is in a rule: the rules have {told[0]}, the baskets {told[1]}"
+            )
+
     def offers(self, items: frozenset[Any], top: int) -> list[tuple[Any, int]]:
         """The first items to offer to a basket, each with the rank of its rule."""
         speaking = [
@@ -153,11 +170,18 @@ class _Index:
         for rank in sorted(itertools.chain.from_iterable(speaking)):
             consequents = self._consequents[rank]
             if consequents.isdisjoint(items):
-                for label in sorted(consequents, key=str):
+                for label in by_text(consequents):
                     offers.setdefault(label, rank)
                 if len(offers) >= top:
                     break
         return [*offers.items()][:top]
+
+
+def _kind(label: Hashable) -> type:
+    """The type of a label; one for all numbers, and one for all texts, which may be equal."""
+    plain: Any = label.item() if isinstance(label, np.generic) else label
+    kinds: tuple[type, ...] = (str, numbers.Number)
+    return next((kind for kind in kinds if isinstance(plain, kind)), type(plain))
 
 
 def _baskets(

@@ -13,7 +13,7 @@ import numpy as np
 from ._baskets import Array
 from ._errors import DataError
 from ._lists import each
-from ._numbering import is_missing
+from ._numbering import in_order, is_missing
 
 
 class TransactionEncoder:
@@ -34,10 +34,7 @@ class TransactionEncoder:
             raise DataError(f"an item has a hash: {fault}") from fault
         if any(map(is_missing, found)):
             raise DataError("a transaction has a missing item")
-        try:
-            self.columns_ = sorted(found)
-        except TypeError:
-            self.columns_ = sorted(found, key=str)
+        self.columns_ = in_order(found)
         self.columns_mapping_ = {item: at for at, item in enumerate(self.columns_)}
         return self
 

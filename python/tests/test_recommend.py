@@ -171,6 +171,24 @@ def test_no_rule_and_no_basket_make_no_offer() -> None:
         assert list(offers.columns) == COLUMNS and offers.empty
 
 
+def test_items_of_another_type_than_the_rules_have_are_refused() -> None:
+    learnt = rules([["101", "102"], ["102"]], 1, 0.1)
+    till = pd.DataFrame({"r": [1], "p": [101]})
+    said = "the rules have str, as '102', the baskets int, as 101"
+    with pytest.raises(DataError, match=said):
+        recommend(learnt, till, basket="r", item="p")
+    wide = pd.DataFrame({101: [True], 102: [False]})
+    for given in (till.assign(r=1.5), wide, [[101], []], [[101, 5.0]]):
+        columns: Any = {"basket": "r", "item": "p"} if "p" in given else {}
+        with pytest.raises(DataError, match="the rules have str"):
+            recommend(learnt, given, **columns)
+    with pytest.raises(DataError, match="the rules have int, as 2, the baskets str"):
+        recommend(rules([[1, 2]], 1, 0.1), [["1"]])
+    # Here an item may be in a rule, or some are.
+    assert recommend(rules([[1, 2]], 1, 0.1), [[np.int64(7)], [2.5]]).empty
+    assert recommend(learnt, [["103"]]).empty and len(recommend(learnt, [["101", 5]]))
+
+
 @pytest.mark.parametrize(
     ("said", "call"),
     [
