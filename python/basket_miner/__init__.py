@@ -14,7 +14,7 @@ in the order of its report. All take the baskets as one of these:
 - a matrix of `scipy.sparse` with a row for each basket; `names=` are the labels of its columns;
 - the path of a file: `form=` "fimi", or of CSV "baskets" (a record is a basket) or "single" (a
   record is a basket's id and an item), with `sep=`, `header=` and `weighted=` (a record begins
-  with its weight) as the program has them. A pipe or `/dev/stdin` is copied into a temporary file;
+  with its weight) as the program has them. A pipe or `/dev/stdin` is copied into memory;
 - what `baskets` returns of one of these, for many questions.
 
 Labels come back as they were given; those of a FIMI file are `int`, those of CSV `str`. What looks

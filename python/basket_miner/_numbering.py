@@ -82,7 +82,7 @@ def in_order(labels: Iterable[Hashable]) -> list[Any]:
     That in which Python goes through a set of texts differs from process to process.
     """
     try:
-        return sorted(labels)  # type: ignore[type-var]
+        return sorted(labels)
     except TypeError:
         return by_text(labels)
 

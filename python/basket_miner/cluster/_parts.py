@@ -17,6 +17,7 @@ from distributed import Client, Future
 from .._baskets import Labels
 from .._data import SEPARATOR_WORDS, read
 from .._errors import DataError
+from .._files import refuse_foreign_file
 from .._frames import place_of
 from .._keywords import Layout, PartLayout, changed, filled
 from ._labels import Numbering, joined, unpacked
@@ -134,6 +135,7 @@ def _files(names: list[Any], layout: Layout) -> Parts:
         is_plain = os.path.isfile(file) or os.path.isdir(file)
         if os.path.exists(file) and not is_plain:
             raise DataError(f"{file} is no file that can be read several times")
+        refuse_foreign_file(file, file)
     return Parts(files, words=read_so[0].words, separator=read_so[0].separator)
 
 
