@@ -3,7 +3,7 @@
 `items`, `sets`, `closed`, `maximal`, `rules` and `count` run the program and return data frames
 in the order of its report. All take the baskets as one of these:
 
-- a data frame with a row for each item of a basket: `basket=` and `item=` name its columns,
+- a data frame with a row for each item of a basket: `basket=` (also a list) and `item=` name its columns,
   and `weight=` one with the weight of the row's basket, if there is one. Rows may stand in
   any order, and repeated rows count once;
 - a data frame with a row for each basket and a column of true and false (or 1 and 0, also

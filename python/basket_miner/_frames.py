@@ -10,7 +10,8 @@ import pandas as pd
 
 from ._baskets import Array, Baskets, Labels, baskets_of, checked_weights, grouped
 from ._errors import DataError
-from ._numbering import is_missing, numbered
+from ._keywords import Key
+from ._numbering import is_missing, numbered, together
 
 # What may help, after a fault. The calls of mlxtend have no such keywords.
 DROP_HINT = '; missing="drop" leaves them out'
@@ -49,27 +50,38 @@ def long_frame(rows: Rows) -> Baskets:
 
 def long_rows(
     frame: pd.DataFrame,
-    basket: Hashable,
+    basket: Key,
     item: Hashable,
     weight: Hashable | None,
     drop: bool,
 ) -> Rows:
     """The rows of a frame with a row for each item of a basket."""
-    names = [basket, item] if weight is None else [basket, item, weight]
-    columns = [column_of(frame, name) for name in names]
-    places, ids = numbered(columns[0], basket)
-    numbers, items = numbered(columns[1], item)
-    are_there = [places >= 0, numbers >= 0]
-    are_there += [there(column) for column in columns[2:]]
+    names = [*columns_of_key(basket), item]
+    numbering = [numbered(column_of(frame, name), name) for name in names]
+    are_there = [numbers >= 0 for numbers, _ in numbering]
+    if weight is not None:
+        names.append(weight)
+        are_there.append(there(column_of(frame, weight)))
     refuse_gaps(are_there, names, drop)
     if not all(is_there.all() for is_there in are_there):
         kept = frame[np.logical_and.reduce(are_there)]
         return long_rows(kept, basket, item, weight, drop)
+    *keys, (numbers, items) = numbering
+    places, ids = together(keys)
     weights = None
     if weight is not None:
-        values = checked_weights(plain(columns[2]))
+        values = checked_weights(plain(column_of(frame, weight)))
         weights = weights_by_place(places, values, f"column {weight!r}")
     return Rows(places, ids, numbers, items.tolist(), weights)
+
+
+def columns_of_key(basket: Key) -> list[Hashable]:
+    """The columns whose values are a basket's id."""
+    if basket == []:
+        raise DataError(
+            "basket= is a column, or a list of columns, and not an empty one"
+        )
+    return list(basket) if isinstance(basket, list) else [basket]
 
 
 def without_drop(fault: DataError, hint: str) -> DataError:

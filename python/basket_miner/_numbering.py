@@ -1,6 +1,6 @@
 """Numbers for the values of a column."""
 
-from collections.abc import Hashable, Iterable
+from collections.abc import Hashable, Iterable, Sequence
 from types import SimpleNamespace
 
 from typing import Any
@@ -39,6 +39,29 @@ def numbered(column: pd.Series, name: Hashable) -> tuple[Array, pd.Index | Array
     return numbers, values
 
 
+def together(
+    columns: Sequence[tuple[Array, pd.Index | Array]]
+) -> tuple[Array, pd.Index | Array]:
+    """For each row the number of its values in several numbered columns, and the tuples of these
+    values by number. One column stays as it is."""
+    if len(columns) == 1:
+        return columns[0]
+    places = columns[0][0]
+    for numbers, values in columns[1:]:
+        places, found = pd.factorize(places * len(values) + numbers)
+    rows = _first_rows(places, len(found))
+    parts = [values.take(numbers[rows]).tolist() for numbers, values in columns]
+    return places, pd.Index([*zip(*parts)], dtype=object, tupleize_cols=False)
+
+
+def _first_rows(places: Array, size: int) -> Array:
+    """The row in which each number stands first."""
+    rows = np.empty(size, dtype=np.intp)
+    # The first row comes last here, and stays.
+    rows[places[::-1]] = np.arange(len(places) - 1, -1, -1)
+    return rows
+
+
 def _of_numbers(given: Array) -> tuple[Array, Array]:
     if not len(given) or (given[1:] < given[:-1]).any():
         numbers, values = pd.factorize(given)
@@ -59,10 +82,7 @@ def _of_objects(given: Array, name: Hashable) -> tuple[Array, Array]:
         _refuse_zero_bytes(given, numbers, values, name)
         return numbers, values
     places, at = pd.factorize(addresses(given))
-    firsts = np.empty(len(at), dtype=np.intp)
-    # The first row comes last here, and stays.
-    firsts[places[::-1]] = np.arange(len(given) - 1, -1, -1)
-    objects = given[firsts]
+    objects = given[_first_rows(places, len(at))]
     numbers, values = pd.factorize(objects)
     _refuse_zero_bytes(objects, numbers, values, name)
     return numbers[places], values

@@ -15,12 +15,13 @@ from ._baskets import Array, Baskets
 from ._columns import fractions_of, labels_column
 from ._data import Data
 from ._errors import DataError
-from ._frames import column_of, without_drop
+from ._frames import column_of, columns_of_key, without_drop
 from ._given_sets import itemsets_of
 from ._lists import each
+from ._keywords import Key
 from ._measures import measures
 from ._minimum import whole_of
-from ._numbering import by_text, numbered
+from ._numbering import by_text, numbered, together
 from ._ranks import FIGURES, best_first
 from ._rule_counts import RuleCounts, counts_of
 from ._tables import frame_of, is_table
@@ -36,7 +37,7 @@ def recommend(
     top: int = 5,
     by: Figure = "lift",
     *,
-    basket: Hashable | None = None,
+    basket: Key | None = None,
     item: Hashable | None = None,
     exact: bool = False,
 ) -> pd.DataFrame:
@@ -85,7 +86,7 @@ class Recommender:
         baskets: Data,
         top: int = 5,
         *,
-        basket: Hashable | None = None,
+        basket: Key | None = None,
         item: Hashable | None = None,
         exact: bool = False,
     ) -> pd.DataFrame:
@@ -185,7 +186,7 @@ def _kind(label: Hashable) -> type:
 
 
 def _baskets(
-    data: Data, basket: Hashable | None, item: Hashable | None
+    data: Data, basket: Key | None, item: Hashable | None
 ) -> Iterator[tuple[Hashable, frozenset[Any]]]:
     """The baskets with their names."""
     if is_table(data):
@@ -224,13 +225,14 @@ def _wide(frame: pd.DataFrame) -> Iterator[tuple[Hashable, frozenset[Any]]]:
 
 
 def _long(
-    frame: pd.DataFrame, basket: Hashable, item: Hashable
+    frame: pd.DataFrame, basket: Key, item: Hashable
 ) -> Iterator[tuple[Hashable, frozenset[Any]]]:
-    columns = [column_of(frame, name) for name in (basket, item)]
-    if any(column.isna().any() for column in columns):
-        raise DataError(f"columns {basket!r} and {item!r} have missing values")
-    places, names = numbered(columns[0], basket)
-    numbers, labels = numbered(columns[1], item)
+    keys = [*columns_of_key(basket), item]
+    if any(column_of(frame, name).isna().any() for name in keys):
+        told = " and ".join(map(repr, keys))
+        raise DataError(f"columns {told} have missing values")
+    *parts, (numbers, labels) = (numbered(column_of(frame, key), key) for key in keys)
+    places, names = together(parts)
     items: list[list[Any]] = [[] for _ in names]
     for place, label in zip(places.tolist(), map(labels.tolist().__getitem__, numbers)):
         items[place].append(label)

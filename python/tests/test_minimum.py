@@ -53,8 +53,8 @@ def test_an_int_is_a_count_and_a_fraction_a_share() -> None:
 
 
 def test_zero_and_one_are_shares_as_a_confidence() -> None:
-    words = [confidence_word(given) for given in (0, 1, "0", "1")]
-    assert words == ["0/1", "1/1"] * 2
+    wholes: list[Any] = [0, 1, "0", "1"]
+    assert [*map(confidence_word, wholes)] == ["0/1", "1/1"] * 2
 
 
 @pytest.mark.parametrize(

@@ -124,6 +124,20 @@ def test_all_forms_of_baskets_get_the_same_offers() -> None:
         pd.testing.assert_frame_equal(found, wanted)
 
 
+def test_offers_to_baskets_of_several_columns_have_their_values() -> None:
+    shop = pd.DataFrame(
+        {"store": ["a", "b", "b"], "r": [1, 1, 1], "p": ["tea", "tea", "milk"]}
+    )
+    found = recommend(SHOP, shop, 1, basket=["store", "r"], item="p")
+    # Who has tea gets milk; who has both gets butter, of the rule of tea and milk.
+    assert found[["basket", "item"]].to_numpy().tolist() == [
+        [("a", 1), "milk"],
+        [("b", 1), "butter"],
+    ]
+    with pytest.raises(DataError, match="'store' and 'r' and 'p' have missing values"):
+        recommend(SHOP, shop.replace("a", None), basket=["store", "r"], item="p")
+
+
 @pytest.mark.parametrize("labels", [["x", "y"], [("x", 1), ("y", 2)], [7, 7]], ids=str)
 def test_offers_to_a_series_have_the_labels_of_its_index(labels: list[Any]) -> None:
     index = pd.Index(labels, tupleize_cols=labels[0] == ("x", 1))

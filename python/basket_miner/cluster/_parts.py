@@ -18,7 +18,7 @@ from .._baskets import Labels
 from .._data import SEPARATOR_WORDS, read
 from .._errors import DataError
 from .._files import refuse_foreign_file
-from .._frames import place_of
+from .._frames import columns_of_key, place_of
 from .._keywords import Layout, PartLayout, changed, filled
 from ._labels import Numbering, joined, unpacked
 from ._tasks import awaited, tree
@@ -208,7 +208,7 @@ def _columns(layout: Layout) -> list[Hashable]:
     if layout["basket"] is None or layout["item"] is None:
         raise DataError("a frame with a row for each item needs both basket= and item=")
     weight = [] if layout["weight"] is None else [layout["weight"]]
-    return [layout["basket"], layout["item"], *weight]
+    return [*columns_of_key(layout["basket"]), layout["item"], *weight]
 
 
 def _all_labels(parts: list[Future], client: Client, waiting: _Waiting) -> bytes:
