@@ -43,7 +43,7 @@ def words_of(options: Mapping[str, object]) -> list[str]:
     if work["miner"] not in (None, *get_args(Miner)):
         miners = ", ".join(get_args(Miner))
         raise UsageError(f"miner is one of {miners}, not {work['miner']!r}")
-    words = [f"--workers={work['workers']}"]
+    words = [f"--workers={work['workers'] or 1}"]
     words += [] if work["miner"] is None else [f"--miner={work['miner']}"]
     words += [] if work["limit"] is None else [f"--limit={work['limit']}"]
     return words

@@ -100,7 +100,9 @@ class Run(TypedDict, total=False):
     timeout: Annotated[
         float | None,
         Keyword(
-            None, "after so many seconds the program is ended, and TimedOut raised."
+            None,
+            "after so many seconds the program is ended, and TimedOut raised; lists and frames are "
+            "read to their end first.",
         ),
     ]
 

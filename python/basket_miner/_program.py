@@ -45,19 +45,25 @@ def find() -> Path:
         ProgramMissing: there is none of a version that fits, or `BASKET` names none.
     """
     if named := os.environ.get("BASKET"):
-        if not (found := shutil.which(named)):
+        if not (found := _found(named)):
             raise ProgramMissing(f"BASKET names no program: {named}; {_HOW_TO_GET_IT}")
         if fault := _fault_of(found):
             raise ProgramMissing(f"{fault}; {_HOW_TO_GET_IT}")
         return Path(found)
     faults = []
     for place in (str(_PACKAGE / "bin/basket"), "basket", str(_BUILT), *_KEPT):
-        if found := shutil.which(place):
+        if found := _found(place):
             if not (fault := _fault_of(found)):
                 return Path(found)
             faults.append(fault)
     said = "; ".join(faults) or "the program basket is not here"
     raise ProgramMissing(f"{said}; {_HOW_TO_GET_IT}")
+
+
+def _found(name: str) -> str | None:
+    """The file of a path, or of a program on the path, of which parts that begin at the current folder are left out."""
+    folders = os.environ.get("PATH", os.defpath).split(os.pathsep)
+    return shutil.which(name, path=os.pathsep.join(filter(os.path.isabs, folders)))
 
 
 def keep(content: bytes, folder: str) -> None:
@@ -100,7 +106,7 @@ def _guard() -> tuple[str, ...]:
     The system does so when the thread that began the command ends. The thread waits for the
     command, so that is not too early. Without util-linux's setpriv there are no such words.
     """
-    if not (found := shutil.which("setpriv")):
+    if not (found := _found("setpriv")):
         return ()
     words = (found, "--pdeathsig", "KILL", "--")
     tried = subprocess.run(

@@ -11,6 +11,10 @@ from typing import Any, Unpack
 
 import numpy as np
 import pandas as pd
+
+from ._extras import demand_package
+
+demand_package("matplotlib", "plot")
 from matplotlib.axes import Axes
 from matplotlib.lines import Line2D
 

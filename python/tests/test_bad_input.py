@@ -144,6 +144,12 @@ def test_words_of_the_work_are_refused_as_python_has_them(
     assert not hasattr(caught.value, "__notes__")
 
 
+def test_nothing_for_the_number_of_workers_is_its_default() -> None:
+    given: Any = {"workers": None}
+    assert len(miner.sets([["tea"]], 1, **given)) == 1
+    assert len(miner.count([["tea"]], [["tea"]], **given)) == 2
+
+
 def test_columns_that_are_missing_or_stand_twice_are_refused() -> None:
     refused("no column 'basket'", ROWS, basket="basket", item="product")
     twice = pd.concat([ROWS, ROWS[["product"]]], axis=1)

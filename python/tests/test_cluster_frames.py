@@ -100,6 +100,20 @@ def test_labels_that_are_not_equal_to_their_copies_come_back(client: Client) -> 
         assert sizes == [[str(gap)], ["tea"], [str(gap), "tea"]]
 
 
+def test_a_label_that_one_part_has_twice_has_the_number_of_the_first(
+    client: Client,
+) -> None:
+    # On their way to a worker the tuples of two baskets become two, which are not equal.
+    gap = ("a", np.nan)
+    shop: list[list[Any]] = [[gap, "tea"], [gap], ["tea", "milk"], [gap]]
+    bag = from_sequence(shop, npartitions=1)
+    found, wanted = cluster.sets(bag, 1, client=client), basket_miner.sets(shop, 1)
+    assert rows_of(found)[0][1] == 3
+    for frame in (found, wanted):
+        frame["itemsets"] = frame["itemsets"].map(lambda it: sorted(map(str, it)))
+    assert rows_of(found) == rows_of(wanted)
+
+
 @pytest.mark.parametrize(
     "labels",
     [

@@ -214,7 +214,9 @@ def _columns(layout: Layout) -> list[Hashable]:
 def _all_labels(parts: list[Future], client: Client, waiting: _Waiting) -> bytes:
     """All of the labels of parts, packed, by first appearance over the parts in their order."""
     submit = partial(client.submit, pure=False)
-    content: bytes = waiting.result(tree(submit, joined, parts))
+    # One part may have a label twice too, where it has copies of one that is not equal to them.
+    one = parts if len(parts) > 1 else [submit(joined, *parts)]
+    content: bytes = waiting.result(tree(submit, joined, one))
     return content
 
 
