@@ -77,11 +77,13 @@ def long_rows(
 
 def columns_of_key(basket: Key) -> list[Hashable]:
     """The columns whose values are a basket's id."""
-    if basket == []:
+    if not isinstance(basket, list):
+        return [basket]
+    if not basket:
         raise DataError(
-            "basket= is a column, or a list of columns, and not an empty one"
+            "basket= is a column or a list of columns, and this list is empty"
         )
-    return list(basket) if isinstance(basket, list) else [basket]
+    return basket
 
 
 def without_drop(fault: DataError, hint: str) -> DataError:

@@ -263,5 +263,5 @@ def test_gaps_in_an_id_of_several_columns_are_refused_or_dropped() -> None:
         with pytest.raises(miner.DataError, match=said):
             miner.sets(given, 1, **options)
     assert pairs(miner.sets(frame, 1, missing="drop", **options)) == [({"tea"}, 1)]
-    with pytest.raises(miner.DataError, match="not an empty one"):
+    with pytest.raises(miner.DataError, match="this list is empty"):
         miner.sets(frame, 1, basket=[], item="p")
