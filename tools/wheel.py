@@ -67,6 +67,7 @@ def copy_package(folder: Path) -> None:
         shutil.copy(PACKAGE / name, folder)
     for name in LICENCES:
         shutil.copy(name, folder)
+    shutil.copytree(PACKAGE / "command", folder / "command")
     shutil.copytree(
         PACKAGE / "basket_miner",
         folder / "basket_miner",

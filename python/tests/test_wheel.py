@@ -77,6 +77,28 @@ def test_a_wheel_has_the_program_and_needs_nothing_of_the_repository(
     assert said == "<title>basket</title>\n"
 
 
+def test_a_wheel_brings_the_command_which_is_the_program(
+    wheel: Path, tmp_path: Path
+) -> None:
+    python = fresh(tmp_path / "fresh")
+    output_of(python, *PIP, wheel, folder=tmp_path)
+    command = python.with_name("basket")
+    assert output_of(command, "--version", folder=tmp_path) == f"basket {__version__}\n"
+    shop = tmp_path / "shop.dat"
+    shop.write_text("1 2\n1\n")
+    assert output_of(command, "sets", "--min=2", shop, folder=tmp_path) == "1 (2)\n"
+    words = [str(command), "sets", "--min=2", "/nowhere"]
+    ended = subprocess.run(words, capture_output=True, text=True, check=False)
+    assert ended.returncode == 4
+    assert ended.stderr.startswith("basket: cannot open /nowhere: ")
+    # Packages take a second to be imported, and the command needs none.
+    imported = "import sys; sys.argv[1:] = ['help']; import os; os.execv = print"
+    script = f"{imported}; exec(open({str(command)!r}).read()); print('pandas' in sys.modules)"
+    said = output_of(python, "-c", script, folder=tmp_path).splitlines()
+    assert said[0].endswith("basket_miner/bin/basket ['basket', 'help']")
+    assert said[1] == "False"
+
+
 def test_sources_have_no_page_and_say_who_has() -> None:
     with pytest.raises(FileError, match="make wheel"):
         page()
@@ -105,6 +127,8 @@ def test_pip_installs_the_package_beside_a_program(tmp_path: Path) -> None:
     program = str(_program.find().resolve())
     said = output_of(python, "-c", script, folder=tmp_path, program=program)
     assert said.splitlines() == [program, "[1.0]", __version__, "True", "sets"]
+    # A command without a program would hide another that is on the path.
+    assert not python.with_name("basket").exists()
 
 
 def test_the_package_has_the_version_of_the_program(wheel: Path) -> None:
