@@ -3,9 +3,9 @@
 `items`, `sets`, `closed`, `maximal`, `rules` and `count` run the program and return data frames
 in the order of its report. All take the baskets as one of these:
 
-- a data frame with a row for each item of a basket: `basket=` (also a list) and `item=` name its columns,
-  and `weight=` one with the weight of the row's basket, if there is one. Rows may stand in
-  any order, and repeated rows count once;
+- a data frame with a row for each item of a basket: `basket=` and `item=` name its columns (`basket=`
+  also several, as a list), and `weight=` one with the weight of the row's basket, if there is one.
+  Rows may stand in any order, and repeated rows count once;
 - a data frame with a row for each basket and a column of true and false (or 1 and 0, also
   sparse) for each item; `weight=` names a column that is no item;
 - a table of another package as one of these frames: what has `to_pandas` (Polars, Arrow), `to_df`
@@ -18,12 +18,13 @@ in the order of its report. All take the baskets as one of these:
 - what `baskets` returns of one of these, for many questions.
 
 Labels come back as they were given; those of a FIMI file are `int`, those of CSV `str`. What looks
-like a table is refused as a list of baskets (records, named tuples, lists of 0 and 1), and rows of
-two fields bring a warning. A weight is a whole number from 1 to 4,294,967,295, and stands for that many equal baskets. Missing values
-are refused (`DataError`), and with `missing="drop"` left out. A basket without an item counts in no
-support and no share; `baskets(data, total=..)` counts such baskets too. Rows of a frame are in
-the order of the program's report, where items are numbered by their first appearance, or by the
-places of their columns.
+like a table is refused as a list of baskets (records, named tuples, rows with names, lists of 0 and
+1), and baskets of one size that look like rows of a table bring a warning. A weight is a whole number
+from 1 to 4,294,967,295, and stands for that many equal baskets. Missing values are refused
+(`DataError`), and with `missing="drop"` left out. A basket without an item counts in no support and
+no share; `baskets(data, total=..)` counts such baskets too. Rows of a frame are in the order of the
+program's report, where items are numbered by their first appearance, those of a set in ascending
+order, or by the places of their columns.
 
 `minimum`, the least support, is a count of baskets as an `int` from 1 on, or a share of all
 baskets: a `float` or a `decimal.Decimal` from 0 to 1, which means the decimal that it prints (0.005

@@ -114,6 +114,10 @@ def _refuse_no_path(path: str | os.PathLike[str]) -> None:
         )
     if "\0" in os.fspath(path):
         raise DataError("a path has no zero byte")
+    try:
+        os.fsencode(path)
+    except UnicodeEncodeError as fault:
+        raise DataError(f"a path can't have this character: {fault}") from fault
     if "\n" in os.fspath(path):
         raise DataError(
             f"a path of a file is given, and {os.fspath(path)[:30]!r}.. is text of several lines: "

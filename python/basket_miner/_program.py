@@ -14,7 +14,7 @@ from pathlib import Path
 
 from ._baskets import Source
 from ._ending import endable
-from ._errors import ProgramMissing, TimedOut, error_of
+from ._errors import ProgramMissing, TimedOut, UsageError, error_of
 from ._files import in_memory
 from ._version import __version__
 
@@ -190,6 +190,9 @@ def _started(
     except OSError as fault:
         said = f"{command[0]} does not run: {fault}; {_HOW_TO_GET_IT}"
         raise ProgramMissing(said) from fault
+    except ValueError as fault:
+        # A zero byte, or half of a character.
+        raise UsageError(f"a word can't be that of a command line: {fault}") from fault
 
 
 def _wait(

@@ -131,6 +131,8 @@ def minimums(
             was made at a higher minimum, which it has as `frame.attrs["minimum"]`, a count.
         BasketError: as `basket_miner.sets` does.
     """
+    if not isinstance(minimums, Iterable):
+        raise DataError(f"minimums are several, as a list, not {minimums!r}")
     asked = sorted({exact_minimum(minimum) for minimum in minimums})
     if len({type(minimum) for minimum in asked}) != 1:
         raise DataError("minimums are counts alone or shares alone, and at least one")

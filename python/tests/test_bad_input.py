@@ -1,12 +1,6 @@
 """What is refused, with the exception's type and what it says."""
 
-import contextlib
-import gzip
 import io
-import lzma
-import sqlite3
-import subprocess
-import warnings
 from collections.abc import Callable, Iterator
 from pathlib import Path
 from typing import Any
@@ -81,36 +75,6 @@ def test_a_matrix_that_names_a_place_twice_is_refused() -> None:
     refused("other than 0 and 1", scipy.sparse.coo_matrix((ones, places)))
     refused("2 names for 1 columns", scipy.sparse.eye(1), names=["a", "b"])
     refused("name 'a' stands twice", scipy.sparse.eye(2), names=["a", "a"])
-
-
-KINDS = {
-    "a Parquet file: read it by pandas.read_parquet": b"PAR1\x15\x04\x15\x00PAR1",
-    "a zip file, as Excel's .* by pandas.read_excel": b"PK\x03\x04\x14\x00\x06\x00",
-    "a workbook of an old Excel": b"\xD0\xCF\x11\xE0\xA1\xB1\x1A\xE1\x00",
-    "a database of SQLite: .* pandas.read_sql": b"SQLite format 3\x00\x10\x00",
-    "compressed by gzip: unpack it": gzip.compress(b"1 2\n"),
-    "compressed by xz: unpack it": lzma.compress(b"1 2\n"),
-    'text in UTF-16: .* encoding="utf-16"': "1 2\n".encode("utf-16"),
-}
-
-
-@pytest.mark.parametrize("said", KINDS)
-@pytest.mark.parametrize("form", ["fimi", "single"])
-def test_a_file_of_another_kind_is_named_with_what_reads_it(
-    said: str, form: Any, tmp_path: Path
-) -> None:
-    path = tmp_path / "shop"
-    path.write_bytes(KINDS[said])
-    refused(f"{path} is {said}", path, form=form)
-    with subprocess.Popen(["cat", path], stdout=subprocess.PIPE) as made:
-        assert made.stdout
-        refused(f"is {said}", f"/dev/fd/{made.stdout.fileno()}", form=form)
-
-
-def test_names_that_begin_as_a_parquet_file_are_mined(tmp_path: Path) -> None:
-    path = tmp_path / "shop.csv"
-    path.write_bytes(b"PAR1,tea\nPAR1\n")
-    assert miner.sets(path, 2, form="baskets")["itemsets"].tolist() == [{"PAR1"}]
 
 
 @pytest.mark.parametrize("names", [{"a", "b"}, frozenset("ab"), "ab", 5])
@@ -244,91 +208,6 @@ def test_what_is_no_iterable_of_baskets_is_refused(said: str, data: object) -> N
     refused(said, data)
 
 
-@pytest.mark.parametrize("kind", [tuple, list])
-def test_rows_of_an_id_and_an_item_bring_a_warning(kind: Callable[..., Any]) -> None:
-    rows = [*map(kind, [(1, "tea"), (1, "jam"), (2, "tea")])]
-    with pytest.warns(UserWarning, match=r"as \[1, 'tea'\], .* basket= and item="):
-        miner.sets(rows, 1)
-
-
-@pytest.mark.parametrize(
-    "rows",
-    [
-        [(1, "a", 2), (1, "b", 1)],
-        [("r1", "a", "2020"), ("r1", "b", "2020"), ("r2", "a", "2021")],
-        [*pd.DataFrame({"r": [7, 8], "p": ["a", "b"]}).itertuples(name=None)],
-    ],
-    ids=str,
-)
-def test_rows_of_more_columns_bring_a_warning(rows: Any) -> None:
-    with pytest.warns(UserWarning, match="looks like a row of a table: .* item="):
-        miner.sets(rows, 1)
-
-
-def test_a_warning_names_the_line_that_called() -> None:
-    rows = [(1, "tea"), (1, "jam"), (2, "tea")]
-    calls: list[Callable[[], Any]] = [
-        lambda: miner.sets(rows, 1),
-        lambda: miner.rules(rows, 1, 0.5),
-        lambda: miner.baskets(rows),
-        lambda: miner.sets(rows, 1, max_items=1),
-    ]
-    for call in calls:
-        with pytest.warns(UserWarning) as caught:
-            call()
-        place = call.__code__.co_filename, call.__code__.co_firstlineno
-        assert [(told.filename, told.lineno) for told in caught] == [place]
-
-
-@pytest.mark.parametrize(
-    "baskets",
-    [
-        [["tea", "jam"]],
-        [["tea", "jam"], ["jam", "tea"]],
-        [[0, 1], [1, 0]],
-        [[0], [1]],
-        [["tea", "jam", 5], ["jam", "tea", "milk"]],
-        [["tea", "jam", "milk"], ["tea", "jam"], [1, 2]],
-    ],
-)
-def test_baskets_of_some_items_bring_none(baskets: Any) -> None:
-    with warnings.catch_warnings():
-        warnings.simplefilter("error")
-        assert len(miner.sets(baskets, 1)) > 1
-
-
-def test_rows_that_a_database_returns_are_refused() -> None:
-    with contextlib.closing(sqlite3.connect(":memory:")) as till:
-        till.execute("create table sale (receipt, product)")
-        till.executemany("insert into sale values (?, ?)", [(1, "tea"), (2, "jam")])
-        refused("Cursor is not .*pandas.read_sql", till.execute("select * from sale"))
-        till.row_factory = sqlite3.Row
-        rows = till.execute("select * from sale").fetchall()
-        refused("not the row .* of a table; a table is given as", rows)
-    assert len(miner.sets([pd.Series(["tea", "jam"])], 1)) == 3
-
-
-@pytest.mark.parametrize(
-    ("said", "data"),
-    [
-        (r"\.values\(\); a table is given as", {1: ["a"]}),
-        (r"split first: \[text\.split\(','\) for", ["a,b"]),
-        (r"split first: \.str\.split\(';'\)", pd.Series(["a;b", "c"])),
-        ("put together in one, or given to basket_miner.cluster", [__file__]),
-        ("put together in one, or given to basket_miner.cluster", [Path("a"), "b"]),
-        ("by pandas.concat", pd.read_csv(io.StringIO("a,b\n1,2"), chunksize=1)),
-    ],
-)
-def test_what_is_near_to_baskets_says_what_to_write(said: str, data: Any) -> None:
-    refused(said, data)
-
-
-def test_files_and_chunks_with_names_of_columns_say_what_to_give() -> None:
-    for data in (pd.read_csv(io.StringIO("a,b"), chunksize=1), [ROWS, ROWS]):
-        refused("given as one frame, by pandas.concat", data, **LONG)
-    refused("a file is given by its path", io.BytesIO(b"a,b"), form="baskets")
-
-
 def test_items_without_a_hash_are_refused() -> None:
     rows = pd.DataFrame({"receipt": [1], "product": [["tea", "jam"]]})
     refused("'product' has values without a hash", rows, **LONG)
@@ -363,6 +242,7 @@ def test_keywords_that_do_not_fit_are_refused(said: str, options: Any) -> None:
         ("weighted= does not go", "shop.csv", {"form": "single", "weighted": True}),
         ("item= does not go with a path", "shop.dat", {"item": "product"}),
         ("zero byte", "shop\0.dat", {}),
+        ("can't have this character", "\ud800.dat", {}),
     ],
 )
 def test_words_of_a_path_that_do_not_fit_are_refused(
@@ -397,6 +277,8 @@ def test_a_home_folder_that_nobody_has_is_a_file_that_is_not_there() -> None:
         (lambda _: miner.sets("none.dat", 1), miner.FileError, "cannot open none.dat"),
         (lambda _: miner.sets([["a", "b"]], 1, limit=2), miner.TooManySets, "than 2"),
         (lambda _: miner.sets([["a"]], "1.5"), miner.UsageError, "value for --min"),
+        (lambda _: miner.sets([["a"]], "1\0"), miner.UsageError, "a word can't be"),
+        (lambda _: miner.sets([["a"]], "\ud800"), miner.UsageError, "a word can't be"),
         (lambda _: miner.sets([["a"]], 1, workers=65), miner.UsageError, "workers"),
     ],
 )
