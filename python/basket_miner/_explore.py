@@ -16,7 +16,7 @@ from ._errors import DataError, FileError
 from ._given_sets import itemsets_of
 from ._rule_counts import counts_of
 
-_FOLDER = Path(__file__).parent / "page"
+_FOLDER = Path(__file__).parent / "_page_files"
 
 
 class Page(PosixPath):

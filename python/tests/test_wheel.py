@@ -4,11 +4,12 @@ import os
 import subprocess
 import sys
 import zipfile
-from importlib import metadata
+from importlib import import_module, metadata
 from pathlib import Path
 
 import pytest
 
+import basket_miner
 from basket_miner import FileError, __version__, _program, page
 
 ROOT = Path(__file__).parents[2]
@@ -102,6 +103,12 @@ def test_a_wheel_brings_the_command_which_is_the_program(
 def test_sources_have_no_page_and_say_who_has() -> None:
     with pytest.raises(FileError, match="make wheel"):
         page()
+
+
+def test_no_folder_hides_the_call_that_says_where_the_page_lies() -> None:
+    with pytest.raises(ModuleNotFoundError):
+        import_module("basket_miner.page")
+    assert basket_miner.page is page
 
 
 def test_the_tag_of_a_wheel_is_that_of_the_oldest_c_library(wheel: Path) -> None:
