@@ -6,6 +6,7 @@ import operator
 import os
 from collections import Counter, defaultdict
 from collections.abc import Hashable, Iterator
+from functools import cached_property
 from typing import Any, Literal
 
 import numpy as np
@@ -146,13 +147,14 @@ class _Index:
                 rarest = min(items, key=frequencies.__getitem__)
                 self._by_item[rarest].append((items, found))
 
+    @cached_property
+    def _types(self) -> dict[type, Any]:
+        return _types_of(set().union(*itertools.chain.from_iterable(self._sides)))
+
     def refuse_other_types(self, items: set[Any]) -> None:
         """Raises `DataError` if no item can be in a rule, since the rules' items are of other types."""
-        known = set().union(*itertools.chain.from_iterable(self._sides))
-        types, own = (
-            {_kind(label): label for label in by_text(side)} for side in (known, items)
-        )
-        if types and own and not {*types} & {*own}:
+        types, own = self._types, _types_of(items)
+        if types and own and types.keys().isdisjoint(own):
             labels = [next(iter(side.values())) for side in (types, own)]
             told = [f"{type(label).__name__}, as {label!r}" for label in labels]
             raise DataError(
@@ -178,9 +180,13 @@ class _Index:
         return [*offers.items()][:top]
 
 
-def _kind(label: Hashable) -> type:
-    """The type of a label; one for all numbers, and one for all texts, which may be equal."""
-    plain: Any = label.item() if isinstance(label, np.generic) else label
+def _types_of(labels: set[Any]) -> dict[type, Any]:
+    """The types of labels, with one label of each; one type for all numbers and one for all texts, which may be equal."""
+    return {_type_of(label): label for label in by_text(labels)}
+
+
+def _type_of(label: Any) -> type:
+    plain = label.item() if isinstance(label, np.generic) else label
     kinds: tuple[type, ...] = (str, numbers.Number)
     return next((kind for kind in kinds if isinstance(plain, kind)), type(plain))
 

@@ -62,7 +62,11 @@ class TransactionEncoder:
 
     def inverse_transform(self, array: Any) -> list[list[Any]]:
         """The transactions of a table, each by its columns."""
-        rows = array.tocsr().toarray() if hasattr(array, "tocsr") else np.asarray(array)
+        try:
+            is_sparse = hasattr(array, "tocsr")
+            rows = array.tocsr().toarray() if is_sparse else np.asarray(array)
+        except ValueError as fault:
+            raise DataError(f"the rows of a table are of one length: {fault}") from None
         if rows.ndim != 2 or rows.shape[1] != len(self._fitted()):
             raise DataError(
                 f"a table has a column for each of {len(self.columns_)} items"
