@@ -1,7 +1,8 @@
 //! Tables whose records are baskets: a name in each field.
 use crate::column::Column;
 use crate::reading::{Form, Reading};
-use crate::table::{Table, cell, filled};
+use crate::table::Table;
+use crate::titles::{cell, filled};
 use crate::value::Word;
 use basket_pairs::{Key, Span};
 use std::alloc::AllocError;

@@ -1,6 +1,7 @@
 //! Tables with a column for each item.
 use crate::reading::Reading;
-use crate::table::{Table, cell};
+use crate::table::Table;
+use crate::titles::cell;
 use crate::value::{Word, is_number};
 use basket_pairs::{Span, is_no};
 use csv::StringRecord;

@@ -1,6 +1,7 @@
-//! The records of a text as a table: the lines above it, its header, its columns.
+//! The records of a text as a table: its header, its columns.
 use crate::column::Column;
 use crate::matrix::{is_header_of_marks, mark_columns};
+use crate::titles::{are_most, cell, titles, usual, without_totals};
 use crate::value::{Word, is_measure, is_number};
 use basket_pairs::{Fields, Records};
 use csv::StringRecord;
@@ -8,9 +9,6 @@ use std::alloc::{AllocError, Global};
 
 /// How many columns are compared with one another.
 const MOST_COLUMNS: usize = 60;
-
-/// How many records above a header there may be.
-const MOST_TITLES: usize = 20;
 
 /// What the records of a text are.
 #[derive(Drop)]
@@ -158,99 +156,4 @@ impl<'a> Table<'a> {
                     || column.different() <= column.len() / 2)
         })
     }
-}
-
-/// The cell of a record, counted from 0, without the blanks around it.
-pub fn cell(record: &StringRecord, place: usize) -> &str {
-    record.get(place).unwrap_or("").trim()
-}
-
-/// How many cells of a record are not blank.
-pub fn filled(record: &StringRecord) -> usize {
-    record
-        .iter()
-        .filter(|field| !field.trim().is_empty())
-        .count()
-}
-
-/// Whether all but one of so many records are so.
-fn are_most<F: Fn(&StringRecord) -> bool>(records: &[StringRecord], of: usize, is_so: F) -> bool
-    requires { F.IsAlwaysCallable is_so }
-{
-    let mut others: usize = 0;
-    for record in records {
-        if !is_so(record) {
-            others = others.saturating_add(1);
-        }
-    }
-    others <= records.len() / of.max(1)
-}
-
-/// The number that most records have.
-fn usual<F: Fn(&StringRecord) -> usize>(
-    alloc: Global,
-    records: &[StringRecord],
-    number: F,
-) -> Result<usize, AllocError>
-    requires { F.IsAlwaysCallable number }
-{
-    let mut numbers = Vec::new(alloc);
-    for record in records {
-        numbers.push(number(record))?;
-    }
-    numbers.sort_unstable();
-    let (mut best, mut most) = (0, 0);
-    for same in numbers.chunk_by(|one, other| one == other) {
-        if same.len() >= most {
-            most = same.len();
-            best = same.first().copied().unwrap_or(0);
-        }
-    }
-    Ok(best)
-}
-
-/// How many records stand above a header or the first basket: remarks, the separator that Excel is
-/// told, and those that have fewer cells than nearly all others.
-fn titles(alloc: Global, records: &[StringRecord], width: usize) -> Result<usize, AllocError> {
-    let usual = usual(alloc, records, filled)?;
-    let is_full = width > 1 && are_most(records, 6, |record| filled(record) >= usual - usual / 5);
-    let fullest = records.iter().map(filled).max().unwrap_or(0);
-    let mut skip: usize = 0;
-    let mut has_titles = false;
-    for record in records.iter().take(MOST_TITLES.min(records.len() / 2)) {
-        let first = cell(record, 0);
-        let count = filled(record);
-        let is_remark = first.starts_with('#') || first.starts_with("sep=") && count == 1;
-        let is_unnamed = first.is_empty() && count.saturating_add(1) == usual;
-        let is_short = is_full && !is_unnamed && count.saturating_mul(10) < usual.saturating_mul(7);
-        let is_above = !is_full && width > 3 && count <= 1 && fullest >= width / 2;
-        if !is_remark && !is_short && !is_above {
-            break;
-        }
-        has_titles = has_titles || is_remark || is_short;
-        skip = skip.saturating_add(1);
-    }
-    let is_named = match records.get(skip) {
-        Some(record) => filled(record) == fullest,
-        None => false,
-    };
-    Ok(if has_titles || is_named { skip } else { 0 })
-}
-
-/// The records without one of totals at the end, and whether there is one.
-fn without_totals(records: &[StringRecord]) -> (&[StringRecord], usize) {
-    match records.split_last() {
-        Some((last, others)) if records.len() > 3 && is_total(last) => match others.last() {
-            Some(before) if is_total(before) => (records, 0),
-            _ => (others, 1),
-        },
-        _ => (records, 0),
-    }
-}
-
-fn is_total(record: &StringRecord) -> bool {
-    record
-        .iter()
-        .take(4)
-        .any(|field| Word::Total.is_in(field.trim()))
 }

@@ -1,4 +1,7 @@
 //! The words after `basket`, if they are about `look` or `pairs`.
+ghost use Rattle.std.specs.Prelude.{◌≡◌, IfOk, is_some, map};
+ghost use Rattle.basket_look.specs.Words.{is_about_look, is_look};
+
 use crate::file::Style;
 use basket_pairs::{Pairs, pairs_asked};
 use std::alloc::{AllocError, Global};
@@ -37,14 +40,41 @@ pub enum Look<'a> {
 }
 
 /// What the words of a command line ask of `look` or `pairs`, if they are about these.
-pub fn look_of<'a>(alloc: Global, words: &[&'a str]) -> Result<Option<Look<'a>>, AllocError> {
-    Ok(match words {
-        ["look", rest @ ..] => Some(look_after(alloc, rest)?),
-        ["pairs", rest @ ..] => Some(Look::Pairs(pairs_asked(alloc, rest)?)),
-        ["help", "look"] => Some(Look::Help),
-        ["help", "pairs"] => Some(Look::Pairs(Pairs::Help)),
-        _ => None,
-    })
+pub fn look_of<'a>(alloc: Global, words: &[&'a str]) -> Result<Option<Look<'a>>, AllocError>
+    ensures { IfOk result (λ found. is_some found ≡ is_about_look (map (λ word. word.now) words.now)) }
+{
+    if !is_about_look(words) {
+        return Ok(None);
+    }
+    Ok(Some(asked(alloc, words)?))
+}
+
+/// Whether words are about `look` or `pairs`.
+fn is_about_look(words: &[&str]) -> bool
+    ensures { result ≡ is_about_look (map (λ word. word.now) words.now) }
+{
+    match words {
+        ["help", command] => is_look(command),
+        [first, ..] => is_look(first),
+        [] => false,
+    }
+}
+
+/// Whether a command is `look` or `pairs`.
+fn is_look(command: &str) -> bool
+    ensures { result ≡ is_look command.now }
+{
+    command == "look" || command == "pairs"
+}
+
+/// What words ask for that are about `look` or `pairs`.
+fn asked<'a>(alloc: Global, words: &[&'a str]) -> Result<Look<'a>, AllocError> {
+    match words {
+        ["look", rest @ ..] => look_after(alloc, rest),
+        ["pairs", rest @ ..] => Ok(Look::Pairs(pairs_asked(alloc, rest)?)),
+        [_, "pairs"] => Ok(Look::Pairs(Pairs::Help)),
+        _ => Ok(Look::Help),
+    }
 }
 
 /// What the words after `look` ask for.
