@@ -5,8 +5,13 @@ function field(text) {
   return /[",\r\n]|^\s|\s$/.test(text) ? `"${text.replaceAll('"', '""')}"` : text;
 }
 
+// A spreadsheet takes a cell that begins so for a formula, and one with an apostrophe before it for text.
+function asText(cell) {
+  return /^[=+@-]/.test(cell) ? `'${cell}` : cell;
+}
+
 function recordOf(rule) {
-  const side = (key) => field(namesOf(key, rule).map(field).join(","));
+  const side = (key) => field(asText(namesOf(key, rule).map(field).join(",")));
   const { support, confidence, lift } = columns;
   const figures = isOfRules
     ? [data.both[rule], data.withLeft[rule], data.withRight[rule], data.total, support.values[rule], confidence.values[rule], lift.values[rule]]
@@ -38,5 +43,13 @@ function save(blob, name) {
 }
 
 function startSaving() {
-  element("save-shown").addEventListener("click", async () => save(await csvOf(shown), isOfRules ? "rules.csv" : "itemsets.csv"));
+  element("save-shown").addEventListener("click", async () => {
+    const isCut = data.found > size;
+    const isMarked = data.sides.some((names) => asText(names[0] ?? "") !== names[0]);
+    save(await csvOf(shown), isOfRules ? "rules.csv" : "itemsets.csv");
+    const said = [];
+    if (isCut) said.push(`The file has what is shown of ${extent()}.`);
+    if (isMarked) said.push("In it, an apostrophe stands before names that begin with =, +, - or @: a spreadsheet would take them for formulas.");
+    tellBriefly(said.join(" "));
+  });
 }
