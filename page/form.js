@@ -3,6 +3,7 @@
 const LOOKED_AT = (1 << 20) + 1; // One byte more than it reads tells it that there are more.
 const FORMS = { single: "an item on each line", baskets: "a basket on each line", fimi: "numbers, a basket on each line", counts: "sets with counts", "csv-counts": "sets with counts" };
 const LETTERS = { comma: ",", semicolon: ";", tab: "\t", pipe: "|" };
+const OF_NUMBERS = " "; // What separates numbers, and no names.
 const MOST_LAYERS = 20; // A file that is packed again and again is unpacked so often.
 
 // The programs before `basket` in a command, as steps that the page does.
@@ -78,15 +79,22 @@ function chosenSteps({ steps, pipe, sep, width }, hasQuotes) {
   return { steps: [...others(steps), picked(letter, one, other)], pipe: [...others(pipe), program] };
 }
 
-// Has the steps done, out of the page's way.
+// Has the steps done, out of the page's way, by one worker that ends with its turn.
+let preparing = null;
+
 function prepared(bytes, steps) {
   if (!steps.length) return bytes;
   const helper = workerOf("preparing");
+  preparing = helper;
   return new Promise((resolve, reject) => {
-    helper.onmessage = ({ data: made }) => resolve(made);
-    helper.onerror = (event) => reject(new Error(event.message));
+    helper.onmessage = ({ data: { made, fault } }) => (fault ? reject(new Error(fault)) : resolve(made));
+    helper.onerror = helper.onmessageerror = (event) => reject(new Error(event.message || "its worker did not start"));
     helper.postMessage({ bytes, steps });
   }).finally(() => helper.terminate());
+}
+
+function endPreparing() {
+  preparing?.terminate();
 }
 
 function fillForm({ form, sep, header, weight }) {
@@ -112,6 +120,10 @@ function tellForm() {
   if (isHeaded) said.push(element("header").checked ? "with a header" : "without a header");
   if (form === "baskets" && element("weight").checked) said.push("its weight first");
   element("recognised").textContent = said.join(", ");
+}
+
+function separatorOf() {
+  return isCsv() ? LETTERS[element("sep").value] : OF_NUMBERS;
 }
 
 // The words of a command line that say the form.

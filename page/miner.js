@@ -49,7 +49,7 @@ function startWorker() {
     if (answer.ready === false) settle({ status: ENDED, report: nothing, explanation: answer.why });
     else if (answer.id === running?.id) settle(answer);
   };
-  worker.onerror = (event) => settle({ status: ENDED, report: nothing, explanation: event.message || "the miner did not start" });
+  worker.onerror = worker.onmessageerror = (event) => settle({ status: ENDED, report: nothing, explanation: event.message || "the miner did not start" });
   worker.postMessage({ module: program });
 }
 
@@ -68,8 +68,9 @@ function endQuestion() {
   resolve(null);
 }
 
-// The answer to a question of a turn, or null if a newer turn came or the question was ended.
-async function ask(own, words, bytes, sets = null) {
+// The answer to a question of a turn, or null if a newer turn came or the question was ended. It may have itemsets
+// that are counted, and say what is listed of the report.
+async function ask(own, words, bytes, { sets = null, listing = null } = {}) {
   await ready;
   if (own !== turn) return null;
   if (running) {
@@ -84,7 +85,7 @@ async function ask(own, words, bytes, sets = null) {
   const done = new Promise((settle) => (resolve = settle));
   running = { id, resolve, done, begun: performance.now() };
   try {
-    worker.postMessage({ id, words, input: bytes, sets });
+    worker.postMessage({ id, words, input: bytes, sets, listing });
   } catch (error) {
     // There is no memory for another copy of the file.
     running = null;
