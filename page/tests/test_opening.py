@@ -161,7 +161,9 @@ def test_an_address_is_of_its_file(shown: webdriver.Chrome) -> None:
         give(shown, content, name)
         assert at(shown, "ask").get_attribute("value") == "sets"
         is_its_own = name == "shop.dat"
-        found = [at(shown, field).get_attribute("value") for field in ("least", "either")]
+        found = [
+            at(shown, field).get_attribute("value") for field in ("least", "either")
+        ]
         assert (found == ["9", "2"]) == is_its_own
         assert (rows(shown) == kept) == is_its_own
         assert rows(shown) != []
