@@ -138,12 +138,14 @@ async function answerTo(own, question) {
     return ask(own, [...words, ...file.words, "-"], file.bytes, { sets, listing });
   }
   const isMined = file.mined?.least <= least;
+  let sets = { milliseconds: 0, memory: 0 };
   if (what === "sets" || !isMined || (what === "rules" && file.mined.rules > MOST_RULES)) {
-    const sets = await setsAt(own, file, least, MOST_SETS);
+    sets = await setsAt(own, file, least, MOST_SETS);
     if (what === "sets" || sets?.status !== 0) return sets;
     if (what === "rules" && sets.rules > MOST_RULES) return { status: ENDED, explanation: tooManyRules(sets.rules) };
   }
-  return ask(own, [...words, ...file.mined.words, ...minedBy(file), "-"], file.mined.bytes, { listing });
+  const answer = await ask(own, [...words, ...file.mined.words, ...minedBy(file), "-"], file.mined.bytes, { listing });
+  return answer && { ...answer, milliseconds: sets.milliseconds + answer.milliseconds, memory: Math.max(sets.memory, answer.memory) };
 }
 
 function tooManyRules(rules) {

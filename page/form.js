@@ -3,6 +3,7 @@
 const LOOKED_AT = (1 << 20) + 1; // One byte more than it reads tells it that there are more.
 const FORMS = { single: "an item on each line", baskets: "a basket on each line", fimi: "numbers, a basket on each line", counts: "sets with counts", "csv-counts": "sets with counts" };
 const LETTERS = { comma: ",", semicolon: ";", tab: "\t", pipe: "|" };
+const QUOTE = 34;
 const OF_NUMBERS = " "; // What separates numbers, and no names.
 const MOST_LAYERS = 20; // A file that is packed again and again is unpacked so often.
 
@@ -66,14 +67,14 @@ function offerColumns(text, steps) {
 }
 
 // The steps for the columns that are chosen, and the programs of a shell that do the same.
-function chosenSteps({ steps, pipe, sep, width }, hasQuotes) {
+function chosenSteps({ steps, pipe, sep, width }, bytes) {
   const columns = ["basket-column", "item-column"].map((id) => Number(element(id).value));
   const place = steps.findIndex(({ name }) => name === "pick");
   const others = (list) => (place < 0 ? list : list.filter((_, at) => at !== place));
   if (element("form").value !== "single" || width < 2 || (columns[0] === 0 && columns[1] === 1)) return { steps: others(steps), pipe: others(pipe) };
   const letter = sep === "tab" ? "\\t" : LETTERS[sep];
   const [one, other] = columns;
-  const program = hasQuotes
+  const program = bytes.includes(QUOTE)
     ? `python3 -c 'import csv, sys; csv.writer(sys.stdout, delimiter="${letter}").writerows([r[${one}], r[${other}]] for r in csv.reader(sys.stdin, delimiter="${letter}"))'`
     : `awk -F'${letter}' -v OFS='${letter}' '{ print $${one + 1}, $${other + 1} }'`;
   return { steps: [...others(steps), picked(letter, one, other)], pipe: [...others(pipe), program] };

@@ -63,7 +63,7 @@ async function prepare(own) {
   tellForm();
   const { name, given, found } = source;
   const form = { words: formWords(), separator: separatorOf(), letter: element("sep").value };
-  const { steps, pipe } = chosenSteps({ ...found, sep: form.letter }, given.includes(34));
+  const { steps, pipe } = chosenSteps({ ...found, sep: form.letter }, given);
   const bytes = await prepared(given, steps);
   const answer = await ask(own, ["count", "--sets", "sets", ...form.words, "-"], bytes, { sets: nothing });
   if (!answer) return;

@@ -35,6 +35,7 @@ const told = "addEventListener('securitypolicyviolation', (event) => postMessage
 const worker = new Worker(URL.createObjectURL(new Blob([`${told} fetch("http://127.0.0.1:9/").catch(() => {});`])));
 worker.onmessage = ({ data }) => {
   const found = [data];
+  setTimeout(() => done(found), 10_000);
   document.addEventListener("securitypolicyviolation", (event) => {
     if (found.push(event.effectiveDirective) === 4) done(found.sort());
   });

@@ -4,7 +4,6 @@
 import time
 from pathlib import Path
 
-import pytest
 from selenium import webdriver
 from selenium.webdriver.support.wait import WebDriverWait
 
@@ -13,13 +12,6 @@ from program_tests.inputs import fimi
 from program_tests.program import run
 
 from .use import choose, figures, give, report_of, settled
-
-
-@pytest.fixture(name="shown")
-def fresh_page(browser: webdriver.Chrome, page: Path) -> webdriver.Chrome:
-    browser.get("about:blank")
-    browser.get(page.as_uri())
-    return browser
 
 
 def twice(items: int) -> bytes:

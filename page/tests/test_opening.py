@@ -1,7 +1,6 @@
 # mypy: allow-untyped-calls
 """What may happen while a file is opened, how an opening ends, and what an address says of a file."""
 
-from pathlib import Path
 
 import pytest
 from selenium import webdriver
@@ -49,13 +48,6 @@ for (const place of places) {
   element("item-column").dispatchEvent(new Event("change"));
 }
 """
-
-
-@pytest.fixture(name="shown")
-def fresh_page(browser: webdriver.Chrome, page: Path) -> webdriver.Chrome:
-    browser.get("about:blank")
-    browser.get(page.as_uri())
-    return browser
 
 
 @pytest.mark.parametrize(
