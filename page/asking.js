@@ -52,7 +52,7 @@ async function during(doing, action) {
   try {
     await action(own);
   } catch (error) {
-    if (own === turn) sayFault(`${doing} failed: ${error.message}.`);
+    if (own === turn) sayFault(`${doing} failed: ${error.message}`);
   }
 }
 

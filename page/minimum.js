@@ -4,25 +4,24 @@ const PLACES = 400;
 const ENOUGH = 150; // Itemsets that are to meet the first minimum, about.
 const TOO_MANY = 4000;
 const SOME_ITEMS = 25; // The minimum is looked for from the least count of so many items.
-let total = 0; // Baskets of the file that is mined.
 let counts = [1]; // The counts that the slider's places stand for, the smallest first.
 
-function setTotal(all) {
-  total = all;
-  const steps = Array.from({ length: PLACES + 1 }, (_, place) => Math.round(all ** (place / PLACES)));
+function setTotal(total) {
+  const steps = Array.from({ length: PLACES + 1 }, (_, place) => Math.round(total ** (place / PLACES)));
   counts = [...new Set(steps)];
   element("minimum").max = counts.length - 1;
-  element("least").max = all;
+  element("least").max = total;
   allowMinimum(true);
 }
 
 // There is no minimum before the baskets are counted.
 function allowMinimum(isCounted) {
   for (const id of ["minimum", "least"]) element(id).disabled = !isCounted;
+  if (!isCounted) element("least").value = "";
 }
 
 function leastCount() {
-  return Math.min(Math.max(Math.round(Number(element("least").value)) || 1, 1), Math.max(total, 1));
+  return Math.min(Math.max(Math.round(Number(element("least").value)) || 1, 1), file?.total ?? 1);
 }
 
 function setLeast(count) {
@@ -34,7 +33,7 @@ function setLeast(count) {
 
 function tellLeast() {
   const count = leastCount();
-  const words = `of ${many(total, "basket")}: ${percent(count / Math.max(total, 1))}`;
+  const words = file ? `of ${many(file.total, "basket")}: ${percent(count / file.total)}` : "";
   element("of-all").textContent = words;
   element("minimum").setAttribute("aria-valuetext", `${whole(count)} ${words}`);
 }

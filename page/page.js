@@ -12,7 +12,7 @@ let kept = linked(); // What the address says of the question, until a file is t
 
 // A new file, or its bytes once they are there: what it is, how many baskets it has, and a minimum to begin with.
 function open(given, name) {
-  source = null;
+  source = opening = null;
   return during(`Reading ${name}`, async (own) => {
     beginOpening(own);
     await ready;
@@ -38,10 +38,11 @@ function again() {
 
 // A file is there with all that belongs to it, or it is not there.
 function beginOpening(own) {
-  opening = { own, isAsked: false };
+  opening = { own, isAsked: Boolean(opening?.isAsked) };
   file = null;
   clear();
   allowMinimum(false);
+  tellLeast();
 }
 
 function tellSource(text) {
@@ -65,6 +66,7 @@ async function prepare(own) {
   const form = { words: formWords(), separator: separatorOf(), letter: element("sep").value };
   const { steps, pipe } = chosenSteps({ ...found, sep: form.letter }, given);
   const bytes = await prepared(given, steps);
+  saySoon(own, `Counting the baskets of ${name}.`);
   const answer = await ask(own, ["count", "--sets", "sets", ...form.words, "-"], bytes, { sets: nothing });
   if (!answer) return;
   if (answer.status !== 0) {
@@ -75,6 +77,7 @@ async function prepare(own) {
   if (!total) return sayFault("There is no basket in it.");
   const made = { name, pipe, bytes, ...form, total, mined: null };
   const state = stateFor(name);
+  saySoon(own, "Looking for a minimum to begin with.");
   const least = Number(state.get("min")) || await firstLeast(own, made);
   if (least === null) return;
   file = made;
@@ -92,7 +95,7 @@ function stateFor(name) {
 
 // The first question is that of the address, or the form has it already; else rules may need a lower confidence.
 async function askFirst(own, state, least = leastCount()) {
-  const isAsked = opening?.own === own && opening.isAsked;
+  const isAsked = Boolean(opening?.isAsked);
   opening = null;
   if (!isAsked) takeQuestion(state);
   setLeast(Math.min(Number(state.get("min")) || least, file.total));
@@ -113,10 +116,9 @@ function takeQuestion(state) {
 
 // The form has another question: while a file is opened, it is that file's first.
 function askAnew() {
-  if (opening?.own === turn) {
-    opening.isAsked = true;
-    tellQuestion();
-  } else if (file) during("Mining", mine);
+  if (opening) opening.isAsked = true;
+  if (opening?.own === turn) tellQuestion();
+  else if (file) during("Mining", mine);
   else if (source?.found) again();
 }
 
