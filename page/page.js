@@ -87,16 +87,14 @@ async function prepare(own) {
 
 // What the address says of the question to a file: of that to another, its kind alone.
 function stateFor(name) {
-  const state = kept;
-  kept = new URLSearchParams();
-  if (state.get("file") === name) return state;
-  return new URLSearchParams([...state].filter(([key]) => key === "ask"));
+  return kept.get("file") === name ? kept : new URLSearchParams([...kept].filter(([key]) => key === "ask"));
 }
 
 // The first question is that of the address, or the form has it already; else rules may need a lower confidence.
 async function askFirst(own, state, least = leastCount()) {
   const isAsked = Boolean(opening?.isAsked);
   opening = null;
+  kept = new URLSearchParams();
   if (!isAsked) takeQuestion(state);
   setLeast(Math.min(Number(state.get("min")) || least, file.total));
   takeState(state);
