@@ -2,12 +2,16 @@
 // Figures and names as they are shown.
 const element = (id) => document.getElementById(id);
 
-function short(value) {
-  return value >= 999.5 ? Math.round(value).toLocaleString("en") : value.toPrecision(3);
+// Three digits, or as many as tell a value from one that would say more than it does: always, or by chance.
+function short(value, told = 1) {
+  if (value >= 999.5) return Math.round(value).toLocaleString("en");
+  let digits = 3;
+  while (value !== told && digits < 17 && Number(value.toPrecision(digits)) === told) digits++;
+  return value.toPrecision(digits);
 }
 
 function percent(value) {
-  return `${short(100 * value)}%`;
+  return `${short(100 * value, 100)}%`;
 }
 
 function whole(count) {

@@ -46,7 +46,6 @@ function takeState(state) {
   const sort = state.get("sort") ?? "";
   if (SORTS.includes(sort.replace("-", ""))) sorted = { key: sort.replace("-", ""), isFalling: sort.startsWith("-") };
   element("picture").value = state.get("picture") === "lift" ? "lift" : "confidence";
-  element("plotted").textContent = titleOfPicture();
   const areas = ["support", "confidence", "lift"].flatMap((key) => {
     const ends = (state.get(`${key}-in`) ?? "").split("_").map(Number);
     return ends.length === 2 && ends.every(Number.isFinite) ? [[key, ends]] : [];
@@ -55,15 +54,19 @@ function takeState(state) {
   tellFilters();
 }
 
+function tellBriefly(text) {
+  element("done").textContent = text;
+  setTimeout(() => (element("done").textContent = ""), 8000);
+}
+
 function startLink() {
   element("copy-link").addEventListener("click", async () => {
     writeLink();
     try {
       await navigator.clipboard.writeText(location.href);
-      element("copied").textContent = "Copied: it shows these filters, this order and this selection.";
+      tellBriefly("Copied: it shows these filters, this order and this selection.");
     } catch {
-      element("copied").textContent = "The address of this page has the filters, the order and the selection: copy it.";
+      tellBriefly("The address of this page has the filters, the order and the selection: copy it.");
     }
-    setTimeout(() => (element("copied").textContent = ""), 8000);
   });
 }

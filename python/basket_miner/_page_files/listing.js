@@ -92,6 +92,15 @@ function listed(count) {
   return many(count, isOfRules ? "rule" : "itemset");
 }
 
+// What is listed where more were found, and how many are listed, of how many if these are more.
+function strongest() {
+  return `the ${whole(size)} ${isOfRules ? "strongest" : "most frequent"}`;
+}
+
+function extent() {
+  return data.found > size ? `${strongest()} of ${whole(data.found)}` : whole(size);
+}
+
 // For each value its place among all that differ.
 function placesOf(values) {
   const rising = Float64Array.from(values).sort();
@@ -142,7 +151,7 @@ function select(areas) {
 
 function tellSelection() {
   const said = selection ? Object.entries(selection).map(([key, [least, most]]) => {
-    const [from, to] = [least, most].map(columns[key].text);
+    const [from, to] = [least, most].map((value) => columns[key].text(value));
     return `${key} ${from === to ? from : `${from} to ${to}`}`;
   }) : [];
   element("area").textContent = said.length ? `Selected: ${said.join(", ")}` : "";

@@ -20,6 +20,7 @@ function startPicture() {
 function makeAxes() {
   across = axisOf("support", true);
   up = element("picture").value === "lift" ? axisOf("lift", true) : axisOf("confidence", false);
+  element("plotted").textContent = titleOfPicture();
 }
 
 function makeStamps(ink) {
@@ -141,7 +142,6 @@ const redraw = onceAFrame(draw);
 function startPlot() {
   element("picture").addEventListener("change", () => {
     makeAxes();
-    element("plotted").textContent = titleOfPicture();
     select(null);
   });
   startPointing();
@@ -155,5 +155,6 @@ function startPlot() {
 }
 
 function titleOfPicture() {
-  return element("picture").value === "lift" ? "Support and lift" : "Support and confidence";
+  const title = element("picture").value === "lift" ? "Support and lift" : "Support and confidence";
+  return data.found > size ? `${title} of ${extent()} rules` : title;
 }

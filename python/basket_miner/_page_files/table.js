@@ -11,7 +11,7 @@ function list(rows = PAGE) {
   for (const id of ["first", "previous"]) element(id).setAttribute("aria-disabled", page === 0);
   for (const id of ["next", "last"]) element(id).setAttribute("aria-disabled", page === pages - 1);
   element("turn").hidden = pages === 1;
-  const of = selection ? `${whole(passing.length)}, by the selection` : whole(size);
+  const of = selection ? `${whole(passing.length)}, by the selection` : extent();
   element("status").textContent = `${listed(shown.length)} of ${of}, page ${whole(page + 1)} of ${whole(pages)}`;
   element("save-shown").disabled = !shown.length;
 }
@@ -60,7 +60,9 @@ function details(rule) {
   const both = data.both[rule];
   const line = made("tr");
   line.className = "details";
+  line.setAttribute("role", "row");
   const cell = made("td", undefined, line);
+  cell.setAttribute("role", "cell");
   cell.colSpan = Object.keys(columns).length;
   const pairs = made("dl", undefined, cell);
   for (const [name, value] of isOfRules ? [
