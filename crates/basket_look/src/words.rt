@@ -1,6 +1,6 @@
 //! The words after `basket`, if they are about `look` or `pairs`.
 ghost use Rattle.std.specs.Prelude.{◌≡◌, IfOk, is_some, map};
-ghost use Rattle.basket_look.specs.Words.{is_about_look, is_look};
+ghost use Rattle.basket_look.specs.Words.{is_about_look, is_help_of_look, is_look};
 
 use crate::file::Style;
 use basket_pairs::{Pairs, pairs_asked};
@@ -53,10 +53,19 @@ pub fn look_of<'a>(alloc: Global, words: &[&'a str]) -> Result<Option<Look<'a>>,
 fn is_about_look(words: &[&str]) -> bool
     ensures { result ≡ is_about_look (map (λ word. word.now) words.now) }
 {
+    match words.split_first() {
+        Some((first, rest)) => is_look(first) || *first == "help" && is_help_of_look(rest),
+        None => false,
+    }
+}
+
+/// Whether the words behind `help` are one of these alone.
+fn is_help_of_look(words: &[&str]) -> bool
+    ensures { result ≡ is_help_of_look (map (λ word. word.now) words.now) }
+{
     match words {
-        ["help", command] => is_look(command),
-        [first, ..] => is_look(first),
-        [] => false,
+        [command] => is_look(command),
+        _ => false,
     }
 }
 
