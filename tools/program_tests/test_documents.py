@@ -12,7 +12,7 @@ from package import lost_links
 
 from .program import ROOT, run, run_script
 
-COMMANDS = ("items", "sets", "closed", "maximal", "rules", "count", "look")
+COMMANDS = ("items", "sets", "closed", "maximal", "rules", "count", "look", "pairs")
 DOCUMENTS = ("README.md", "docs/FAQ.md", "man/basket.1")
 COMPLETIONS = (
     "completions/basket.bash",

@@ -90,7 +90,7 @@ fn asked<'a>(alloc: Global, words: &[&'a str]) -> Result<Look<'a>, AllocError> {
 fn look_after<'a>(alloc: Global, words: &[&'a str]) -> Result<Look<'a>, AllocError> {
     let (mut style, mut file, mut has_file) = (Style::Text, None, false);
     for word in words {
-        match *word {
+        match option_in(word) {
             "--help" | "-h" => return Ok(Look::Help),
             "--json" => style = Style::Json,
             "-" if !has_file => has_file = true,
@@ -104,9 +104,14 @@ fn look_after<'a>(alloc: Global, words: &[&'a str]) -> Result<Look<'a>, AllocErr
     Ok(Look::At(file, style))
 }
 
+/// The option of a word that may have its value behind it.
+fn option_in(word: &str) -> &str {
+    word.split('=').next().unwrap_or(word)
+}
+
 /// What `clap` says of a word that isn't expected.
 fn mistake<'a>(alloc: Global, word: &str) -> Result<Look<'a>, AllocError> {
-    let option = word.split('=').next().unwrap_or(word);
+    let option = option_in(word);
     let text = format!(in alloc;
         "error: unexpected argument '{option}' found\n\nUsage: basket look [OPTIONS] [FILE]\n\n\
 For more information, try '--help'.\n"
