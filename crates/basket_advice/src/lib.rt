@@ -17,5 +17,5 @@ mod place;
 mod run;
 mod words;
 
-pub use run::{Told, run_advice};
+pub use run::{Told, run_advice, unwritten_advice};
 pub use words::words_advice;
