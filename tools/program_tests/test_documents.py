@@ -221,15 +221,25 @@ class Documents(unittest.TestCase):
         with contextlib.chdir(ROOT):
             self.assertEqual(lost_links(), [])
 
+    def test_the_folders_of_theory_that_a_page_lists_are_those_that_are_there(
+        self,
+    ) -> None:
+        page = text_of("docs/ARCHITECTURE.md")
+        told = page.partition("## The theory of itemsets\n")[2].partition("\n## ")[0]
+        crates = re.findall(r"(?m)^\| `(\w+)` \|", told) + ["basket_sets"]
+        there = [path.parts[-3] for path in ROOT.glob("crates/*/proofs/theory")]
+        self.assertEqual(sorted(crates), sorted(there))
+
     def test_the_version_is_the_same_everywhere(self) -> None:
         version = run(["--version"]).out.decode().removeprefix("basket ").strip()
-        self.assertRegex(version, r"^\d+\.\d+\.\d+$")
+        self.assertRegex(version, r"^\d+\.\d+\.\d+(-dev)?$")
         self.assertIn(f'"basket {version}"', text_of("man/basket.1"))
         self.assertIn(f"\nversion: {version}\n", text_of("CITATION.cff"))
-        self.assertRegex(
-            text_of("CHANGELOG.md"),
-            rf"\A# [^#]*(## Unreleased\n[^#]*)?## {re.escape(version)}, \d{{4}}-\d\d-\d\d\n",
-        )
+        self.assertIn(f'\nversion = "{version}"\n', text_of("python/pyproject.toml"))
+        # The version between releases has no day.
+        last = f"{re.escape(version)}, \\d{{4}}-\\d\\d-\\d\\d"
+        head = "Unreleased" if version.endswith("-dev") else last
+        self.assertRegex(text_of("CHANGELOG.md"), rf"\A# [^#]*## {head}\n")
 
     def test_the_manual_page_is_laid_out_without_a_warning(self) -> None:
         words = ["groff", "-man", "-Tutf8", "-ww", "-z", str(ROOT / "man/basket.1")]
