@@ -9,7 +9,8 @@ usage: tools/test.py            at the top of the repository
 
 Proofs, with the tests of the crates, are of all crates but the bench. The must-fail edits are not tried here
 (tools/edits.py tries them): it is seen that each can be applied, and told which were last refused over
-another text. The variable BASKET names another program for the last three, and PAGE another page.
+another text, which fails the gate in the crates of the statement. The variable BASKET names another program for the
+last three, and PAGE another page.
 """
 
 import os

@@ -91,7 +91,11 @@ class Documents(unittest.TestCase):
             Path(folder, "examples").symlink_to(ROOT / "examples")
             ended = run_script(script, Path(folder))
             at_once = run_script(whole, Path(folder))
+            cut = "split -n l/8 examples/shop.dat part.\n"
+            eighths = re.sub(r"\A.*\n", cut, script).replace("part1 part2", "part.*")
+            in_eight = run_script(eighths, Path(folder))
         self.assertEqual((ended.out.decode(), ended.said), (shown_lines, ""))
+        self.assertEqual(in_eight, ended)
         self.assertEqual(at_once.out.decode(), shown_lines)
 
     def test_the_theorem_that_is_quoted_stands_in_the_source(self) -> None:
