@@ -86,14 +86,22 @@ class Definitions:
         return sum(not re.match(r"\s*(--|$)", line) for line in lines)
 
 
-def stated(path: str, function: str) -> set[Word]:
-    """The words of a function's clauses."""
+def clauses(path: str, function: str) -> list[str]:
+    """The lines of a function's contract."""
     text = (CRATES / path).read_text(encoding="utf-8")
     head = re.search(rf"(?ms)^pub fn {function}\b.*?^\{{$", text)
     assert head
-    clauses = "\n".join(re.findall(r"(?m)^ +(?:ensures|requires) .*$", head[0]))
-    known = imported(text)
-    return {known[name] for name in re.findall(r"\w+", clauses) if name in known}
+    return re.findall(r"(?m)^ +((?:ensures|requires) .*)$", head[0])
+
+
+def stated(path: str, function: str, without: str = "") -> set[Word]:
+    """The words of a function's clauses, without the clause of a name."""
+    known = imported((CRATES / path).read_text(encoding="utf-8"))
+    lines = [
+        it for it in clauses(path, function) if not it.startswith(f"ensures {without} ")
+    ]
+    words = re.findall(r"\w+", "\n".join(lines))
+    return {known[name] for name in words if name in known}
 
 
 RUN = ("basket/src/engine.rt", "run")

@@ -10,7 +10,17 @@ from crates import needed
 from kit import PROGRAM
 
 from .program import ROOT
-from .stated import COUNT, CRATES, OF_KIT, PERFORM, RUN, Definitions, Word, stated
+from .stated import (
+    COUNT,
+    CRATES,
+    OF_KIT,
+    PERFORM,
+    RUN,
+    Definitions,
+    Word,
+    clauses,
+    stated,
+)
 from .test_trust_pages import SpecFile, listed, named_in, page, what_to_read
 
 
@@ -55,8 +65,17 @@ class Words(unittest.TestCase):
     def setUpClass(cls) -> None:
         cls.known = Definitions()
 
-    def reached(self, *functions: tuple[str, str]) -> set[Word]:
-        return self.known.reached(word for it in functions for word in stated(*it))
+    def reached(self, *functions: tuple[str, str], without: str = "work") -> set[Word]:
+        """All that contracts say. What the work of a miner is stands apart, since no report rests on it."""
+        roots = (word for it in functions for word in stated(*it, without))
+        return self.known.reached(roots)
+
+    def test_each_clause_of_run_and_of_perform_is_quoted(self) -> None:
+        quoted = [line.strip() for line in page("THEOREM").splitlines()]
+        for function in (RUN, PERFORM):
+            ensured = [it for it in clauses(*function) if it.startswith("ensures")]
+            self.assertGreater(len(ensured), 5)
+            self.assertEqual([it for it in ensured if it not in quoted], [])
 
     def test_the_table_of_what_to_read_has_the_files_with_a_word_of_run_and_no_other(
         self,
@@ -69,7 +88,9 @@ class Words(unittest.TestCase):
         self,
     ) -> None:
         found = files_of(self.reached(RUN, COUNT, PERFORM))
-        self.assertEqual(named_in(what_to_read()), found)
+        self.assertEqual(found - named_in(what_to_read()), set())
+        more = files_of(self.reached(RUN, COUNT, PERFORM, without=""))
+        self.assertEqual(named_in(what_to_read()) - more, set())
         places = {*re.findall(r"`([a-z_]+)/(\w+)`", page("DEFINITIONS"))}
         self.assertEqual(found - places, set())
 
