@@ -148,6 +148,9 @@ class Documents(unittest.TestCase):
         said = run(["--help"]).out.decode()
         rule = re.findall(r"(?m)^  ((?:apriori|eclat|fpgrowth)\S* .*)$", said)
         self.assertEqual(len(rule), 5)
+        few = re.search(r"some [\d,]+", rule[0])
+        assert few
+        self.assertIn(f"Few sets, up to {few[0]}: `apriori`", text_of("docs/FAQ.md"))
         for name in ("README.md", "docs/GUIDE.md", "docs/CLI.md"):
             lines = [line.strip() for line in text_of(name).splitlines()]
             with self.subTest(name=name):

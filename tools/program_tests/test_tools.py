@@ -7,6 +7,7 @@ import tempfile
 import unittest
 from pathlib import Path
 
+import axioms
 import edits
 from edits import TRIED, Edit
 from package import links_of
@@ -57,6 +58,22 @@ class Tools(unittest.TestCase):
                 "2 passed, 2 failed",
             ],
         )
+
+    def test_axioms_are_written_down_by_name_and_counted_by_library(self) -> None:
+        listed = (
+            "axioms libc: 2 reached of the 3 declared\n  libc::access\n"
+            "  libc::heap::rattle_alloc   reached\n  libc::read   reached\n"
+            "axioms os: 1 reached of the 1 declared\n  os::c::open   reached\n"
+        )
+        names = axioms.REACHED.findall(listed)
+        self.assertEqual(
+            names, ["libc::heap::rattle_alloc", "libc::read", "os::c::open"]
+        )
+        with tempfile.TemporaryDirectory() as folder, contextlib.chdir(folder):
+            self.assertEqual(axioms.counted(), "")
+            axioms.RECORD.parent.mkdir()
+            axioms.RECORD.write_text("\n".join(names), encoding="utf-8")
+            self.assertEqual(axioms.counted(), "2 of `libc`, 1 of `os`")
 
     def test_a_word_of_a_verdict_that_the_page_does_not_have_is_told(self) -> None:
         report = Report()
