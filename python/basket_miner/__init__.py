@@ -70,6 +70,7 @@ from ._errors import (
 )
 from ._explore import explore
 from ._itemsets import closed, items, maximal, sets
+from ._look import Look, look
 from ._page import page
 from ._recommend import Recommender, recommend
 from ._rules import count, rules
@@ -83,6 +84,7 @@ __all__ = [
     "DataError",
     "FileError",
     "InputError",
+    "Look",
     "OutOfMemory",
     "ProgramMissing",
     "Recommender",
@@ -97,6 +99,7 @@ __all__ = [
     "count",
     "explore",
     "items",
+    "look",
     "maximal",
     "page",
     "recommend",
