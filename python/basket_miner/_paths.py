@@ -195,10 +195,13 @@ def _warn_of_others(
 def _differences(
     layout: Layout, said: Recipe, seen: Look, reading: Reading, has_columns: bool
 ) -> list[str]:
-    """What differs between what is said and a reading."""
-    own, found = recipe_of(reading.pairs), []
+    """What differs between what is said and a reading, in sentences."""
+    own = recipe_of(reading.pairs)
+    found: list[str] = []
     sep = own.get("--sep", "comma")
-    if said.get("--sep", "comma") != sep and seen.separator in SEPARATORS:
+    if said.get("--sep", "comma") != sep:
+        if sep not in SEPARATORS:
+            return [*reading.because] if reading.sure else []
         found.append(f'Its fields are separated by {sep}: sep="{sep}".')
     if "--header" in own and "--header" not in said:
         found.append("Its first record is a header: header=True.")

@@ -174,6 +174,7 @@ def test_what_is_said_of_a_file_brings_a_warning_where_it_changes_baskets(
         ("c.txt", rows.replace(",", "\t"), {"form": "baskets"}, 'sep="tab"'),
         ("d.tsv", rows.replace(",", "\t"), {"form": "single", "header": True}, ""),
         ("e.csv", "1,2\n1,3\n2,3\n", {"form": "single"}, ""),
+        ("e.txt", "1 2\n1 3\n2 3\n", {"form": "baskets"}, "numbers on each line"),
         ("f.csv", "tea,jam\ntea,jam,bread\n", {"form": "baskets"}, ""),
         ("g.csv", "2,tea,jam\n1,tea,jam\n", {"form": "baskets", "weighted": True}, ""),
     ]
