@@ -21,7 +21,8 @@ from ._tables import frame_of, is_table
 from ._typed import Typed
 from ._wide_frames import wide_frame
 
-# A data frame or another table, a sparse matrix, an iterable of iterables of labels, a path, a `Look`, or `Baskets`.
+# A data frame or another table, a sparse matrix, an iterable of iterables of labels, a path, what `look`
+# returns of one, or `Baskets`.
 Data = Any
 
 _FRAMES_HINT = "; several frames are given as one frame, by pandas.concat"

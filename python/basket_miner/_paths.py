@@ -10,6 +10,7 @@ from ._keywords import Layout, refuse_others
 from ._look import Look, Reading, look
 from ._recipes import (
     Recipe,
+    as_named,
     as_said,
     encoding_of,
     recipe_of,
@@ -49,7 +50,7 @@ def baskets_of_path(path: Path, layout: Layout) -> Baskets:
         return _as_seen(path, layout, seen)
     recipe = _recipe(path, layout, seen, has_columns)
     if has_columns:
-        return _rewritten(path, with_columns(recipe, layout, seen))
+        return _rewritten(path, with_columns(path, recipe, layout, seen))
     if recipe.get("--encoding", "utf-8") != "utf-8":
         if layout["weighted"]:
             raise DataError("weighted= does not go with encoding=")
@@ -69,6 +70,8 @@ def _recipe(path: Path, layout: Layout, seen: Look | None, has_columns: bool) ->
             recipe["--sep"] = separator_of(path, layout)
         if layout["header"]:
             recipe["--header"] = ""
+    elif layout["form"] is None:
+        recipe = as_named(path, layout, seen)
     else:
         recipe = as_said(path, layout)
         _warn_of_others(path, layout, recipe, seen, has_columns)

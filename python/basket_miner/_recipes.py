@@ -1,6 +1,8 @@
 """The words of `basket pairs` by which a file is rewritten, or would be."""
 
 import codecs
+import csv
+import itertools
 from collections.abc import Sequence
 from pathlib import Path
 
@@ -14,6 +16,8 @@ from ._minimum import whole_of
 # Each option with its value, which is empty where it has none.
 Recipe = dict[str, str]
 
+# `look` has the names of so many.
+_MOST_COLUMNS = 60
 # The program's encodings, by Python's names for them.
 _ENCODINGS = {
     "ascii": "utf-8",
@@ -82,36 +86,79 @@ def encoding_of(name: str, seen: Look | None) -> str:
     return _ENCODINGS[found]
 
 
-def with_columns(recipe: Recipe, layout: Layout, seen: Look | None) -> Recipe:
+def as_named(path: Path, layout: Layout, seen: Look | None) -> Recipe:
+    """The recipe of a file with columns that are given, where `look` doesn't know how it is written.
+
+    Names of columns say what separates the fields of the first record.
+    """
+    keys = [*columns_of_key(layout["basket"]), layout["item"]]
+    wanted = {key for key in keys if isinstance(key, str)}
+    if not wanted and not layout["header"]:
+        raise DataError(
+            f"it isn't sure if the first record of {path} is a header: give header=True, or "
+            'form="single" if it is none'
+        )
+    if not wanted or seen is None or layout["sep"] is not None:
+        return as_said(path, layout) | {"--header": ""}
+    for sep in SEPARATORS:
+        if wanted <= {*_first_record(path, layout, sep)}:
+            return {"--sep": sep, "--header": ""}
+    return as_said(path, layout) | {"--header": ""}
+
+
+def with_columns(
+    path: Path, recipe: Recipe, layout: Layout, seen: Look | None
+) -> Recipe:
     """A recipe with the columns that `basket=` and `item=` name."""
-    has_header = "--header" in recipe
-    item = _number(layout["item"], seen, has_header)
-    keys = columns_of_key(layout["basket"])
-    numbers = [_number(key, seen, has_header) for key in keys]
+    names = _names(path, recipe, layout, seen)
+    item = _number(layout["item"], names)
+    numbers = [_number(key, names) for key in columns_of_key(layout["basket"])]
     # Several names in a cell stay apart, where they are those of this column.
     gone = {"--marks"} | ({"--within"} if recipe.get("--item") != item else set())
     rest = {name: word for name, word in recipe.items() if name not in gone}
     return rest | {"--basket": ",".join(numbers), "--item": item}
 
 
-def _number(column: object, seen: Look | None, has_header: bool) -> str:
+def _names(path: Path, recipe: Recipe, layout: Layout, seen: Look | None) -> list[str]:
+    """The names of the columns of a file that has a header."""
+    if seen is None or "--header" not in recipe:
+        return []
+    sep = recipe.get("--sep", "comma")
+    if not seen.readings or (layout["sep"] is not None and sep != seen.separator):
+        return _first_record(path, layout, sep)
+    if not seen.header:
+        # What is said to be a header is the first record.
+        return [*seen.rows[0]] if seen.rows else []
+    if len(seen.columns) >= _MOST_COLUMNS and sep in SEPARATORS:
+        return _first_record(path, layout, sep, seen)
+    return [column.name for column in seen.columns]
+
+
+def _first_record(
+    path: Path, layout: Layout, sep: str, seen: Look | None = None
+) -> list[str]:
+    """The cells of the first record, or of the header where `look` sees it."""
+    encoding = layout["encoding"] or (seen and seen.encoding) or "utf-8"
+    encoding = "utf-8-sig" if encoding == "utf-8" else encoding
+    with open(path, encoding=encoding, errors="replace", newline="") as file:
+        reader = csv.reader(file, delimiter=SEPARATORS[sep])
+        records = (record for record in reader if any(map(str.strip, record)))
+        header: list[str] = next(
+            itertools.islice(records, seen.skip if seen else 0, None), []
+        )
+        return [*map(str.strip, header)]
+
+
+def _number(column: object, names: list[str]) -> str:
     """The number of a column from 1 on, as the program counts."""
     place = whole_of(column)
     if place is not None:
         if place < 0:
             raise DataError(f"the place of a column is a number from 0 on, not {place}")
         return str(place + 1)
-    names = _names(seen) if seen and has_header else []
     if (found := names.count(column)) == 1:  # type: ignore[arg-type]
         return str(names.index(column) + 1)  # type: ignore[arg-type]
     if found:
         raise DataError(f"{found} columns have the name {column!r}: give a place")
     told = ", ".join(map(repr, names)) if names else "not known, since none has a name"
     raise DataError(f"no column has the name {column!r}: the columns are {told}")
-
-
-def _names(seen: Look) -> list[str]:
-    """The names of the columns; what is said to be a header may be the first record."""
-    if seen.header or not seen.rows:
-        return [column.name for column in seen.columns]
-    return [*seen.rows[0]]

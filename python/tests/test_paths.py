@@ -100,6 +100,34 @@ def test_columns_of_a_path_are_names_or_places_from_0(till: Path, columns: Any) 
     assert miner.items(ready, 2)["support"].tolist() == [3 / 8, 2 / 8]
 
 
+def test_names_of_columns_say_how_a_table_is_written_that_look_does_not_know(
+    tmp_path: Path,
+) -> None:
+    path = tmp_path / "fair.csv"
+    rows = ["a;b;c;d", "1;2;3;4", "5;6;7;8", "9;9;9;9", "1;2;3;4", "1;2;3;5"]
+    path.write_text("\n".join(rows))
+    assert miner.look(path).kind == "unclear"
+    right = {("4",): 1, ("5",): 1, ("8",): 1, ("9",): 1, ("4", "5"): 1}
+    found = miner.sets(path, 1, basket="a", item="d")
+    assert counts_of(found) == right
+    found = miner.sets(path, 1, basket=0, item=3, header=True, sep=";")
+    assert counts_of(found) == right
+    with pytest.raises(miner.DataError, match="isn't sure if the first record"):
+        miner.sets(path, 2, basket=0, item=2, sep=";")
+    with pytest.raises(miner.DataError, match="no column has the name 'shop'"):
+        miner.sets(path, 2, basket="a", item="shop")
+
+
+def test_a_column_far_to_the_right_has_its_name(tmp_path: Path) -> None:
+    path = tmp_path / "wide.csv"
+    names = ["receipt", *(f"note {n}" for n in range(80)), "product"]
+    rows = [["1", *["-"] * 80, "tea"], ["2", *["-"] * 80, "tea"]] * 5
+    lines = ["Shop 7", "", *map(";".join, [names, *rows])]
+    path.write_text("\n".join(lines))
+    found = miner.sets(path, 2, basket="receipt", item="product")
+    assert counts_of(found) == {("tea",): 2}
+
+
 def test_a_column_is_read_as_it_is_said_where_a_file_is_too_short_to_look_at(
     tmp_path: Path,
 ) -> None:
@@ -156,6 +184,15 @@ def test_an_encoding_that_is_said_is_that_of_the_file(
     for options in ({"form": "single"}, {"basket": 0, "item": 1}):
         found = miner.sets(path, 2, encoding=encoding, **options)  # type: ignore[arg-type]
         assert counts_of(found) == right
+
+
+def test_bytes_of_another_encoding_are_told_with_their_line(tmp_path: Path) -> None:
+    path = tmp_path / "kiosk.csv"
+    path.write_bytes("1,Tee\n2,Öl\n3,Tee\n".encode("cp1252"))
+    with pytest.raises(miner.InputError, match="line 2 is not utf-8") as caught:
+        miner.sets(path, 1, basket=0, item=1, form="single", encoding="utf-8")
+    assert caught.value.line == 2
+    assert 'give encoding="cp1252"' in caught.value.__notes__[0]
 
 
 def test_three_columns_that_are_read_as_two_bring_a_warning(till: Path) -> None:
