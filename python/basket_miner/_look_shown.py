@@ -13,8 +13,11 @@ _HEAD = ("column", "position", "name", "role", "different", "values")
 
 
 def text_of(seen: Look) -> str:
-    """Lines for a terminal."""
-    return "\n".join(_lines(seen))
+    """Lines for a terminal, which gets no commands of the file's bytes."""
+    return "\n".join(
+        "".join(letter if letter.isprintable() else "\ufffd" for letter in line)
+        for line in _lines(seen)
+    )
 
 
 def _lines(seen: Look) -> Iterator[str]:

@@ -69,6 +69,13 @@ def test_a_terminal_shows_the_same_as_lines(seen: miner.Look) -> None:
     assert "  1: <b>Käse, Öl & Salz" in lines
 
 
+def test_a_terminal_gets_no_commands_of_the_bytes_of_a_file(tmp_path: Path) -> None:
+    path = tmp_path / "till.csv"
+    path.write_text("receipt,product\n1,\x9b2Jtea\n1,jam\n2,\x9b2Jtea\n")
+    assert "\ufffd2Jtea" in str(miner.look(path))
+    assert "\x9b" not in str(miner.look(path))
+
+
 def test_a_doubt_is_shown_and_refused(tmp_path: Path) -> None:
     path = tmp_path / "members.csv"
     lines = [f"{n % 3},2026-11-0{n % 2 + 1},item {n % 5}" for n in range(30)]
