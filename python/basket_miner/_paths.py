@@ -107,7 +107,7 @@ def _refuse_words(layout: Layout) -> None:
 def _as_seen(path: Path, layout: Layout, seen: Look | None) -> Baskets:
     """The baskets of a file that nothing is said about, but its separator, header or encoding."""
     is_csv = path.suffix.lower() in _CSV_ENDINGS
-    if seen is None or not seen.readings or seen.kind in ("fimi", "counts"):
+    if seen is None or not seen.readings or _is_of_numbers(seen):
         if is_csv:
             why = f" and is {seen.what}" if seen and seen.what else ""
             raise DataError(
@@ -133,6 +133,15 @@ def _as_seen(path: Path, layout: Layout, seen: Look | None) -> Baskets:
             recipe = recipe_of([*reading.pairs, *more]) | {"--encoding": own}
             return _rewritten(path, recipe)
     return _of_reading(seen, reading, more)
+
+
+def _is_of_numbers(seen: Look) -> bool:
+    """Whether a file is FIMI text, or would be without some words, which the program tells with their lines."""
+    if seen.kind in ("fimi", "counts"):
+        return True
+    words = [word for row in seen.rows for word in row if word]
+    are_most = 2 * sum(map(str.isdigit, words)) > len(words)
+    return seen.kind == "baskets" and seen.separator in ("space", "tab") and are_most
 
 
 def _of_reading(seen: Look, reading: Reading, more: list[str] | tuple[()]) -> Baskets:
@@ -166,7 +175,7 @@ def _not_sure(path: Path, seen: Look) -> str:
 
 def _warn_of_fimi(path: Path, seen: Look | None) -> None:
     """Warns where the numbers of a file that is read as FIMI may be no items."""
-    if not seen or not seen.readings or seen.readings[0].form in ("fimi", "counts"):
+    if seen is None or seen.kind != "fimi" or seen.readings[0].form == "fimi":
         return
     told = " ".join(seen.because + seen.doubts)
     warn(

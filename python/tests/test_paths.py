@@ -234,6 +234,13 @@ def test_numbers_are_read_as_before_and_bring_a_warning_if_they_may_be_no_items(
     assert not told_by(lambda: miner.sets(pairs, "10%", basket=0, item=1))
 
 
+def test_a_word_among_numbers_is_refused_with_its_line(tmp_path: Path) -> None:
+    path = tmp_path / "shop.dat"
+    path.write_text("1 2 3\n2 3\n1 O 3\n1 2\n3 4 5 6\n" * 9)
+    with pytest.raises(miner.InputError, match="line 3: byte 0x4F"):
+        miner.sets(path, 1)
+
+
 def test_a_file_of_another_kind_is_refused_with_what_helps(tmp_path: Path) -> None:
     path = tmp_path / "shop.json"
     path.write_text('[{"receipt": 1, "product": "tea"}]\n')
