@@ -37,7 +37,7 @@ pub fn frequent_ranks(alloc: Global, coded: &Coded) -> Result<(CountedSets, Exte
 }
 
 /// The frequent items, from which a search goes on once the frequent pairs are known.
-#[derive(Debug, Drop)]
+#[derive(Drop)]
 pub struct FirstLevel<'a> {
     coded: &'a Coded,
     limit: u32,

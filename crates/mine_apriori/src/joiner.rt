@@ -48,7 +48,7 @@ pub trait Joiner {
 }
 
 /// The calling thread.
-#[derive(Clone, Copy, Debug)]
+#[derive(Clone, Copy)]
 pub struct Alone;
 
 impl Joiner for Alone {

@@ -22,7 +22,7 @@ use std::thread::Threads;
 /// A search for the frequent sets, level by level (Agrawal and Srikant 1994): a level is those of
 /// one size. All frequent sets up to some size are found, and it asks for the supports of the
 /// candidates of one more item.
-#[derive(Debug, Drop)]
+#[derive(Drop)]
 pub struct Levels<'a> {
     coded: &'a Coded,
     limit: u32,
