@@ -14,7 +14,7 @@ _basket() {
         return
         ;;
     --encoding) values="utf-8 utf-16le utf-16be windows-1252 cp850 macintosh" ;;
-    --within) values="comma semicolon pipe slash plus" ;;
+    --within) values="comma semicolon pipe slash plus line" ;;
     --sets) return ;;
     *)
         case $COMP_CWORD:${COMP_WORDS[1]} in
@@ -29,7 +29,7 @@ _basket() {
             [[ $word != -* ]] && return
             case ${COMP_WORDS[1]} in
             look) values="--json --help" ;;
-            pairs) values="--item --marks --basket --fill --within --header --skip --skip-last --sep --columns --encoding --help" ;;
+            pairs) values="--item --marks --basket --fill --within --counts --header --skip --skip-last --sep --columns --encoding --help" ;;
             count) values="--sets --form --sep --header --weight --workers --pieces --help" ;;
             *) values="--min --form --sep --header --weight --miner --limit --workers --pieces --help" ;;
             esac

@@ -273,6 +273,18 @@ def files() -> dict[str, tuple[bytes, Sets]]:
     head = ["customer_id", "time", "transaction_id", "product_name"]
     put("customers.csv", table(lines_of(customer, time, receipt, name), head), named)
     head = ["order_id", "product_category", "product_name", "product_id"]
+    head = ["order_id", "order_item_id", "product_id", "qty_ordered"]
+    places = {line: n for n, line in enumerate(LINES)}
+    orders = lines_of(
+        receipt, lambda place, item: places[place, item] % 3 + 1, code, amount
+    )
+    put("orders.csv", table(orders, head), coded)
+    guids = lines_of(receipt, lambda place, item: f"{places[place, item]:08x}-77", name)
+    put("guids.csv", table(guids, ["SalesOrderID", "rowguid", "Ware"]), named)
+    stores = lines_of(
+        lambda place, _: f"M{place % 3}", lambda place, _: place // 3 + 1, name
+    )
+    put("stores.csv", table(stores, ["Markt", "Beleg", "Ware"]), named)
     put("groups.csv", table(lines_of(receipt, group, name, code), head), named)
     anew = lines_of(day, lambda place, _: place % 40 + 1, name)
     put("anew.csv", table(anew, ["date", "receipt", "product"]), named)
@@ -322,8 +334,17 @@ def files() -> dict[str, tuple[bytes, Sets]]:
     braces = [row[::-1] for row in each(PLAIN, lambda names: f"{{{','.join(names)}}}")]
     put("cells_braces.csv", table(braces, ["items", "transactionID"]), simple)
     put("lists.txt", "".join(f"{row[1]}\n" for row in each(PLAIN, str)), simple)
+    many = each(
+        PLAIN, lambda names: ", ".join(f"{1 + len(it) % 3}x {it}" for it in names)
+    )
+    put("cells_counted.csv", table(many, ["order", "items"]), simple)
+    put("cells_lines.csv", table(each(PLAIN, "\n".join), ["order", "Products"]), simple)
     put("ragged.csv", table(listed(NAMES)), named)
     put("padded.csv", table(padded(listed(NAMES))), named)
+    numbered = [[place, *row] for place, row in enumerate(padded(listed(NAMES)))]
+    put("frame.csv", table(numbered, ["", *range(WIDEST)]), named)
+    gaps = [[cell if cell != "" else "nan" for cell in row] for row in numbered]
+    put("frame_nan.csv", table(gaps, ["", *range(WIDEST)]), named)
     counts = padded(listed(NAMES, lambda place: len(BASKETS[place])))
     head = ["Item(s)", *(f"Item {n + 1}" for n in range(WIDEST))]
     put("counted.csv", table(counts, head), named)

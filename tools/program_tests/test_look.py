@@ -192,6 +192,13 @@ class Pairs(unittest.TestCase):
             ),
             (["--item=1", "--within=plus"], b"a + b\n", "1,a\n1,b\n"),
             (
+                ["--item=2", "--within=comma", "--counts"],
+                b'1,"2x a, b x3, c (4), 7up"\n',
+                "1,a\n1,b\n1,c\n1,7up\n",
+            ),
+            (["--item=1", "--within=line"], b'"a\nb"\n', "1,a\n1,b\n"),
+            (["--header", "--item=1"], b"name\na\nname\nb\n", "1,a\n3,b\n"),
+            (
                 [*top, "--skip-last=1", "--basket=2", "--item=3"],
                 table,
                 "1,tea\n1,a;b\n2,jam\n",
