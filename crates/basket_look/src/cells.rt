@@ -1,12 +1,11 @@
 //! Tables with several names in a cell.
 use crate::column::Column;
+use crate::distinct::Distinct;
 use crate::reading::Reading;
 use crate::table::Table;
 use crate::value::{Word, is_number};
 use basket_pairs::{Fields, Span, names_within, without_count, word_of};
-use indexmap::IndexSet;
 use std::alloc::AllocError;
-use std::hash::{BuildHasherDefault, FoldHasher};
 
 /// What may stand between names in a cell. A comma is the last, since it may also stand in a name.
 const SEPARATORS: [char; 6] = ['\n', ';', '|', '+', '/', ','];
@@ -43,13 +42,10 @@ fn has_names(
     reading: &mut Reading,
 ) -> Result<bool, AllocError> {
     let alloc = table.alloc;
-    let mut names: IndexSet<&str, BuildHasherDefault<FoldHasher>> = IndexSet::with_hasher(
-        alloc,
-        BuildHasherDefault::new(),
-    );
+    let mut names = Distinct::new(alloc);
     let (mut several, mut all, mut numbers): (usize, usize, usize) = (0, 0, 0);
     let (mut blanks, mut counts): (usize, usize) = (0, 0);
-    for value in column.values.iter() {
+    for value in column.values.all() {
         let parts = names_within(alloc, *value, separator)?;
         if parts.len() > 1 {
             several = several.saturating_add(1);
@@ -66,7 +62,7 @@ fn has_names(
             if name.len() < part.len() {
                 counts = counts.saturating_add(1);
             }
-            names.insert(name)?;
+            let _ = names.code_of(name)?;
         }
     }
     let is_text = !column.is_of_measures()

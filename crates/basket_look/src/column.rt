@@ -1,9 +1,8 @@
 //! A column of a table, and what it determines.
+use crate::distinct::Distinct;
 use crate::value::{is_compact_day, is_day, is_measure, is_number};
 use basket_pairs::{day_of, is_null};
-use indexmap::IndexSet;
 use std::alloc::{AllocError, Global};
-use std::hash::{BuildHasherDefault, FoldHasher};
 
 /// The values of a column, below its header.
 #[derive(Drop)]
@@ -12,7 +11,7 @@ pub struct Column<'a> {
     pub number: usize,
     pub header: &'a str,
     /// Each value once, in the order of their first records.
-    pub values: IndexSet<&'a str, BuildHasherDefault<FoldHasher>>,
+    pub values: Distinct<'a>,
     /// The index of each record's value.
     pub codes: Vec<u32>,
     pub counts: Counts,
@@ -43,7 +42,7 @@ impl<'a> Column<'a> {
         Column {
             number,
             header,
-            values: IndexSet::with_hasher(alloc, BuildHasherDefault::new()),
+            values: Distinct::new(alloc),
             codes: Vec::new(alloc),
             counts: Counts::default(),
         }
@@ -57,8 +56,7 @@ impl<'a> Column<'a> {
         } else {
             value
         };
-        let (index, _) = self.values.insert_full(value)?;
-        let code = u32::try_from(index).unwrap_or(u32::MAX);
+        let code = self.values.code_of(value)?;
         if self.codes.last() != Some(&code) {
             self.counts.runs = self.counts.runs.saturating_add(1);
         }
@@ -77,7 +75,7 @@ impl<'a> Column<'a> {
     }
 
     pub fn has(&self, value: &str) -> bool {
-        self.values.contains(&value)
+        self.values.has(value)
     }
 
     /// Whether so many values are more than half of those that are not blank.
@@ -121,14 +119,10 @@ impl<'a> Column<'a> {
 
     /// The codes of the days in it, without their times.
     pub fn day_codes(&self, alloc: Global) -> Result<Vec<u32>, AllocError> {
-        let mut days: IndexSet<&str, BuildHasherDefault<FoldHasher>> = IndexSet::with_hasher(
-            alloc,
-            BuildHasherDefault::new(),
-        );
+        let mut days = Distinct::new(alloc);
         let mut day_of_code = Vec::new(alloc);
-        for value in self.values.iter() {
-            let (index, _) = days.insert_full(day_of(*value))?;
-            day_of_code.push(u32::try_from(index).unwrap_or(u32::MAX))?;
+        for value in self.values.all() {
+            day_of_code.push(days.code_of(day_of(*value))?)?;
         }
         let mut codes = Vec::new(alloc);
         for code in &self.codes {

@@ -88,7 +88,7 @@ fn say_table(said: &mut Said, view: &View<'_, '_>, table: &Table<'_>) {
         said.push_str(",\"role\":");
         said.quote(view.role(number).name());
         write!(said, ",\"different\":{different},\"values\":[");
-        for (place, value) in column.values.iter().take(MOST_VALUES).enumerate() {
+        for (place, value) in column.values.all().iter().take(MOST_VALUES).enumerate() {
             said.push_comma(place);
             said.quote(*value);
         }

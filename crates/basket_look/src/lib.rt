@@ -18,6 +18,7 @@ mod codes;
 mod column;
 mod command;
 mod decoded;
+mod distinct;
 mod file;
 mod foreign;
 mod json;

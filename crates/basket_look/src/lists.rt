@@ -82,7 +82,7 @@ fn is_list(table: &Table<'_>) -> bool {
 /// Whether many values of one column are in the other too.
 fn share_values(one: &Column<'_>, other: &Column<'_>) -> bool {
     let mut shared: usize = 0;
-    for value in one.values.iter() {
+    for value in one.values.all() {
         if !value.is_empty() && other.has(*value) {
             shared = shared.saturating_add(1);
         }
@@ -182,6 +182,7 @@ If it is the count of a set, it is --form csv-counts.\n",
 fn has_names_behind_colons(column: &Column<'_>) -> bool {
     let count = column
         .values
+        .all()
         .iter()
         .filter(|value| value.contains(": "))
         .count();
@@ -203,7 +204,7 @@ fn counts_others(table: &Table<'_>) -> bool {
 /// Whether numbers may say how often a basket comes: they are small and come again.
 fn is_weight(column: &Column<'_>) -> bool {
     let header = column.header;
-    let is_small = column.values.iter().all(|value| value.len() <= 4);
+    let is_small = column.values.all().iter().all(|value| value.len() <= 4);
     let is_named = Word::Basket.is_in(header) || Word::Customer.is_in(header);
     column.is_of_numbers() && is_small && !column.is_unique() && !is_named
 }

@@ -169,7 +169,7 @@ fn say_columns(said: &mut Said, view: &View<'_, '_>) {
             Role::Nothing => (),
         }
         write!(said, ": {count} different,");
-        for value in column.values.iter().take(SHOWN_VALUES) {
+        for value in column.values.all().iter().take(SHOWN_VALUES) {
             said.push_str(" ");
             said.show(*value);
             said.push_str(",");
