@@ -3,8 +3,28 @@ use std::alloc::{AllocError, Global};
 
 /// Words that say no, in small letters.
 const NO: [&str; 22] = [
-    "", "no", "n", "nein", "non", "nie", "nao", "não", "ne", "nej", "false", "falsch", "faux",
-    "falso", "f", "off", "not bought", "none", "n/a", "na", ".", "?",
+    "",
+    "no",
+    "n",
+    "nein",
+    "non",
+    "nie",
+    "nao",
+    "não",
+    "ne",
+    "nej",
+    "false",
+    "falsch",
+    "faux",
+    "falso",
+    "f",
+    "off",
+    "not bought",
+    "none",
+    "n/a",
+    "na",
+    ".",
+    "?",
 ];
 
 /// Whether a cell of marks says that the basket lacks the item: it is blank, says no, or is a number

@@ -182,7 +182,11 @@ impl Row<'_> {
     }
 
     fn hand_on_item<T: TakesPairs>(&self, item: &str, taker: &mut T) -> Result<(), PairsFault> {
-        let item = if self.recipe.has_counts { without_count(item) } else { item };
+        let item = if self.recipe.has_counts {
+            without_count(item)
+        } else {
+            item
+        };
         if item.is_empty() || is_null(item) {
             return Ok(());
         }

@@ -70,13 +70,19 @@ impl Lines<'_> {
     /// Reads the next line. Returns false if there is none.
     fn read(&mut self, record: &mut StringRecord) -> Result<bool, AllocError> {
         match self.rest.next() {
-            Some(line) => {
-                cut(line, self.fields, record)?;
-                Ok(true)
-            }
-            None => Ok(false),
+            // How many rows a database has shown.
+            Some(line) if is_row_count(line) => record.clear(),
+            Some(line) => cut(line, self.fields, record)?,
+            None => return Ok(false),
         }
+        Ok(true)
     }
+}
+
+/// Whether a line is as `(12 rows affected)`.
+fn is_row_count(line: &str) -> bool {
+    let line = line.trim();
+    line.starts_with('(') && line.ends_with(')') && line.contains(" row")
 }
 
 /// Cuts a line into its fields.
