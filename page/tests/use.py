@@ -15,7 +15,7 @@ from program_tests.program import Run, run
 SECONDS = 60
 GIVE = """
 const [text, name] = arguments;
-open(Uint8Array.from(atob(text), (letter) => letter.charCodeAt(0)), name);
+open(new Blob([Uint8Array.from(atob(text), (letter) => letter.charCodeAt(0))]), name);
 """
 REPORT = """
 const [done] = arguments;
