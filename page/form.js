@@ -28,9 +28,9 @@ function isChanged() {
   return source.words.join(" ") !== source.reading.pairs.join(" ");
 }
 
-// Of sets with counts and baskets with weights, pairs would lose the counts.
-function isCounted() {
-  return /count|weight/.test(source.reading.form);
+// Whether pairs would lose counts or weights.
+function isFixed() {
+  return /fimi|count|weight/.test(source.reading.form);
 }
 
 function valueOf(words, option) {
@@ -113,26 +113,29 @@ function encodingOf() {
 // The form of the file in a few words.
 function formInWords() {
   const { look, reading, words } = source;
-  if (!isChanged() && reading.form === "fimi") return "numbers, a basket on each line";
+  if (reading.form === "fimi") return "numbers, a basket on each line";
   if (reading.form === "counts") return "sets with counts";
   const form = words.includes("--marks") ? "a column for each item" : words.includes("--basket") ? "an item on each line" :
     words.includes("--within") ? "the items of a basket in one cell" : "a basket on each line";
   const fields = look.separator ? `separated by ${look.separator}` : "fields by their places";
-  return [form, fields, `${look.header ? "with" : "without"} a header`, ...(isCounted() ? ["its weight first"] : [])].join(", ");
+  return [form, fields, `${look.header ? "with" : "without"} a header`, ...(isFixed() ? ["its weight first"] : [])].join(", ");
 }
 
 function tellForm() {
   const { look, reading } = source;
   element("recognised").textContent = formInWords();
   element("encoding").value = encodingOf();
-  element("encoding").disabled = isCounted();
+  element("written").hidden = isFixed();
+  element("roles").hidden = isFixed();
   for (const cell of element("first-lines").querySelectorAll("[data-column]")) {
     const role = roleOf(Number(cell.dataset.column));
     cell.dataset.role = role;
     const shown = cell.querySelector(".role");
     if (shown) shown.textContent = role;
   }
-  const said = isChanged() ? ["As you chose it."] : [...reading.because, ...reading.notes];
+  const isOther = encodingOf() !== look.encoding;
+  const chosen = ["As you chose it.", ...(isOther ? [`The lines below are still read in ${look.encoding.toUpperCase()}.`] : [])];
+  const said = isChanged() ? chosen : [...reading.because, ...reading.notes];
   element("because").textContent = said.join(" ");
   const doubts = isChanged() || !reading.doubts.length ? [] : [made("p", `Not sure: ${reading.doubts.join(" ")}`)];
   const others = look.readings.filter((other) => other !== reading || isChanged());
@@ -165,10 +168,10 @@ function showLines() {
   for (const column of columns) {
     const name = column.name || `column ${column.number}`;
     const place = cell(head, "columnheader", column);
-    const top = made(isCounted() ? "span" : "button", undefined, place);
+    const top = made(isFixed() ? "span" : "button", undefined, place);
     made("bdi", name, top);
     made("span", undefined, top).className = "role";
-    if (isCounted()) continue;
+    if (isFixed()) continue;
     top.type = "button";
     top.addEventListener("click", () => {
       turnRole(column.number);
@@ -180,7 +183,7 @@ function showLines() {
     columns.forEach((column, place) => cell(row, "cell", column, shortened(cells[place] ?? "")));
     return row;
   });
-  element("first-lines").hidden = !columns.length;
+  element("lines").hidden = !columns.length;
   element("first-lines").replaceChildren(head, ...lines);
 }
 

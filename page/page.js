@@ -19,7 +19,7 @@ function open(given, name) {
     await ready;
     let blob = given;
     for (let layers = 0; layers < MOST_LAYERS && (await isPacked(blob)); layers++) blob = await unzipped(blob);
-    const answer = await ask(own, ["look", "--json", "-"], blob.slice(0, LOOKED_AT));
+    const answer = await lookedAt(own, blob);
     if (!answer) return;
     if (answer.status !== 0) return sayFault(answer.explanation);
     source = { name, given: blob, look: JSON.parse(new TextDecoder().decode(answer.report)) };
@@ -27,6 +27,10 @@ function open(given, name) {
     if (source.reading) await prepare(own);
     else sayFault(refusalOf(source.look, name));
   });
+}
+
+function lookedAt(own, blob) {
+  return ask(own, ["look", "--json", "-"], blob.slice(0, LOOKED_AT));
 }
 
 // The same file in another form.

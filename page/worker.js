@@ -92,7 +92,7 @@ function statusOf(run) {
     return { status: run() };
   } catch (error) {
     if (error instanceof Ended) return { status: error.status };
-    if (error instanceof DOMException) return { status: UNREADABLE, cut: `The file can't be read: ${error.message}\n` };
+    if (error instanceof DOMException) return { status: UNREADABLE, cut: "The file can't be read. If it was changed or moved, open it again.\n" };
     // The memory of this page can be out where the program can't see it: that of its calls, or of the report.
     if (error instanceof RangeError) return { status: OUT_OF_MEMORY, cut: "basket: out of memory\n" };
     return { status: TRAPPED, cut: `basket: the program was stopped: ${error.message}\n` };

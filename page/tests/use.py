@@ -61,12 +61,15 @@ def recognised(browser: webdriver.Chrome) -> str:
     return str(browser.execute_script("return element('recognised').textContent"))
 
 
+def shown_command(browser: webdriver.Chrome) -> str:
+    return str(browser.execute_script("return element('command').textContent"))
+
+
 def asked_of_the_program(
     browser: webdriver.Chrome, content: bytes, folder: Path
 ) -> Run:
     """What the program answers to the command that the page shows, which has no pipe."""
-    shown = browser.execute_script("return element('command').textContent")
-    name, *words = shlex.split(shown)
+    name, *words = shlex.split(shown_command(browser))
     assert name == "basket"
     (folder / words[-1]).write_bytes(content)
     return run([*words[:-1], str(folder / words[-1])])
