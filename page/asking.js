@@ -27,6 +27,7 @@ function saySoon(own, text) {
 
 function sayFault(text) {
   clear();
+  element("question").hidden = !source?.reading;
   say(text, true);
 }
 

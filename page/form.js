@@ -1,114 +1,11 @@
 
-// What the program's own `look` says of a file, shown, and what a person chooses otherwise: other words of `pairs`.
-const LOOKED_AT = (1 << 20) + 1; // One byte more than it reads tells it that there are more.
-const LETTERS = { comma: ",", semicolon: ";", tab: "\t", pipe: "|" };
-const OF_NUMBERS = " "; // What separates numbers, and no names.
-const MOST_LAYERS = 20; // A file that is packed again and again is unpacked so often.
+// What is shown of a file: its first lines below the roles of their columns, how it is read and why.
 const MOST_ROWS = 6;
 const MOST_LENGTH = 40; // Of a cell that is shown.
-const OF_PAIRS = ["--form", "single"];
-const LEFT_OUT = "left out";
+const MOST_BASKETS = 5;
+const MOST_NAMES = 12; // Of a basket that is shown.
 const FIRST_PAIRS = 4096; // Bytes of the pairs in which the first baskets are.
 const PAIR = /("(?:[^"]|"")*"|[^",\n]*),("(?:[^"]|"")*"|[^",\n]*)\n/gy;
-// What `look` advises at a command line, and what helps here.
-const REMEDIES = { short: "A few more lines of it would do.", unclear: "Save it as CSV with a basket's id and an item on each line." };
-
-// What a file is that is not mined, and what helps.
-function refusalOf({ kind, what, remedy }, name) {
-  const help = REMEDIES[kind] ?? (/^\w*cat$/.test(remedy) ? "Unpack it first." : remedy);
-  return `${name} is ${what}. ${help}`.trim();
-}
-
-// Takes a reading of the file that is opened.
-function takeReading(reading) {
-  Object.assign(source, { reading, words: [...reading.pairs] });
-}
-
-function isChanged() {
-  return source.words.join(" ") !== source.reading.pairs.join(" ");
-}
-
-// Whether pairs would lose counts or weights.
-function isFixed() {
-  return /fimi|count|weight/.test(source.reading.form);
-}
-
-function valueOf(words, option) {
-  return words.includes(option) ? words[words.indexOf(option) + 1] : "";
-}
-
-// Puts an option with its value where it is or at the end, or takes it out.
-function put(option, value) {
-  const place = source.words.indexOf(option);
-  source.words.splice(place < 0 ? source.words.length : place, place < 0 ? 0 : 2, ...(value ? [option, value] : []));
-}
-
-// A list of columns, as 2-5,8 or 3-, with or without one of them.
-function spansOf(list) {
-  return list.split(",").filter(Boolean).map((span) => {
-    const [first, last = first] = span.split("-");
-    return [Number(first), Number(last || Infinity)];
-  });
-}
-
-function without(list, column) {
-  return listOf(spansOf(list).flatMap(([first, last]) => (column < first || column > last ? [[first, last]] : [[first, column - 1], [column + 1, last]])));
-}
-
-function listOf(spans) {
-  const parts = [];
-  for (const [first, last] of spans.filter(([one, other]) => one <= other).sort(([one], [other]) => one - other)) {
-    if (parts.length && parts.at(-1)[1] + 1 >= first) parts.at(-1)[1] = Math.max(parts.at(-1)[1], last);
-    else parts.push([first, last]);
-  }
-  return parts.map(([first, last]) => (first === last ? first : `${first}-${last === Infinity ? "" : last}`)).join(",");
-}
-
-function optionOfItems() {
-  return source.reading.pairs.includes("--marks") ? "--marks" : "--item";
-}
-
-function keysOf() {
-  return valueOf(source.words, "--basket").split(",").filter(Boolean);
-}
-
-function roleOf(column) {
-  if (keysOf().some((key) => parseInt(key) === column)) return "basket";
-  const option = optionOfItems();
-  const isTaken = spansOf(valueOf(source.words, option)).some(([first, last]) => first <= column && column <= last);
-  return isTaken ? option.slice(2).replace(/s$/, "") : LEFT_OUT;
-}
-
-// A column that is left out becomes one of the basket's, then one of items, then is left out.
-function turnRole(column) {
-  const [option, role] = [optionOfItems(), roleOf(column)];
-  const items = without(valueOf(source.words, option), column);
-  const keys = keysOf().filter((key) => parseInt(key) !== column);
-  put("--basket", [...keys, ...(role === LEFT_OUT ? [column] : [])].join(","));
-  put(option, role === "basket" ? listOf([...spansOf(items), [column, column]]) : items);
-}
-
-// How the file is mined: the words of `pairs`, if it is rewritten by these, and those of the form that is read then.
-function waysOf() {
-  const { reading, words } = source;
-  const pairs = reading.as_it_is && !isChanged() ? null : [...words];
-  const options = pairs ? OF_PAIRS : reading.options;
-  const form = valueOf(options, "--form");
-  const letter = valueOf(options, "--sep") || "comma";
-  return { pairs, words: options, letter, separator: ["", "counts"].includes(form) ? OF_NUMBERS : LETTERS[letter] };
-}
-
-// What `pairs` says of a file that it can't rewrite, for the page.
-function faultOfPairs(explanation) {
-  const [, line] = explanation.match(/^basket: line (\d+) is not /) ?? [];
-  if (line) return `Line ${line} of the file is no text in ${encodingOf().toUpperCase()}. Choose another encoding above.`;
-  const [, column] = explanation.match(/^basket: no record has a column (\d+)/) ?? [];
-  return column ? `No line of the file has a column ${column}. Choose other columns above.` : explanation;
-}
-
-function encodingOf() {
-  return valueOf(source.words, "--encoding") || "utf-8";
-}
 
 // The form of the file in a few words.
 function formInWords() {
@@ -147,9 +44,8 @@ function offerReading(reading) {
   const button = made("button", "Read it so", offer);
   button.type = "button";
   button.addEventListener("click", () => {
-    takeReading(reading);
+    change(() => takeReading(reading));
     element("ask").focus();
-    again();
   });
   return offer;
 }
@@ -173,10 +69,7 @@ function showLines() {
     made("span", undefined, top).className = "role";
     if (isFixed()) continue;
     top.type = "button";
-    top.addEventListener("click", () => {
-      turnRole(column.number);
-      again();
-    });
+    top.addEventListener("click", () => change(() => turnRole(column.number)));
   }
   const lines = rows.slice(0, MOST_ROWS).map((cells) => {
     const row = line("row");
@@ -202,11 +95,11 @@ async function tellBaskets(own, pairs) {
     baskets.set(id, [...(baskets.get(id) ?? []), item]);
   }
   if (own !== turn) return;
-  element("baskets").replaceChildren(...[...baskets].slice(0, MOST_ROWS - 1).map(([id, items]) => {
+  element("baskets").replaceChildren(...[...baskets].slice(0, MOST_BASKETS).map(([id, items]) => {
     const one = made("li");
     made("bdi", id, one);
     one.append(": ");
-    addNames(items.slice(0, 12), one);
+    addNames(items.slice(0, MOST_NAMES), one);
     return one;
   }));
   element("begun").hidden = !baskets.size;

@@ -3,6 +3,7 @@
 const FEW_RULES = 10; // With fewer, a new file begins at the next lower confidence.
 const CONFIDENCES = [50, 20, 5, 0];
 const EXAMPLE = "example.csv";
+const MOST_LAYERS = 20; // A file that is packed again and again is unpacked so often.
 // What was opened: { name, given: its blob, look: what `look` says, reading: that which is taken, words: of `pairs` }.
 let source = null;
 // What is mined, once all of it is there: { name, input: a blob, pairs: the words of `pairs`, if these wrote it, words:
@@ -27,10 +28,6 @@ function open(given, name) {
     if (source.reading) await prepare(own);
     else sayFault(refusalOf(source.look, name));
   });
-}
-
-function lookedAt(own, blob) {
-  return ask(own, ["look", "--json", "-"], blob.slice(0, LOOKED_AT));
 }
 
 // The same file in another form.
@@ -84,21 +81,6 @@ async function prepare(own) {
   file = made;
   setTotal(total);
   await askFirst(own, state, least);
-}
-
-// The blob that is mined: the file, or its pairs.
-async function inputOf(own, { pairs }) {
-  if (!pairs) return source.given;
-  if (!pairs.includes(optionOfItems())) return void sayFaultOfFile("No column has the items. Choose one above.");
-  const answer = await ask(own, ["pairs", ...pairs, "-"], source.given);
-  if (answer?.status === 0) return new Blob([answer.report]);
-  if (answer) sayFaultOfFile(faultOfPairs(answer.explanation));
-  return null;
-}
-
-function sayFaultOfFile(text) {
-  element("glance").open = true;
-  sayFault(text);
 }
 
 // What the address says of the question to a file: of that to another, its kind alone.
@@ -190,10 +172,7 @@ function openTransfer(transfer, name) {
 
 function startQuestion() {
   element("question").addEventListener("submit", (event) => event.preventDefault());
-  element("encoding").addEventListener("change", () => {
-    put("--encoding", element("encoding").value);
-    again();
-  });
+  element("encoding").addEventListener("change", () => change(() => takeEncoding(element("encoding").value)));
   element("minimum").addEventListener("input", () => {
     setLeast(counts[Number(element("minimum").value)]);
     askAnew();

@@ -13,7 +13,15 @@ from browser import at
 from program_tests.program import run
 from program_tests.test_look import RECEIPTS, SHOP, sets_in
 
-from .use import choose, give, recognised, report_of, settled, shown_command
+from .use import (
+    asked_of_the_program,
+    choose,
+    give,
+    recognised,
+    report_of,
+    settled,
+    shown_command,
+)
 
 COMMA = "an item on each line, separated by comma, with a header"
 # Files that have the same receipts, and what the page says of their form.
@@ -37,6 +45,8 @@ SHELVES = "receipt,shelf,product\n" + "".join(
 CAFES = "receipt;product\n" + "".join(
     f"{n // 2};{('café', 'tea')[n % 2]}\n" for n in range(40)
 )
+
+ANOTHER = "Choose another encoding above."
 
 
 @pytest.fixture(name="shown", scope="module")
@@ -62,6 +72,10 @@ def turn(browser: webdriver.Chrome, name: str) -> str:
     said = settled(browser)
     assert browser.switch_to.active_element == head
     return said
+
+
+def because(browser: webdriver.Chrome) -> str:
+    return str(browser.execute_script("return element('because').textContent"))
 
 
 def items(browser: webdriver.Chrome) -> set[str]:
@@ -140,18 +154,21 @@ def test_columns_that_are_not_shown_keep_what_they_are(shown: webdriver.Chrome) 
     assert items(shown) == {f"i{n}" for n in (1, 2, *range(4, 10), *range(61, 70))}
 
 
-def test_letters_are_read_as_a_person_says(shown: webdriver.Chrome) -> None:
-    give(shown, CAFES.encode("cp1252"))
+def test_letters_are_read_as_a_person_says(
+    shown: webdriver.Chrome, tmp_path: Path
+) -> None:
+    content = CAFES.encode("cp1252")
+    give(shown, content)
     assert items(shown) == {"café", "tea"}
     choose(shown, "encoding", "macintosh")
     assert items(shown) == {"cafÈ", "tea"}
-    choose(shown, "encoding", "utf-8")
-    assert (
-        settled(shown)
-        == "Line 2 of the file is no text in UTF-8. Choose another encoding above."
-    )
+    assert report_of(shown) == asked_of_the_program(shown, content, tmp_path).out
+    assert "As you chose it." in because(shown)
+    said = choose(shown, "encoding", "utf-8")
+    assert said == f"The file is no text in UTF-8 at line 2. {ANOTHER}"
     assert not at(shown, "listing").is_displayed()
     choose(shown, "encoding", "windows-1252")
+    assert because(shown).startswith("An item of a basket in each record")
     assert items(shown) == {"café", "tea"}
 
 

@@ -65,14 +65,15 @@ def test_a_change_while_a_file_is_opened_is_of_that_file(
     assert report_of(shown) == run(words, RECEIPTS).out != b""
 
 
+@pytest.mark.parametrize(("shelf", "place"), [("", "record"), (",s", "line")])
 def test_bytes_that_are_no_text_are_told_wherever_they_are(
-    shown: webdriver.Chrome,
+    shown: webdriver.Chrome, shelf: str, place: str
 ) -> None:
-    # The first MiB has none, which is what is looked at.
-    lines = "".join(f"r{n // 2},s,item {n % 50},1\n" for n in range(70_000))
-    given = f"receipt,shelf,product,price\n{lines}r1,s,caf\xe9,1\nr1,s,caf\xe8,1\n"
-    said = "Line 70002 of the file is no text in UTF-8. Choose another encoding above."
-    assert give(shown, given.encode("latin-1")) == said
+    # The first MiB has none, which is what is looked at. One file is read as it is, the other is rewritten.
+    lines = "".join(f"r{n // 2}{shelf},item no. {n % 50}\n" for n in range(60_000))
+    given = f"receipt{shelf},product\n{lines}r1{shelf},caf\xe9\n".encode("latin-1")
+    said = f"The file is no text in UTF-8 at {place} 60002."
+    assert give(shown, given).startswith(said)
     assert not at(shown, "listing").is_displayed()
     assert at(shown, "encoding").is_displayed()
 
