@@ -88,18 +88,18 @@ function shortened(text) {
 async function tellBaskets(own, pairs) {
   const { look, reading } = source;
   const isFirst = reading === look.readings[0] && !isChanged();
-  const baskets = new Map(isFirst ? look.baskets.map(({ id, items }) => [id, items]) : []);
+  const baskets = new Map(isFirst ? look.baskets.map(({ id, items }) => [id, new Set(items)]) : []);
   const text = isFirst || !pairs ? "" : await pairs.slice(0, FIRST_PAIRS).text();
   for (const [, ...fields] of text.matchAll(PAIR)) {
     const [id, item] = fields.map((field) => (field.startsWith('"') ? field.slice(1, -1).replaceAll('""', '"') : field));
-    baskets.set(id, [...(baskets.get(id) ?? []), item]);
+    baskets.set(id, (baskets.get(id) ?? new Set()).add(item));
   }
   if (own !== turn) return;
   element("baskets").replaceChildren(...[...baskets].slice(0, MOST_BASKETS).map(([id, items]) => {
     const one = made("li");
     made("bdi", id, one);
     one.append(": ");
-    addNames(items.slice(0, MOST_NAMES), one);
+    addNames([...items].slice(0, MOST_NAMES), one);
     return one;
   }));
   element("begun").hidden = !baskets.size;

@@ -43,6 +43,7 @@ function beginOpening(own) {
   opening = { own, isAsked: Boolean(opening?.isAsked) };
   file = null;
   clear();
+  element("begun").hidden = true;
   allowMinimum(false);
   tellLeast();
 }
