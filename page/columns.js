@@ -32,6 +32,7 @@ function keysOf() {
 }
 
 function roleOf(column) {
+  if (isFixed() && column === 1) return source.reading.form === "counts" ? "count" : "weight";
   if (keysOf().some((key) => parseInt(key) === column)) return "basket";
   const option = optionOfItems();
   const isTaken = spansOf(valueOf(source.words, option)).some(([first, last]) => first <= column && column <= last);

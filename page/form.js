@@ -35,7 +35,7 @@ function tellForm() {
   const said = isChanged() ? chosen : [...reading.because, ...reading.notes];
   element("because").textContent = said.join(" ");
   const doubts = isChanged() || !reading.doubts.length ? [] : [made("p", `Not sure: ${reading.doubts.join(" ")}`)];
-  const others = look.readings.filter((other) => other !== reading || isChanged());
+  const others = source.readings.filter((other) => other !== reading || isChanged());
   element("doubts").replaceChildren(...doubts, ...others.map(offerReading));
 }
 

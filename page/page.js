@@ -4,7 +4,8 @@ const FEW_RULES = 10; // With fewer, a new file begins at the next lower confide
 const CONFIDENCES = [50, 20, 5, 0];
 const EXAMPLE = "example.csv";
 const MOST_LAYERS = 20; // A file that is packed again and again is unpacked so often.
-// What was opened: { name, given: its blob, look: what `look` says, reading: that which is taken, words: of `pairs` }.
+// What was opened: { name, given: its blob, look: what `look` says, readings, reading: that which is taken, words: of
+// `pairs` }.
 let source = null;
 // What is mined, once all of it is there: { name, input: a blob, pairs: the words of `pairs`, if these wrote it, words:
 // of a command line for its form, separator, letter: the separator's name, total, mined: its itemsets once some are }.
@@ -23,7 +24,8 @@ function open(given, name) {
     const answer = await lookedAt(own, blob);
     if (!answer) return;
     if (answer.status !== 0) return sayFault(answer.explanation);
-    source = { name, given: blob, look: JSON.parse(new TextDecoder().decode(answer.report)) };
+    const look = JSON.parse(new TextDecoder().decode(answer.report));
+    source = { name, given: blob, look, readings: readingsOf(look) };
     tellSource();
     if (source.reading) await prepare(own);
     else sayFault(refusalOf(source.look, name));
@@ -49,7 +51,7 @@ function beginOpening(own) {
 }
 
 function tellSource() {
-  const { name, look: { readings } } = source;
+  const { name, readings } = source;
   element("file-name").textContent = name;
   element("question").hidden = !readings.length;
   document.body.classList.add("opened");

@@ -18,6 +18,14 @@ function refusalOf({ kind, what, remedy }, name) {
   return `${name} is ${what}. ${help}`.trim();
 }
 
+// The readings of a file. `look` names sets with counts in CSV only in a doubt about weights: here they are a reading.
+function readingsOf({ readings }) {
+  const weighted = readings.find(({ form }) => form === "weighted baskets");
+  if (!weighted) return readings;
+  const options = weighted.options.filter((word) => word !== "--weight").map((word) => (word === "baskets" ? "csv-counts" : word));
+  return [...readings, { ...weighted, form: "counts", options, because: ["Sets with their counts, as reports have them."], doubts: [] }];
+}
+
 // Takes a reading of the file that is opened.
 function takeReading(reading) {
   Object.assign(source, { reading, words: [...reading.pairs] });

@@ -15,6 +15,7 @@ from program_tests.test_look import RECEIPTS, SHOP, sets_in
 
 from .use import (
     asked_of_the_program,
+    figures,
     choose,
     give,
     recognised,
@@ -176,13 +177,24 @@ def test_another_reading_is_a_button(shown: webdriver.Chrome) -> None:
     weighted = (
         "a basket on each line, separated by comma, without a header, its weight first"
     )
-    give(shown, b"3,milk,tea\n2,tea\n3,milk\n1,jam\n1,milk\n")
-    assert recognised(shown) == weighted
-    assert "in 10 baskets" in settled(shown)
-    assert at(shown, "doubts").text.startswith("Not sure: The number before a basket")
-    at(shown, "doubts").find_element(By.TAG_NAME, "button").click()
-    assert "in 5 baskets" in settled(shown)
-    assert recognised(shown) == weighted.removesuffix(", its weight first")
+    give(shown, b"10\n3,milk,tea\n4,tea\n3,milk\n1,jam\n")
+    found = [(recognised(shown), figures(settled(shown))[1])]
+    said = at(shown, "doubts").text
+    assert said.startswith("Not sure: The number before a basket")
+    for place in (0, 2):
+        buttons = at(shown, "doubts").find_elements(By.TAG_NAME, "button")
+        assert len(buttons) == 2
+        buttons[place // 2].click()
+        found.append((recognised(shown), figures(settled(shown))[1]))
+    # The weights of the records with a name, these records, and the count of the empty set.
+    assert found == [
+        (weighted, 11),
+        (weighted.removesuffix(", its weight first"), 4),
+        ("sets with counts", 10),
+    ]
+    choose(shown, "ask", "sets")
+    choose(shown, "least", "3")
+    assert report_of(shown).decode().splitlines() == ["3,milk", "4,tea", "3,milk,tea"]
 
 
 @pytest.mark.parametrize(
