@@ -31,7 +31,7 @@ function tellForm() {
     if (shown) shown.textContent = role;
   }
   const isOther = encodingOf() !== look.encoding;
-  const chosen = ["As you chose it.", ...(isOther ? [`The lines below are still read in ${look.encoding.toUpperCase()}.`] : [])];
+  const chosen = ["As you chose it.", ...(isOther ? [`The lines below are still shown in ${encodingName(look.encoding)}.`] : [])];
   const said = isChanged() ? chosen : [...reading.because, ...reading.notes];
   element("because").textContent = said.join(" ");
   const doubts = isChanged() || !reading.doubts.length ? [] : [made("p", `Not sure: ${reading.doubts.join(" ")}`)];

@@ -72,6 +72,10 @@ function encodingOf() {
   return valueOf(source.words, "--encoding") || "utf-8";
 }
 
+function encodingName(name) {
+  return element("encoding").querySelector(`[value=${name}]`).textContent;
+}
+
 function takeEncoding(name) {
   put("--encoding", name === "utf-8" ? "" : name);
 }
@@ -91,6 +95,6 @@ function sayFaultOfFile(explanation) {
   element("glance").open = true;
   const [, place] = explanation.match(/^basket: ((?:line|record) \d+)(?:: field is not UTF-8| is not \S+: --encoding)/) ?? [];
   const [, column] = explanation.match(/^basket: no record has a (column \d+)/) ?? [];
-  if (place) sayFault(`The file is no text in ${encodingOf().toUpperCase()} at ${place}. Choose another encoding above.`);
+  if (place) sayFault(`The file is no text in ${encodingName(encodingOf())} at ${place}. Choose another encoding above.`);
   else sayFault(column ? `No line of the file has a ${column}. Choose other columns above.` : explanation);
 }
