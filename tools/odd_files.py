@@ -115,7 +115,7 @@ def time(place: int, _: int) -> object:
     return f"{WHEN[place]:%Y-%m-%d %H:%M}"
 
 
-def hour(place: int, _: int) -> object:
+def clock(place: int, _: int) -> object:
     return f"{WHEN[place]:%H:%M}"
 
 
@@ -287,7 +287,7 @@ def files() -> dict[str, tuple[bytes, Sets]]:
         named,
     )
     head = ["Datum", "Uhrzeit", "Artikel", "Menge"]
-    put("hours.csv", table(lines_of(german_day, hour, name, amount), head, ";"), named)
+    put("hours.csv", table(lines_of(german_day, clock, name, amount), head, ";"), named)
     first = {place: number for number, (place, _) in reversed(list(enumerate(LINES)))}
     blanks: list[Row] = [
         [IDS[place] if first[place] == number else "", NAMES[item]]

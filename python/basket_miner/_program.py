@@ -89,7 +89,7 @@ def _fault_of(file: str) -> str | None:
         return f"{file} does not run: {fault}"
     said = ended.stdout.decode(errors="replace").strip()
     major, minor = map(int, __version__.split(".")[:2])
-    found = re.fullmatch(r"basket (\d+)\.(\d+)\.\d+", said)
+    found = re.fullmatch(r"basket (\d+)\.(\d+)\.\d+(?:-dev)?", said)
     if not found or int(found[1]) != major or int(found[2]) < minor:
         return (
             f"{file} is not basket {major}.{minor} or a later {major}.x: for --version it "

@@ -141,7 +141,7 @@ class Others(unittest.TestCase):
         self.assertIn("is no text", said_of(b"a,\x1b[31mb\nc,d\n" * 5))
         for letter in ("\x7f", "\x9b"):
             with self.subTest(letter=letter):
-                said = said_of(f"a,{letter}31mb\na,d\n".encode() * 5)
+                said = said_of(f"a,{letter}31mb\nb,{letter}31mb\nb,tea\n".encode() * 5)
                 self.assertNotIn(letter, said)
                 self.assertIn("?31mb", said)
 

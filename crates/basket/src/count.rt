@@ -35,7 +35,9 @@ pub fn run_count<R: RandomSource + Threads + Sync, S: Source, T: Source, W: Sink
     writer: &mut W,
 ) -> Result<(), RunFault>
     requires sets { S.has_failed sets.old ≡ false }
+    requires sets_open { S.at_end sets.old ≡ false }
     requires reader { T.has_failed reader.old ≡ false }
+    requires reader_open { T.at_end reader.old ≡ false }
     requires writer { W.has_failed writer.old ≡ false }
 
     // What is written, for readers and a writer that report their bytes.
@@ -72,7 +74,9 @@ fn counts<R: RandomSource + Threads + Sync, S: Source, T: Source>(
     reader: &mut T,
 ) -> Result<PreparedReport, RunFault>
     requires sets { S.has_failed sets.old ≡ false }
+    requires sets_open { S.at_end sets.old ≡ false }
     requires reader { T.has_failed reader.old ≡ false }
+    requires reader_open { T.at_end reader.old ≡ false }
     ensures made { MakesCounts plan.now.layout (S.left sets.old) (S.has_failed sets.new) (T.left reader.old) (T.left reader.new) (T.has_failed reader.new) result }
     ensures ended { OnOk result ((S.at_end sets.new ≡ true) × (T.at_end reader.new ≡ true)) }
 {

@@ -34,6 +34,7 @@ pub fn run<R: RandomSource + Threads + Sync, S: Source, W: Sink>(
     writer: &mut W,
 ) -> Result<(), RunFault>
     requires reader { S.has_failed reader.old ≡ false }
+    requires open { S.at_end reader.old ≡ false }
     requires writer { W.has_failed writer.old ≡ false }
 
     // What is written, for a reader and a writer that report their bytes.
@@ -67,7 +68,8 @@ pub fn reported<R: RandomSource + Threads + Sync, S: Source>(
     plan: &Plan,
     reader: &mut S,
 ) -> Result<PreparedReport, RunFault>
-    requires { S.has_failed reader.old ≡ false }
+    requires working { S.has_failed reader.old ≡ false }
+    requires open { S.at_end reader.old ≡ false }
     ensures made { MakesReport plan.now.question (S.left reader.old) (S.left reader.new) (S.has_failed reader.new) result }
     ensures ended { OnOk result (S.at_end reader.new ≡ true) }
 {
@@ -86,7 +88,8 @@ fn report_input<R: RandomSource + Threads + Sync, S: Source>(
     plan: &Plan,
     reader: &mut S,
 ) -> Result<PreparedReport, RunFault>
-    requires { S.has_failed reader.old ≡ false }
+    requires working { S.has_failed reader.old ≡ false }
+    requires open { S.at_end reader.old ≡ false }
     ensures made { MakesReport plan.now.question (S.left reader.old) (S.left reader.new) (S.has_failed reader.new) result }
     ensures ended { OnOk result (S.at_end reader.new ≡ true) }
 {

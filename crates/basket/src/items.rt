@@ -30,6 +30,7 @@ pub fn report_items<R: Threads + Sync, S: Source>(
     reader: &mut S,
 ) -> Result<PreparedReport, RunFault>
     requires reader { S.has_failed reader.old ≡ false }
+    requires open { S.at_end reader.old ≡ false }
     requires items { plan.now.question.ask ≡ Ask.Items }
     requires lines { plan.now.question.layout.form ≡ Form.Fimi }
     ensures made { MakesReport plan.now.question (S.left reader.old) (S.left reader.new) (S.has_failed reader.new) result }
@@ -54,6 +55,7 @@ pub fn report_named_items<R: RandomSource + Threads + Sync, S: Source>(
     reader: &mut S,
 ) -> Result<PreparedReport, RunFault>
     requires reader { S.has_failed reader.old ≡ false }
+    requires open { S.at_end reader.old ≡ false }
     requires items { plan.now.question.ask ≡ Ask.Items }
     requires records { plan.now.question.layout.form ≡ Form.Baskets }
     ensures made { MakesReport plan.now.question (S.left reader.old) (S.left reader.new) (S.has_failed reader.new) result }

@@ -22,7 +22,8 @@ pub fn read_sets<R: Threads + Sync, S: Source>(
     reader: &mut S,
     workers: u32,
 ) -> Result<Vec<Itemset>, ReadFault>
-    requires { S.has_failed reader.old ≡ false }
+    requires working { S.has_failed reader.old ≡ false }
+    requires open { S.at_end reader.old ≡ false }
     ensures read { Reads IsDefinedList sets_of_bytes IsRead (S.left reader.old) (S.has_failed reader.new) result }
     ensures ended { OnOk result (S.at_end reader.new ≡ true) }
 {
@@ -39,7 +40,8 @@ pub fn read_counts<R: Threads + Sync, S: Source>(
     reader: &mut S,
     workers: u32,
 ) -> Result<Vec<CountedLine>, ReadFault>
-    requires { S.has_failed reader.old ≡ false }
+    requires working { S.has_failed reader.old ≡ false }
+    requires open { S.at_end reader.old ≡ false }
     ensures read { Reads IsDefinedList counts_of IsRead (S.left reader.old) (S.has_failed reader.new) result }
     ensures ended { OnOk result (S.at_end reader.new ≡ true) }
 {
@@ -55,7 +57,8 @@ fn read_listed<R: Threads + Sync, S: Source>(
     reader: &mut S,
     workers: u32,
 ) -> Result<ListedSets, ReadFault>
-    requires { S.has_failed reader.old ≡ false }
+    requires working { S.has_failed reader.old ≡ false }
+    requires open { S.at_end reader.old ≡ false }
     ensures read { Reads AreEntries entries_in IsRead (S.left reader.old) (S.has_failed reader.new) result }
     ensures ended { OnOk result (S.at_end reader.new ≡ true) }
 {

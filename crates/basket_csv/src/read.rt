@@ -30,7 +30,8 @@ pub fn read_baskets<R: RandomSource + Threads + Sync, S: Source>(
     known: Names,
     workers: u32,
 ) -> Result<(Database, Names), ReadFault>
-    requires { S.has_failed reader.old ≡ false }
+    requires working { S.has_failed reader.old ≡ false }
+    requires open { S.at_end reader.old ≡ false }
     ensures read { Reads IsDefined (baskets_of_csv dialect.separator dialect.header weight known) IsRead (S.left reader.old) (S.has_failed reader.new) result }
     ensures ended { OnOk result (S.at_end reader.new ≡ true) }
 {
@@ -56,7 +57,8 @@ pub fn count_baskets<R: RandomSource + Threads + Sync, S: Source>(
     known: Names,
     workers: u32,
 ) -> Result<(ItemCounts, Names), ReadFault>
-    requires { S.has_failed reader.old ≡ false }
+    requires working { S.has_failed reader.old ≡ false }
+    requires open { S.at_end reader.old ≡ false }
     ensures counted { Reads AreCountsNamed (baskets_of_csv dialect.separator dialect.header weight known) IsRead (S.left reader.old) (S.has_failed reader.new) result }
     ensures ended { OnOk result (S.at_end reader.new ≡ true) }
     ensures light { IfOk result (λ counted. AreLightCounts counted.0) }
@@ -83,7 +85,8 @@ pub fn read_single<R: RandomSource + Threads + Sync, S: Source>(
     known: Names,
     workers: u32,
 ) -> Result<(Database, Names), ReadFault>
-    requires { S.has_failed reader.old ≡ false }
+    requires working { S.has_failed reader.old ≡ false }
+    requires open { S.at_end reader.old ≡ false }
     ensures read { Reads IsDefined (pairs_of_csv dialect.separator dialect.header known) IsRead (S.left reader.old) (S.has_failed reader.new) result }
     ensures ended { OnOk result (S.at_end reader.new ≡ true) }
 {
@@ -110,7 +113,8 @@ pub fn read_named_counts<R: RandomSource + Threads + Sync, S: Source>(
     known: Names,
     workers: u32,
 ) -> Result<(Vec<CountedLine>, Names), ReadFault>
-    requires { S.has_failed reader.old ≡ false }
+    requires working { S.has_failed reader.old ≡ false }
+    requires open { S.at_end reader.old ≡ false }
     ensures read { Reads AreDefined (named_counts_of dialect.separator dialect.header known) IsRead (S.left reader.old) (S.has_failed reader.new) result }
     ensures ended { OnOk result (S.at_end reader.new ≡ true) }
 {

@@ -12,11 +12,7 @@ const YES: [&str; 14] = [
     "1", "x", "yes", "y", "true", "t", "wahr", "ja", "j", "oui", "vrai", "si", "sim", "*",
 ];
 
-/// Whether a cell says if a basket has an item, or how many of it.
-fn is_mark(cell: &str) -> bool {
-    matches!(cell, "" | "0" | "1") || is_no(cell) || is_yes(cell)
-}
-
+/// Whether a cell says that a basket has an item, or how many of it.
 fn is_yes(cell: &str) -> bool {
     for word in &YES {
         if cell.eq_ignore_ascii_case(*word) {
@@ -41,6 +37,19 @@ pub enum Marks {
     Both,
 }
 
+impl Marks {
+    /// What cells say that one more is among.
+    fn with(self, cell: &str) -> Self {
+        match cell {
+            "1" => self,
+            "0" | "" => Marks::Both,
+            cell if is_no(cell) => Marks::Both,
+            cell if is_yes(cell) => self,
+            _ => Marks::None,
+        }
+    }
+}
+
 /// What the cells of each column say.
 pub fn mark_columns(
     alloc: Global,
@@ -53,13 +62,8 @@ pub fn mark_columns(
     }
     for record in records {
         for (place, mark) in marks.iter_mut().enumerate() {
-            let cell = cell(record, place);
             if *mark != Marks::None {
-                if !is_mark(cell) {
-                    *mark = Marks::None;
-                } else if is_no(cell) {
-                    *mark = Marks::Both;
-                }
+                *mark = mark.with(cell(record, place));
             }
         }
     }

@@ -9,6 +9,9 @@ const MOST_TITLES: usize = 20;
 /// How many records below a header are compared with it.
 const MOST_BELOW: usize = 40;
 
+/// How many cells of each are compared.
+const MOST_CELLS: usize = 60;
+
 /// The cell of a record, counted from 0, without the blanks around it.
 pub fn cell(record: &StringRecord, place: usize) -> &str {
     record.get(place).unwrap_or("").trim()
@@ -110,13 +113,21 @@ fn lines_above_names(records: &[StringRecord], width: usize) -> usize {
 /// Whether no cell of a record comes in one of those below it.
 fn are_new(names: &StringRecord, records: &[StringRecord], place: usize) -> bool {
     for record in records.iter().skip(place).skip(1).take(MOST_BELOW) {
-        for name in names.iter() {
-            if !name.trim().is_empty() && record.iter().any(|field| field.trim() == name.trim()) {
+        for name in names.iter().take(MOST_CELLS) {
+            if !name.trim().is_empty() && has_cell(record, name.trim()) {
                 return false;
             }
         }
     }
     true
+}
+
+/// Whether one of the first cells of a record is this.
+fn has_cell(record: &StringRecord, name: &str) -> bool {
+    record
+        .iter()
+        .take(MOST_CELLS)
+        .any(|field| field.trim() == name)
 }
 
 /// The records without one of totals at the end, and whether there is one.

@@ -1,6 +1,6 @@
 //! The words after `basket`, if they are about `look` or `pairs`.
 ghost use Rattle.std.specs.Prelude.{◌≡◌, IfOk, is_some, map};
-ghost use Rattle.basket_look.specs.Words.{is_about_look, is_look};
+ghost use Rattle.basket_look.specs.Words.{is_about_look, is_help_of_look, is_look};
 
 use crate::file::Style;
 use basket_pairs::{Pairs, pairs_asked};
@@ -53,10 +53,19 @@ pub fn look_of<'a>(alloc: Global, words: &[&'a str]) -> Result<Option<Look<'a>>,
 fn is_about_look(words: &[&str]) -> bool
     ensures { result ≡ is_about_look (map (λ word. word.now) words.now) }
 {
+    match words.split_first() {
+        Some((first, rest)) => is_look(first) || *first == "help" && is_help_of_look(rest),
+        None => false,
+    }
+}
+
+/// Whether the words behind `help` are one of these alone.
+fn is_help_of_look(words: &[&str]) -> bool
+    ensures { result ≡ is_help_of_look (map (λ word. word.now) words.now) }
+{
     match words {
-        ["help", command] => is_look(command),
-        [first, ..] => is_look(first),
-        [] => false,
+        [command] => is_look(command),
+        _ => false,
     }
 }
 
@@ -81,7 +90,7 @@ fn asked<'a>(alloc: Global, words: &[&'a str]) -> Result<Look<'a>, AllocError> {
 fn look_after<'a>(alloc: Global, words: &[&'a str]) -> Result<Look<'a>, AllocError> {
     let (mut style, mut file, mut has_file) = (Style::Text, None, false);
     for word in words {
-        match *word {
+        match option_in(word) {
             "--help" | "-h" => return Ok(Look::Help),
             "--json" => style = Style::Json,
             "-" if !has_file => has_file = true,
@@ -95,9 +104,14 @@ fn look_after<'a>(alloc: Global, words: &[&'a str]) -> Result<Look<'a>, AllocErr
     Ok(Look::At(file, style))
 }
 
+/// The option of a word that may have its value behind it.
+fn option_in(word: &str) -> &str {
+    word.split('=').next().unwrap_or(word)
+}
+
 /// What `clap` says of a word that isn't expected.
 fn mistake<'a>(alloc: Global, word: &str) -> Result<Look<'a>, AllocError> {
-    let option = word.split('=').next().unwrap_or(word);
+    let option = option_in(word);
     let text = format!(in alloc;
         "error: unexpected argument '{option}' found\n\nUsage: basket look [OPTIONS] [FILE]\n\n\
 For more information, try '--help'.\n"

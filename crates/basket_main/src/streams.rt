@@ -23,12 +23,14 @@ pub trait Inputs {
 
     fn open(&mut self, origin: &Origin) -> io::Result<Self::Input>
         ensures fresh { IfOk result (λ input. Self.Input.has_failed input ≡ false) }
+        ensures open { IfOk result (λ input. Self.Input.at_end input ≡ false) }
         ensures left { IfOk result (λ input. Self.Input.left input ≡ bytes self.old origin.now) }
         ensures same { (other : Option (List ℕ)) → bytes self.new other ≡ bytes self.old other }
         ensures opened { Grows (opened self.old) (opened self.new) ((origin.now, refusal_of result) ∷ []) };
 
     fn open_sets(&mut self, origin: &Origin) -> io::Result<Self::Sets>
         ensures fresh { IfOk result (λ sets. Self.Sets.has_failed sets ≡ false) }
+        ensures open { IfOk result (λ sets. Self.Sets.at_end sets ≡ false) }
         ensures left { IfOk result (λ sets. Self.Sets.left sets ≡ bytes self.old origin.now) }
         ensures same { (other : Option (List ℕ)) → bytes self.new other ≡ bytes self.old other }
         ensures opened { Grows (opened self.old) (opened self.new) ((origin.now, refusal_of result) ∷ []) };

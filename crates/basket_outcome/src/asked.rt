@@ -22,7 +22,8 @@ pub fn read_asked<R: RandomSource + Threads + Sync, S: Source>(
     workers: u32,
     reader: &mut S,
 ) -> Result<(Vec<Itemset>, Names), ReadFault>
-    requires { S.has_failed reader.old ≡ false }
+    requires working { S.has_failed reader.old ≡ false }
+    requires open { S.at_end reader.old ≡ false }
     ensures read { Reads AreDefined (asked_in layout) IsRead (S.left reader.old) (S.has_failed reader.new) result }
     ensures ended { OnOk result (S.at_end reader.new ≡ true) }
 {
@@ -44,7 +45,8 @@ fn read_named_sets<R: RandomSource + Threads + Sync, S: Source>(
     workers: u32,
     reader: &mut S,
 ) -> Result<(Vec<Itemset>, Names), ReadFault>
-    requires { S.has_failed reader.old ≡ false }
+    requires working { S.has_failed reader.old ≡ false }
+    requires open { S.at_end reader.old ≡ false }
     ensures read { Reads AreDefined (named_sets_of separator) IsRead (S.left reader.old) (S.has_failed reader.new) result }
     ensures ended { OnOk result (S.at_end reader.new ≡ true) }
 {

@@ -40,7 +40,8 @@ impl Contents {
         workers: u32,
         reader: &mut S,
     ) -> Result<Self, ReadFault>
-        requires { S.has_failed reader.old ≡ false }
+        requires working { S.has_failed reader.old ≡ false }
+        requires open { S.at_end reader.old ≡ false }
         ensures read { Reads IsDefined (contents_of layout known) (FailsIn layout.form (S.left reader.old) (S.left reader.new)) (S.left reader.old) (S.has_failed reader.new) result }
         ensures ended { OnOk result (S.at_end reader.new ≡ true) }
     {
@@ -85,7 +86,8 @@ fn read_combined<R: Threads + Sync, S: Source>(
     reader: &mut S,
     workers: u32,
 ) -> Result<CombinedCounts, ReadFault>
-    requires { S.has_failed reader.old ≡ false }
+    requires working { S.has_failed reader.old ≡ false }
+    requires open { S.at_end reader.old ≡ false }
     ensures read { Reads IsDefined (λ bytes. result_and_then combined_of (counts_of bytes)) IsRead (S.left reader.old) (S.has_failed reader.new) result }
     ensures ended { OnOk result (S.at_end reader.new ≡ true) }
 {
@@ -104,7 +106,8 @@ fn read_named_combined<R: RandomSource + Threads + Sync, S: Source>(
     known: Names,
     workers: u32,
 ) -> Result<(CombinedCounts, Names), ReadFault>
-    requires { S.has_failed reader.old ≡ false }
+    requires working { S.has_failed reader.old ≡ false }
+    requires open { S.at_end reader.old ≡ false }
     ensures read { Reads IsDefined (λ bytes. result_and_then named_combined_of (named_counts_of dialect.separator dialect.header known bytes)) IsRead (S.left reader.old) (S.has_failed reader.new) result }
     ensures ended { OnOk result (S.at_end reader.new ≡ true) }
 {

@@ -91,17 +91,34 @@ const NO_ITEM: &str = "error: --item or --marks says which columns have the item
 For more information, try 'basket pairs --help'.\n";
 
 fn mistake<'a>(alloc: Global, option: &str, value: Option<&str>) -> Result<Pairs<'a>, AllocError> {
+    let is_known = takes_value(option) || FLAGS.contains(&option);
     let what = match value {
-        Some(value) => format!(in alloc; "invalid value '{value}' for '{option}'")?,
-        None => format!(in alloc; "unexpected argument '{option}' found")?,
+        Some(value) if is_known => format!(in alloc; "invalid value '{value}' for '{option}'")?,
+        None if is_known => format!(in alloc; "a value is required for '{option}'")?,
+        _ => format!(in alloc; "unexpected argument '{option}' found")?,
     };
     Ok(Pairs::Mistake(format!(in alloc;
         "error: {what}\n\nFor more information, try 'basket pairs --help'.\n"
     )?))
 }
 
+/// Options with a value, and without one.
+const VALUED: [&str; 9] = [
+    "--item",
+    "--marks",
+    "--basket",
+    "--within",
+    "--skip",
+    "--skip-last",
+    "--sep",
+    "--columns",
+    "--encoding",
+];
+
+const FLAGS: [&str; 3] = ["--header", "--fill", "--help"];
+
 fn takes_value(option: &str) -> bool {
-    option.starts_with("--") && !matches!(option, "--header" | "--fill")
+    VALUED.contains(&option)
 }
 
 impl<'a> Asked<'a> {

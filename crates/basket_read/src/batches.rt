@@ -22,6 +22,7 @@ pub(crate) fn read_batches<F: LineReader, S: Source>(
 ) -> Result<ItemCounts, ReadFault>
     requires ready { F.is_ready line_reader.now }
     requires fresh { S.has_failed reader.old ≡ false }
+    requires open { S.at_end reader.old ≡ false }
     requires some { 0 < most }
     ensures read { ReadsFimi (Gathers counting) (S.left reader.old) (S.left reader.new) (S.has_failed reader.new) result }
     ensures ended { OnOk result (S.at_end reader.new ≡ true) }

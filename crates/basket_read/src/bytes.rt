@@ -17,7 +17,8 @@ pub(crate) const MARK: [u8; 3] = [0xEF, 0xBB, 0xBF];
 
 /// Reads the bytes of an input, or a prefix that is longer than an input may be.
 pub fn take_in<S: Source>(alloc: Global, reader: &mut S) -> Result<Vec<u8>, ReadFault>
-    requires { S.has_failed reader.old ≡ false }
+    requires working { S.has_failed reader.old ≡ false }
+    requires open { S.at_end reader.old ≡ false }
     ensures taken { TakesIn (S.left reader.old) (S.has_failed reader.new) result }
     ensures ended { IfOk result (λ bytes. length bytes.items ≤ MOST_BYTES → S.at_end reader.new ≡ true) }
 {
@@ -47,11 +48,13 @@ pub(crate) fn fill<S: Source>(
     buffer: &mut Vec<u8>,
     most: usize,
 ) -> Result<usize, AllocError>
-    requires { S.has_failed reader.old ≡ false }
+    requires working { S.has_failed reader.old ≡ false }
+    requires open { S.at_end reader.old ≡ false }
     ensures within { IfOk result (λ count. count ≤ length buffer.new.items) }
     ensures given { IfOk result (λ count. Consumes (S.left reader.old) (S.left reader.new) (take count buffer.new.items)) }
     ensures ended { IfOk result (λ count. S.has_failed reader.new ≡ false → count < most → IsAtEnd (S.left reader.new)) }
     ensures stopped { IfOk result (λ count. S.has_failed reader.new ≡ false → count < most → S.at_end reader.new ≡ true) }
+    ensures open { IfOk result (λ count. most ≤ count → S.at_end reader.new ≡ false) }
     ensures memory { OnErr result (S.has_failed reader.new ≡ false) }
 {
     let mut filled = 0;

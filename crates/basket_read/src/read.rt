@@ -28,7 +28,8 @@ const KEPT_BATCH: usize = BATCH / 4;
 
 /// Reads a FIMI input to its end, in blocks of 65,536 bytes.
 pub fn read_fimi<S: Source>(alloc: Global, reader: &mut S) -> Result<Database, ReadFault>
-    requires { S.has_failed reader.old ≡ false }
+    requires working { S.has_failed reader.old ≡ false }
+    requires open { S.at_end reader.old ≡ false }
     ensures read { ReadsFimi IsDefined (S.left reader.old) (S.left reader.new) (S.has_failed reader.new) result }
     ensures ended { OnOk result (S.at_end reader.new ≡ true) }
 {
@@ -42,6 +43,7 @@ pub fn read_fimi_by<S: Source>(
     block: usize,
 ) -> Result<Database, ReadFault>
     requires fresh { S.has_failed reader.old ≡ false }
+    requires open { S.at_end reader.old ≡ false }
     requires some { 1 ≤ block }
     requires few { block ≤ MAX_BLOCK }
     ensures read { ReadsFimi IsDefined (S.left reader.old) (S.left reader.new) (S.has_failed reader.new) result }
@@ -53,7 +55,8 @@ pub fn read_fimi_by<S: Source>(
 /// Reads a FIMI input to its end, in blocks of 65,536 bytes, and counts its items. Baskets are kept
 /// only if their items are too great for a table.
 pub fn count_fimi<S: Source>(alloc: Global, reader: &mut S) -> Result<ItemCounts, ReadFault>
-    requires { S.has_failed reader.old ≡ false }
+    requires working { S.has_failed reader.old ≡ false }
+    requires open { S.at_end reader.old ≡ false }
     ensures counted { ReadsFimi CountsDefined (S.left reader.old) (S.left reader.new) (S.has_failed reader.new) result }
     // Even if the reader doesn't report its bytes.
     ensures ended { OnOk result (S.at_end reader.new ≡ true) }
@@ -69,7 +72,8 @@ pub fn read_fimi_shared<R: Threads + Sync, S: Source>(
     reader: &mut S,
     workers: u32,
 ) -> Result<Database, ReadFault>
-    requires { S.has_failed reader.old ≡ false }
+    requires working { S.has_failed reader.old ≡ false }
+    requires open { S.at_end reader.old ≡ false }
     ensures read { ReadsFimi IsDefined (S.left reader.old) (S.left reader.new) (S.has_failed reader.new) result }
     ensures ended { OnOk result (S.at_end reader.new ≡ true) }
 {
@@ -87,7 +91,8 @@ pub fn count_fimi_shared<R: Threads + Sync, S: Source>(
     reader: &mut S,
     workers: u32,
 ) -> Result<ItemCounts, ReadFault>
-    requires { S.has_failed reader.old ≡ false }
+    requires working { S.has_failed reader.old ≡ false }
+    requires open { S.at_end reader.old ≡ false }
     ensures counted { ReadsFimi CountsDefined (S.left reader.old) (S.left reader.new) (S.has_failed reader.new) result }
     // Even if the reader doesn't report its bytes.
     ensures ended { OnOk result (S.at_end reader.new ≡ true) }

@@ -81,6 +81,7 @@ fn run_words<'a, R: Threads + Sync>(
     mut writer: MemSink,
 ) -> Result<Ran, Fail>
     requires reader { ⟦<MemSource<'a> as Source>⟧.has_failed reader ≡ false }
+    requires open { ⟦<MemSource<'a> as Source>⟧.at_end reader ≡ false }
     requires writer { ⟦<MemSink as Sink>⟧.has_failed writer ≡ false }
 {
     let Invocation { task, .. } = invocation_of(alloc, words)?;

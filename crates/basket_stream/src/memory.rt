@@ -16,7 +16,8 @@ pub struct SliceSource<'a> {
 
 impl<'a> SliceSource<'a> {
     pub fn new(bytes: &'a [u8]) -> Self
-        ensures { ⟦<SliceSource<'a> as Source>⟧.left result ≡ Some bytes.now }
+        ensures open { ⟦<SliceSource<'a> as Source>⟧.at_end result ≡ false }
+        ensures left { ⟦<SliceSource<'a> as Source>⟧.left result ≡ Some bytes.now }
     {
         SliceSource {
             rest: bytes,
@@ -63,6 +64,7 @@ impl<'a> MemSource<'a> {
     pub fn new(bytes: &'a [u8], greatest_piece: usize, reads_before_failure: Option<u64>) -> Self
         requires { 0 < greatest_piece }
         ensures fresh { ⟦<MemSource<'a> as Source>⟧.has_failed result ≡ false }
+        ensures open { ⟦<MemSource<'a> as Source>⟧.at_end result ≡ false }
         ensures left { ⟦<MemSource<'a> as Source>⟧.left result ≡ Some bytes.now }
     {
         MemSource {

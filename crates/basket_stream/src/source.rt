@@ -6,7 +6,7 @@ ghost use Rattle.basket_stream.specs.Stream.{read_ends, read_fails};
 use crate::failed::Failed;
 use std::io::Read;
 
-/// A reader of bytes, whose first failure is its last call.
+/// A reader of bytes. After its first failure and at its end it is not read on.
 pub trait Source {
     // The bytes that are left, or nothing if the source does not report them.
     ghost left: { Self → Option (List ℕ) };
@@ -19,7 +19,8 @@ pub trait Source {
     /// Fills the buffer from its beginning, and returns how much of it: 0 only at the end or if the
     /// buffer is empty.
     fn read(&mut self, buf: &mut [u8]) -> Result<usize, Failed>
-        requires { has_failed self.old ≡ false }
+        requires working { has_failed self.old ≡ false }
+        requires open { at_end self.old ≡ false }
         ensures bound { ReadsAtMost result buf.new }
         ensures bytes { ReadConsumes (left self.old) (left self.new) result buf.new }
         ensures failed { has_failed self.new ≡ read_fails result }
@@ -41,6 +42,7 @@ pub struct StdSource<R> {
 impl<R: Read> StdSource<R> {
     pub fn new(reader: R) -> Self
         ensures fresh { ⟦<StdSource<R> as Source>⟧.has_failed result ≡ false }
+        ensures open { ⟦<StdSource<R> as Source>⟧.at_end result ≡ false }
         ensures left { ⟦<StdSource<R> as Source>⟧.left result ≡ R.remaining reader }
     {
         StdSource {

@@ -1,21 +1,23 @@
+ghost use Rattle.std.specs.Prelude.{◌≡◌, false};
+
 use super::assert_text;
 use basket_core::{Failed, MemSink, MemSource, Sink, Source};
 use std::alloc::{AllocError, Global};
 
 /// Reads until the end or a failure, and says how many bytes came in how many reads, and whether it failed.
-fn read_through(mut source: MemSource<'_>) -> (usize, u64, bool) {
+fn read_through<'a>(mut source: MemSource<'a>) -> (usize, u64, bool)
+    requires { ⟦<MemSource<'a> as Source>⟧.at_end source ≡ false }
+{
     let mut buf = [0; 4];
     let mut read = 0usize;
     for reads in 0..1000 {
-        let count = if source.failed() {
-            0
-        } else {
-            source.read(&mut buf).unwrap_or(0)
-        };
-        if count == 0 {
-            return (read, reads, source.failed());
+        if source.failed() {
+            return (read, reads, true);
         }
-        read = read.saturating_add(count);
+        match source.read(&mut buf) {
+            Ok(0) | Err(_) => return (read, reads, source.failed()),
+            Ok(count) => read = read.saturating_add(count),
+        }
     }
     (read, 1000, source.failed())
 }

@@ -86,7 +86,9 @@ fn counted<'a, 'b, R: Threads + Sync>(
     mut writer: MemSink,
 ) -> Result<Ran, Fail>
     requires sets { ⟦<MemSource<'a> as Source>⟧.has_failed sets ≡ false }
+    requires sets_open { ⟦<MemSource<'a> as Source>⟧.at_end sets ≡ false }
     requires reader { ⟦<MemSource<'b> as Source>⟧.has_failed reader ≡ false }
+    requires reader_open { ⟦<MemSource<'b> as Source>⟧.at_end reader ≡ false }
     requires writer { ⟦<MemSink as Sink>⟧.has_failed writer ≡ false }
 {
     let end = run_count(

@@ -45,7 +45,8 @@ fn items<'a, R: Threads + Sync>(
     form: &str,
     reader: MemSource<'a>,
 ) -> Result<Ran, Fail>
-    requires { ⟦<MemSource<'a> as Source>⟧.has_failed reader ≡ false }
+    requires reader { ⟦<MemSource<'a> as Source>⟧.has_failed reader ≡ false }
+    requires open { ⟦<MemSource<'a> as Source>⟧.at_end reader ≡ false }
 {
     let words = ["items", "--form", form, "--min", "1"];
     let writer = MemSink::new(alloc, 100, 100, false)?;

@@ -59,5 +59,6 @@ reading-preserved g c =
     let on = c.in_ok-take.ensures c.args.counting read.0 read.2 in
     record {
       unfailed = sym c.failed.ensures ∙ c.if-failed.false;
+      «open» = c.in_ok-count.ensures.«open» c.if-count-most.false;
       read = (read.0 ++ batch, taken_in _ _ _ read.0 _ _ c.in_ok-count.count c.deref.ensures.value read.1 c.in_ok-count.ensures.given, on);
     }

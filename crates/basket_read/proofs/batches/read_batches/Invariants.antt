@@ -6,6 +6,7 @@ use Rattle.basket_read.proofs.batches.read_batches.Given as goal
 abbrev pub invariant-reading : goal.invariant-reading
 invariant-reading g l = record {
   unfailed : g.S.Source.has_failed l.reader ≡ false;
+  «open» : g.S.Source.at_end l.reader ≡ false;
   read : (given : List ℕ) × Consumes (g.S.Source.left l.initial.reader) (g.S.Source.left l.reader) given × IsInputSoFar l.input l.counting given;
 }
 

@@ -1,5 +1,6 @@
 use Rattle.std.proofs.Common.{◌≡◌, ◌≤◌, ◌+◌, ◌-◌, ◌++◌, ℕ, List, take, drop, length, ap, sym, ◌∙◌, subst, arith}
 use Rattle.std.proofs.lemmas.List.{length-append, length-drop, length-take, take_all, take-take, take-append-le}
+use Rattle.std.proofs.lemmas.Grind.{common_steps}
 use Rattle.std.specs.Prelude.{Vec}
 use Rattle.std.specs.declared.alloc.Global.{Global}
 use Rattle.std.specs.Io.KnownBytes.{Consumes}
@@ -50,6 +51,7 @@ loop-filled-preserved g c =
     let later = read_after c.deref_mut.result.now c.read.new.buf _ _ filled count buffer.len (let v = ap length c.deref_mut.ensures.value in omega (arith, grown.1)) bound (let l = c.deref_mut.ensures.len in let d = length-drop filled c.deref_mut.result.now in let t = length-take (length c.deref_mut.result.now - filled) (drop filled c.deref_mut.result.now) in omega (arith, c.read.auto.buf, bound, grown.1, buffer.ok)) in
     record {
       unfailed = c.in-Ok.ensures.failed;
+      «open» = grind (arith, common_steps);
       within = later.1;
       given = subst (Consumes (g.S.Source.left c.args.reader.now) (g.S.Source.left c.read.new.self))
           (sym (later.0 ∙ ap (λ l. l ++ take count c.read.new.buf) (ap (take filled) c.deref_mut.ensures.value ∙ grown.0)))

@@ -5,7 +5,7 @@ use Rattle.basket_sets.specs.Counts.{AllBelow}
 use Rattle.basket_sets.proofs.theory.Tests.{all_below_at}
 use Rattle.mine_pairs.specs.Pairs.{named_pair}
 use Rattle.mine_fp.proofs.NodeLemmas.{rest_at}
-use Rattle.mine_fp.proofs.pattern_base.rename.Goals as goal
+use Rattle.mine_fp.proofs.trees.rename.Goals as goal
 
 rank_below : (before : List (ℕ × ℕ)) (count at : ℕ) → AllBelow count (map (λ (pair : ℕ × ℕ). pair.0) before) → at < length before → (get_or before at (0, 0)).0 < count
 rank_below before count at low here = omega (

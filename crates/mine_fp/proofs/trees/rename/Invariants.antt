@@ -1,6 +1,6 @@
 use Rattle.std.proofs.Common.{◌≡◌, ◌++◌, ℕ, drop, map, take}
 use Rattle.mine_pairs.specs.Pairs.{named_pair}
-use Rattle.mine_fp.proofs.pattern_base.rename.Given as goal
+use Rattle.mine_fp.proofs.trees.rename.Given as goal
 
 -- the pairs before the index have the items, the others are as they were
 abbrev pub invariant-loop-at : goal.invariant-loop-at
