@@ -12,9 +12,12 @@ in the order of its report. All take the baskets as one of these:
   (DuckDB) or `__dataframe__`;
 - an iterable of baskets, each an iterable of hashable labels;
 - a matrix of `scipy.sparse` with a row for each basket; `names=` are the labels of its columns;
-- the path of a file: `form=` "fimi", or of CSV "baskets" (a record is a basket) or "single" (a
-  record is a basket's id and an item), with `sep=`, `header=` and `weighted=` (a record begins
-  with its weight) as the program has them. A pipe or `/dev/stdin` is copied into memory;
+- the path of a file, which is read as `look(path)` shows if that is sure. `basket=` and `item=` name its
+  columns, or give their places from 0 on as in `pandas.read_csv(usecols=)`; or `form=` says "fimi", or of
+  CSV "baskets" (a record is a basket) or "single" (a record is a basket's id and an item), with `sep=`,
+  `header=` and `weighted=` (a record begins with its weight) as the program has them, and `encoding=`. Text
+  of numbers alone is FIMI. A pipe or `/dev/stdin` is copied into memory, and not looked at;
+- what `look` returns of a path, to be read as it shows;
 - what `baskets` returns of one of these, for many questions.
 
 Labels come back as they were given; those of a FIMI file are `int`, those of CSV `str`. What looks
@@ -70,6 +73,7 @@ from ._errors import (
 )
 from ._explore import explore
 from ._itemsets import closed, items, maximal, sets
+from ._look import Look, look
 from ._page import page
 from ._recommend import Recommender, recommend
 from ._rules import count, rules
@@ -83,6 +87,7 @@ __all__ = [
     "DataError",
     "FileError",
     "InputError",
+    "Look",
     "OutOfMemory",
     "ProgramMissing",
     "Recommender",
@@ -97,6 +102,7 @@ __all__ = [
     "count",
     "explore",
     "items",
+    "look",
     "maximal",
     "page",
     "recommend",

@@ -16,6 +16,9 @@ Source = bytes | Path | FileIO
 Array = np.ndarray[Any, np.dtype[Any]]
 
 MOST_WEIGHT = 2**32 - 1
+# Of CSV, by the program's words.
+SEPARATORS = {"comma": ",", "semicolon": ";", "tab": "\t", "pipe": "|"}
+SEPARATOR_WORDS = {character: word for word, character in SEPARATORS.items()}
 _TOKENS_AT_ONCE = 1 << 20
 
 
@@ -31,6 +34,7 @@ class Baskets:
         weight: what all baskets weigh together, where it is known without the program.
         separator: of a report that is CSV, else nothing.
         total: how many baskets there are, if those without an item count too.
+        pairs: the words of `basket pairs` that rewrites the file before it is read, if it has to be.
     """
 
     source: Source = field(repr=False)
@@ -39,6 +43,7 @@ class Baskets:
     weight: int | None = None
     separator: str | None = None
     total: int | None = None
+    pairs: tuple[str, ...] = ()
 
     def whole(self, weight: int) -> int:
         """What supports are shares of: the total, or where there is none the weight of the baskets."""

@@ -13,7 +13,7 @@ from ._baskets import Baskets, Source
 from ._data import Data, read
 from ._ending import end_of
 from ._errors import DataError, FileError, UsageError
-from ._files import kept, state_of
+from ._files import state_of
 from ._keywords import CountOptions, Miner, Run, SetsOptions, Work, filled
 from ._minimum import (
     Minimum,
@@ -24,6 +24,7 @@ from ._minimum import (
     whole_of,
     word_of,
 )
+from ._pairs import ready
 from ._program import run
 from ._report import rules_frame, sets_frame
 
@@ -60,7 +61,7 @@ def asked(
     least, words = minimum_of(minimum), [*words, *words_of(options)]
     run_so, until = filled(Run, options), end_of(options.get("timeout"))
     baskets = read(data, options)
-    with kept(baskets.source) as source:
+    with ready(baskets, until) as source:
         before = state_of(source)
         weight = None if is_short(least) else weight_of(baskets, source, until)
         whole = weight if baskets.total is None else baskets.total
@@ -105,7 +106,7 @@ def counted(
         text = _as_names(given, baskets.separator)
     words = ["count", *words_of(options), *baskets.words]
     progress = run_so["progress"]
-    with kept(baskets.source) as source:
+    with ready(baskets, until) as source:
         report = run(words, source, sets=text, progress=progress, until=until)
     if baskets.total is not None:
         # The first line is the empty set.

@@ -12,19 +12,19 @@ import pandas as pd
 from ._baskets import Baskets
 from ._errors import DataError
 from ._frames import Rows, long_frame, long_rows, matrix
-from ._keywords import BasketsOptions, Layout, changed, filled
+from ._keywords import BasketsOptions, Layout, filled, refuse_others
 from ._lists import listed, refuse_tables
+from ._look import Look
+from ._paths import baskets_of_look, baskets_of_path
 from ._signatures import BasketsCall
 from ._tables import frame_of, is_table
 from ._typed import Typed
 from ._wide_frames import wide_frame
 
-# A data frame or another table, a sparse matrix, an iterable of iterables of labels, a path, or `Baskets`.
+# A data frame or another table, a sparse matrix, an iterable of iterables of labels, a path, what `look`
+# returns of one, or `Baskets`.
 Data = Any
 
-_SEPARATORS = {"comma": ",", "semicolon": ";", "tab": "\t", "pipe": "|"}
-SEPARATOR_WORDS = {character: word for word, character in _SEPARATORS.items()}
-_CSV_ENDINGS = (".csv", ".tsv")
 _FRAMES_HINT = "; several frames are given as one frame, by pandas.concat"
 
 
@@ -37,15 +37,17 @@ def read(data: Data, keywords: Layout) -> Baskets:
     layout = filled(Layout, keywords)
     drop = _drops(layout)
     if isinstance(data, Baskets):
-        _refuse_others(layout, "", "prepared baskets")
+        refuse_others(layout, "", "prepared baskets")
         return data
     if isinstance(data, (str, os.PathLike)):
-        _refuse_others(layout, "form sep header weighted", "a path")
         _refuse_no_path(data)
-        return _file(Path(os.path.expanduser(data)), layout)
+        return baskets_of_path(Path(os.path.expanduser(data)), layout)
+    if isinstance(data, Look):
+        refuse_others(layout, "", "what look returns")
+        return baskets_of_look(data)
     if isinstance(data, pd.DataFrame):
         if layout["basket"] is None and layout["item"] is None:
-            _refuse_others(
+            refuse_others(
                 layout, "weight missing", "a frame with a column for each item"
             )
             return wide_frame(data, layout["weight"], drop)
@@ -53,18 +55,18 @@ def read(data: Data, keywords: Layout) -> Baskets:
     if is_table(data):
         return read(frame_of(data), keywords)
     if hasattr(data, "tocsr"):
-        _refuse_others(layout, "names", "a sparse matrix")
+        refuse_others(layout, "names", "a sparse matrix")
         return matrix(data, layout["names"])
     refuse_tables(data)
     hint = "" if layout["basket"] is None else _FRAMES_HINT
-    _refuse_others(layout, "missing", f"an iterable of baskets{hint}")
+    refuse_others(layout, "missing", f"an iterable of baskets{hint}")
     return listed(data, drop)
 
 
 def rows_of(frame: pd.DataFrame, keywords: Layout) -> Rows:
     """The rows of a frame with a row for each item."""
     layout = filled(Layout, keywords)
-    _refuse_others(layout, "basket item weight missing", "a frame")
+    refuse_others(layout, "basket item weight missing", "a frame")
     basket, item = layout["basket"], layout["item"]
     if basket is None or item is None:
         raise DataError("a frame with a row for each item needs both basket= and item=")
@@ -83,8 +85,8 @@ def baskets(data: Data, **keywords: Unpack[BasketsOptions]) -> Baskets:
     """Baskets that many questions are asked of, made for the program once.
 
     Takes the baskets as the package's documentation says, and returns what each question takes in
-    their place, without a keyword that says how they lie. A path is kept as it is: each question
-    reads the file.
+    their place, without a keyword that says how they lie. A path is looked at, and kept: each
+    question reads the file.
 
     `total` is what all baskets weigh together, also those without an item and those that were
     left out before: supports, minimums and lifts are then shares of it. A question raises
@@ -97,12 +99,6 @@ def baskets(data: Data, **keywords: Unpack[BasketsOptions]) -> Baskets:
         raise DataError(f"total is a number from 1 on, not {total!r}")
     made = read(data, keywords)
     return made if total is None else replace(made, total=int(total))
-
-
-def _refuse_others(layout: Layout, allowed: str, what: str) -> None:
-    for name in changed(Layout, layout):
-        if name not in allowed.split():
-            raise DataError(f"{name}= does not go with {what}")
 
 
 def _refuse_no_path(path: str | os.PathLike[str]) -> None:
@@ -123,31 +119,3 @@ def _refuse_no_path(path: str | os.PathLike[str]) -> None:
             f"a path of a file is given, and {os.fspath(path)[:30]!r}.. is text of several lines: "
             "write it to a file, or give a list of baskets"
         )
-
-
-def _file(path: Path, layout: Layout) -> Baskets:
-    form = layout["form"]
-    if form is None:
-        if path.suffix.lower() in _CSV_ENDINGS:
-            raise DataError(
-                f'{path} ends like CSV: give form="baskets" (a record is a basket), '
-                'form="single" (a record is a basket\'s id and an item) or form="fimi"'
-            )
-        form = "fimi"
-    if form not in ("fimi", "baskets", "single"):
-        raise DataError(f"form is fimi, baskets or single, not {form!r}")
-    if form == "fimi":
-        _refuse_others(layout, "form", "a FIMI file")
-        return Baskets(path)
-    sep = SEPARATOR_WORDS.get(layout["sep"] or ",", layout["sep"])
-    if sep not in _SEPARATORS:
-        raise DataError(f"sep is one of {', '.join(_SEPARATORS)}, not {sep!r}")
-    flags = {"header": layout["header"], "weighted": layout["weighted"]}
-    for name, flag in flags.items():
-        if not isinstance(flag, bool):
-            raise DataError(f"{name} is True or False, not {flag!r}")
-    if layout["weighted"] and form == "single":
-        raise DataError('weighted= does not go with form="single"')
-    words = [f"--form={form}", f"--sep={sep}"]
-    words += ["--header"] * layout["header"] + ["--weight"] * layout["weighted"]
-    return Baskets(path, tuple(words), separator=_SEPARATORS[sep])

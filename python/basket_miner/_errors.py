@@ -36,7 +36,7 @@ class InputError(BasketError):
     @property
     def line(self) -> int | None:
         """The number of the line or the record that is refused, from 1 on, if the message has one."""
-        found = re.search(r"(line|record) (\d+):", str(self))
+        found = re.search(r"(line|record) (\d+)(:| is)", str(self))
         return int(found[2]) if found else None
 
 
@@ -116,9 +116,8 @@ _ADVICE = (
     ),
     _Advice(
         (InputError,),
-        r"is not UTF-8",
-        "The file has another encoding, often Windows-1252: write it as UTF-8, as by iconv, or read it by "
-        'pandas.read_csv(.., encoding="cp1252"), and give the frame.',
+        r"(?i)is not utf-8",
+        'The file has another encoding, often Windows-1252: give encoding="cp1252", or what it is.',
     ),
     _Advice(
         (InputError,),
@@ -142,7 +141,7 @@ _ADVICE = (
     ),
     _Advice(
         (FileError,),
-        r"cannot open .*: No such file",
+        r"cannot (open|read) .*: No such file",
         "A path without a leading / begins at the current folder, which os.getcwd() tells.",
     ),
     _Advice(

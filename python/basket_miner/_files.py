@@ -42,14 +42,14 @@ def _descriptor() -> int:
 
 
 @contextlib.contextmanager
-def kept(source: Source) -> Iterator[Source]:
+def kept(source: Source, *, any_kind: bool = False) -> Iterator[Source]:
     """A source that the program can read more than once.
 
     A pipe or a device can be read once, and `/dev/stdin` is another file in another process. So
     what is no regular file is copied into memory, and links are followed here.
 
     Raises:
-        DataError: it is a file of a kind that the program can't read.
+        DataError: it is a file of a kind that the program can't mine, and not any kind is wanted.
         FileError: it can't be read or copied.
     """
     if not isinstance(source, Path):
@@ -58,7 +58,8 @@ def kept(source: Source) -> Iterator[Source]:
     real = os.path.realpath(source)
     is_own = real.startswith("/proc/")
     if os.path.isfile(real):
-        refuse_foreign_file(real, source)
+        if not any_kind:
+            refuse_foreign_file(real, source)
         yield Path(real)
     elif os.path.isdir(real) or not (is_own or os.path.exists(source)):
         # The program says what is wrong.
@@ -67,7 +68,8 @@ def kept(source: Source) -> Iterator[Source]:
         # First what is read: the copy might take the descriptor of a closed input.
         with _opened(source) as stream, in_memory() as copy:
             _copied(stream, copy, source)
-            refuse_foreign(copy, source)
+            if not any_kind:
+                refuse_foreign(copy, source)
             yield copy
 
 

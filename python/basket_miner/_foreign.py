@@ -7,7 +7,7 @@ from typing import BinaryIO
 from ._errors import DataError
 
 _UNPACKED = "unpack it, or read it by pandas.read_csv, and give the frame"
-_AS_UTF_16 = 'read it by pandas.read_csv(.., encoding="utf-16"), and give the frame'
+_AS_UTF_16 = 'give encoding="utf-16"'
 _PARQUET = b"PAR1"
 # What each kind begins with: no text in UTF-8 has such bytes, except that of Parquet, which also ends so.
 _KINDS = {
@@ -35,12 +35,21 @@ _LONGEST = max(map(len, _KINDS))
 
 def refuse_foreign(file: BinaryIO | FileIO, name: object) -> None:
     """Raises `DataError` if a file is of a kind that the program can't read. It is left at its start."""
+    if found := foreign(file):
+        kind, remedy = found
+        raise DataError(f"{name} is {kind}: {remedy}")
+
+
+def foreign(file: BinaryIO | FileIO) -> tuple[str, str] | None:
+    """The kind of a file that the program can't read, and what reads it. The file is left at its start."""
     file.seek(0)
     begin = file.read(_LONGEST)
-    for first, (kind, remedy) in _KINDS.items():
+    found = None
+    for first, told in _KINDS.items():
         if begin.startswith(first) and (first != _PARQUET or _end(file) == _PARQUET):
-            raise DataError(f"{name} is {kind}: {remedy}")
+            found = told
     file.seek(0)
+    return found
 
 
 def _end(file: BinaryIO | FileIO) -> bytes:

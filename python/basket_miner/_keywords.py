@@ -14,6 +14,7 @@ from typing import (
 )
 
 from ._baskets import Labels
+from ._errors import DataError
 
 # A column, or a list of columns.
 Key = Hashable | Sequence[Hashable]
@@ -38,8 +39,9 @@ class PartLayout(TypedDict, total=False):
         Key | None,
         Keyword(
             None,
-            "of a frame with a row for each item: the column of the basket's id, or a list of the "
-            'columns that make it, as ["store", "receipt"].',
+            "of a frame or a file with a row for each item: the column of the basket's id, or a list of "
+            'the columns that make it, as ["store", "receipt"]. A column of a file is its name in the '
+            "header or its place from 0 on, as pandas.read_csv(usecols=) takes them.",
         ),
     ]
     item: Annotated[Hashable | None, Keyword(None, "the column of the item.")]
@@ -61,19 +63,28 @@ class PartLayout(TypedDict, total=False):
         Keyword(
             None,
             'of a file: "fimi", or of CSV "baskets" (a record is a basket) or "single" (a record is '
-            "a basket's id and an item).",
+            "a basket's id and an item). Without it, basket= and item= it is read as look(path) shows.",
         ),
     ]
     sep: Annotated[
         str | None,
         Keyword(
             None,
-            'of CSV: "comma", "semicolon", "tab" or "pipe", or that character; without it a comma.',
+            'of CSV: "comma", "semicolon", "tab" or "pipe", or that character; without it a comma, or a '
+            "tab where the name ends in .tsv.",
         ),
     ]
     header: Annotated[bool, Keyword(False, "of CSV: the first record is a header.")]
     weighted: Annotated[
         bool, Keyword(False, 'of CSV "baskets": a record begins with its weight.')
+    ]
+    encoding: Annotated[
+        str | None,
+        Keyword(
+            None,
+            'of a file: "utf-8", "utf-16", "cp1252", "cp850", "mac_roman" or other names that Python has '
+            "for these.",
+        ),
     ]
 
 
@@ -193,6 +204,13 @@ def changed(kind: type, given: Mapping[str, object]) -> list[str]:
         for name, (_, word) in keywords_of(kind).items()
         if not _is_default(given.get(name), word.default)
     ]
+
+
+def refuse_others(layout: Layout, allowed: str, what: str) -> None:
+    """Raises `DataError` if a keyword is given that is none of the allowed ones."""
+    for name in changed(Layout, layout):
+        if name not in allowed.split():
+            raise DataError(f"{name}= does not go with {what}")
 
 
 def _is_default(value: Any, default: Any) -> bool:

@@ -15,9 +15,10 @@ from ._baskets import Baskets
 from ._calls import asked, counted, weight_of, words_of
 from ._ending import end_of
 from ._errors import DataError, FileError, TooManySets
-from ._files import kept, state_of
+from ._files import state_of
 from ._keywords import Work
 from ._minimum import Minimum, whole_of
+from ._pairs import ready
 
 # So many sets take less time in one run than a run for each size.
 _FEW = 100_000
@@ -34,11 +35,11 @@ def sized(baskets: Baskets, minimum: Minimum, most: int, options: Work) -> pd.Da
     # Runs have limits of their own here.
     words_of(options)
     until = end_of(options.get("timeout"))
-    with kept(baskets.source) as source:
+    with ready(baskets, until) as source:
         before = state_of(source)
         weight = weight_of(baskets, source, until)
-        ready = replace(baskets, source=source, weight=weight)
-        found = _Sizes(ready, minimum, options, until).up_to(whole)
+        one = replace(baskets, source=source, weight=weight, pairs=())
+        found = _Sizes(one, minimum, options, until).up_to(whole)
         if state_of(source) != before:
             raise FileError(f"{source!s} was changed while it was read")
     limit = options.get("limit")

@@ -126,9 +126,25 @@ def run(
     progress: bool = False,
     until: float | None = None,
 ) -> bytes:
-    """Runs the program once, without a shell, and returns what it wrote.
+    """What the program writes in a run; arguments and exceptions as in `run_into`."""
+    with in_memory() as report:
+        run_into(report, words, source, sets=sets, progress=progress, until=until)
+        return _content(report)
+
+
+def run_into(
+    report: FileIO,
+    words: Sequence[str],
+    source: Source | None = None,
+    *,
+    sets: bytes | None = None,
+    progress: bool = False,
+    until: float | None = None,
+) -> None:
+    """Runs the program once, without a shell.
 
     Args:
+        report: the file in memory that gets what it writes.
         words: its command and options, as `["sets", "--min", "20%"]`.
         source: the input: a file by its path, bytes or a file in memory as standard input, or nothing.
         sets: those of `--sets`, for the command `count`.
@@ -149,7 +165,6 @@ def run(
     with (
         in_memory(given) as stdin,
         in_memory(sets or b"") as asked,
-        in_memory() as report,
         in_memory() as told,
     ):
         if isinstance(source, FileIO):
@@ -171,7 +186,6 @@ def run(
         if process.returncode != 0:
             said = _content(told).decode(errors="replace")
             raise error_of(process.returncode, said)
-        return _content(report)
 
 
 def _content(file: FileIO) -> bytes:

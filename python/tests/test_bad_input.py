@@ -240,7 +240,7 @@ def test_keywords_that_do_not_fit_are_refused(said: str, options: Any) -> None:
         ("header= does not go with a FIMI", "shop.dat", {"header": True}),
         ("header is True or False", "shop.csv", {"form": "single", "header": 0}),
         ("weighted= does not go", "shop.csv", {"form": "single", "weighted": True}),
-        ("item= does not go with a path", "shop.dat", {"item": "product"}),
+        ("needs both basket= and item=", "shop.dat", {"item": "product"}),
         ("zero byte", "shop\0.dat", {}),
         ("can't have this character", "\ud800.dat", {}),
     ],

@@ -11,7 +11,7 @@ import pytest
 from distributed import Client
 
 import basket_miner
-from basket_miner import InputError, cluster
+from basket_miner import DataError, InputError, cluster
 from basket_miner._program import run
 from cut_files import cut, written
 
@@ -65,6 +65,22 @@ def test_each_file_has_its_header_and_the_frame_has_the_names(
     assert got["count"].tolist() == [5, 5]
     again = cluster.sets(files, 4, client=client, **layout)
     pd.testing.assert_frame_equal(again, basket_miner.sets(one, 4, **layout))
+
+
+def test_files_of_which_nothing_is_said_are_read_as_they_look(
+    client: Client, tmp_path: Path
+) -> None:
+    texts = [b"tea;jam\ntea;jam;figs\n" * 5, b"tea;figs\njam;tea;rice\n" * 5]
+    files = written(tmp_path, texts)
+    found = cluster.sets(files, "3/4", client=client)
+    assert found["itemsets"].tolist() == [{"tea"}, {"jam"}, {"jam", "tea"}]
+    assert found["count"].tolist() == [20, 15, 15]
+    files[1].write_text("tea,figs\njam,tea,rice\n" * 5)
+    with pytest.raises(DataError, match="is written otherwise than .*: give form="):
+        cluster.sets(files, "3/4", client=client)
+    files[1].write_text("receipt,product\n1,tea\n1,jam\n2,tea\n")
+    with pytest.raises(DataError, match="read such files as a Dask data frame"):
+        cluster.sets(files[1:], "3/4", client=client)
 
 
 def test_a_bad_record_is_told_with_its_part(client: Client, tmp_path: Path) -> None:

@@ -80,7 +80,7 @@ def test_too_many_sets_and_too_little_memory_say_what_to_raise() -> None:
         ("1;2\n", [CSV]),
         ('"1" 2\n', [CSV]),
         ("Ärger\n", [CSV]),
-        ("1 -2\n", []),
+        ("1 -3\n", []),
         ("1 (2)\n", []),
     ],
 )
@@ -160,7 +160,7 @@ def test_exceptions_have_what_a_caller_acts_on(tmp_path: Path) -> None:
         miner.sets(BASKETS, 1, limit=1)
     assert (many.value.limit, many.value.status) == (1, 5)
     path = tmp_path / "shop.dat"
-    path.write_text("1 2\n1 -2\n")
+    path.write_text("1 2\n1 -3\n")
     with pytest.raises(miner.InputError) as line:
         miner.sets(path, 1)
     assert (line.value.line, line.value.status) == (2, 3)

@@ -16,6 +16,7 @@ from basket_miner import cluster, plot
 PACKAGE = Path(__file__).parents[1]
 FRAME: Any = {"basket": None, "item": None, "weight": None, "missing": "refuse"}
 FILE: Any = {"form": None, "sep": None, "header": False, "weighted": False}
+FILE |= {"encoding": None}
 RUN: Any = {"workers": 1, "exact": False, "progress": False, "timeout": None}
 WORK: Any = {**RUN, "miner": None, "limit": None}
 PART: Any = {**FRAME, **FILE}

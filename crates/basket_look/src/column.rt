@@ -1,5 +1,5 @@
 //! A column of a table, and what it determines.
-use crate::value::{is_day, is_measure, is_number};
+use crate::value::{is_compact_day, is_day, is_measure, is_number};
 use basket_pairs::{day_of, is_null};
 use indexmap::IndexSet;
 use std::alloc::{AllocError, Global};
@@ -51,6 +51,12 @@ impl<'a> Column<'a> {
 
     /// Adds the value of the next record.
     pub fn push(&mut self, value: &'a str) -> Result<(), AllocError> {
+        let value = if is_null(value) {
+            count_if(&mut self.counts.nulls, true);
+            ""
+        } else {
+            value
+        };
         let (index, _) = self.values.insert_full(value)?;
         let code = u32::try_from(index).unwrap_or(u32::MAX);
         if self.codes.last() != Some(&code) {
@@ -134,8 +140,9 @@ impl<'a> Column<'a> {
 
 impl Counts {
     fn add(&mut self, value: &str) {
-        let is_number = is_number(value);
-        let is_day = !is_number && is_day(value);
+        let is_compact = is_compact_day(value);
+        let is_number = is_number(value) && !is_compact;
+        let is_day = is_compact || !is_number && is_day(value);
         let is_measure = is_day || !is_number && is_measure(value);
         count_if(&mut self.blanks, value.is_empty());
         count_if(&mut self.numbers, is_number);
@@ -147,7 +154,6 @@ impl Counts {
             !is_day && is_measure && value.contains(':'),
         );
         count_if(&mut self.negatives, is_measure && value.starts_with('-'));
-        count_if(&mut self.nulls, is_null(value));
     }
 }
 

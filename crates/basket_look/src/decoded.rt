@@ -119,11 +119,9 @@ impl Decoded<'_> {
                 "The quote that opens on line {line} is closed lines later or never: all between is one field.\n"
             );
         }
+        let sample = Sample::of(alloc, text, &reading.recipe)?;
+        sample.doubt(&mut reading.doubts)?;
         let readings = settled(&table, reading, lines)?;
-        let sample = match readings.first() {
-            Some(first) => Sample::of(alloc, text, &first.recipe)?,
-            None => Sample::empty(alloc),
-        };
         self.say_view(
             said,
             View {

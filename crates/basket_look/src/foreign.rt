@@ -38,7 +38,7 @@ const FROM_JSON: &str = "Write it as CSV: a basket's id and an item on each line
 const FROM_SQL: &str = "Let the database write its table as CSV, as with \\copy .. csv header, or \
 mysql --batch -e 'select ..'.";
 
-static KINDS: [Foreign; 28] = [
+static KINDS: [Foreign; 29] = [
     Foreign(Bytes(b"\x1F\x8B"), "compressed by gzip", Unpack("zcat")),
     Foreign(Bytes(b"BZh"), "compressed by bzip2", Unpack("bzcat")),
     Foreign(Bytes(b"\xFD7zXZ\x00"), "compressed by xz", Unpack("xzcat")),
@@ -113,6 +113,11 @@ static KINDS: [Foreign; 28] = [
     Foreign(
         Word("-- PostgreSQL database dump"),
         "a dump of PostgreSQL",
+        Say(FROM_SQL),
+    ),
+    Foreign(
+        Start("***************************"),
+        "records one below another, as \\G of MySQL writes them",
         Say(FROM_SQL),
     ),
     Foreign(

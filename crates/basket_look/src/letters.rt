@@ -95,22 +95,31 @@ fn by_letters(alloc: Global, bytes: &[u8]) -> Result<Encoding, AllocError> {
 /// beginning of a word. Letters that Western Europe often writes count more.
 fn score_of(text: &str) -> i64 {
     let (mut score, mut before): (i64, char) = (0, ' ');
-    for letter in text.chars() {
+    let mut letters = text.chars();
+    for _ in 0..text.len() {
+        let Some(letter) = letters.next() else { break };
         if !letter.is_ascii() {
-            let fits = letter.is_alphabetic() && !(letter.is_uppercase() && before.is_lowercase());
-            let points = match letter {
-                _ if !fits && before.is_alphabetic() => -4,
-                _ if !fits => 0,
-                'ä' | 'ö' | 'ü' | 'ß' | 'é' | 'Ä' | 'Ö' | 'Ü' => 4,
-                'è' | 'à' | 'á' | 'í' | 'ó' | 'ú' | 'ñ' | 'ç' | 'å' | 'ø' | 'æ' | 'ê' | 'â' | 'É' =>
-                    3,
-                _ => 1,
-            };
-            score = score.saturating_add(points);
+            let after = letters.as_str().chars().next().unwrap_or(' ');
+            score = score.saturating_add(points_of(before, letter, after));
         }
         before = letter;
     }
     score
+}
+
+/// The points of a letter beyond ASCII between two others.
+fn points_of(before: char, letter: char, after: char) -> i64 {
+    let is_alone = !before.is_alphabetic() && !after.is_alphabetic();
+    let fits = letter.is_alphabetic() && !(letter.is_uppercase() && before.is_lowercase());
+    match letter {
+        '€' | '£' | '°' | 'º' | 'ª' | '–' | '’' | '„' | '“' => 1,
+        _ if !fits && before.is_alphabetic() => -4,
+        _ if !fits => 0,
+        _ if is_alone => -3,
+        'ä' | 'ö' | 'ü' | 'ß' | 'é' | 'Ä' | 'Ö' | 'Ü' => 4,
+        'è' | 'à' | 'á' | 'í' | 'ó' | 'ú' | 'ñ' | 'ç' | 'å' | 'ø' | 'æ' | 'ê' | 'â' | 'É' => 3,
+        _ => 1,
+    }
 }
 
 /// Whether one of these bytes is of no text. None is a NUL.

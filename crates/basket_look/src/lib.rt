@@ -33,6 +33,7 @@ mod reading;
 mod rules;
 mod said;
 mod sample;
+mod scores;
 mod separating;
 mod settled;
 mod single;

@@ -1,5 +1,6 @@
 //! Tables whose records are baskets: a name in each field.
 use crate::column::Column;
+use crate::matrix::add;
 use crate::reading::{Form, Reading};
 use crate::table::Table;
 use crate::titles::{cell, filled};
@@ -12,6 +13,9 @@ const MOST_FRONT: usize = 4;
 
 /// Reads a table whose records are baskets, with an id, a count or a weight before the items.
 pub fn read(table: &Table<'_>, reading: &mut Reading) -> Result<bool, AllocError> {
+    if take_named(table, reading)? {
+        return Ok(true);
+    }
     if !is_list(table) {
         return Ok(false);
     }
@@ -31,6 +35,29 @@ pub fn read(table: &Table<'_>, reading: &mut Reading) -> Result<bool, AllocError
     }
     let from = front.saturating_add(1);
     reading.recipe.items.push(Span::from(from))?;
+    Ok(true)
+}
+
+/// Reads records with columns that are named as items and numbered: `item 1`, `item 2`.
+fn take_named(table: &Table<'_>, reading: &mut Reading) -> Result<bool, AllocError> {
+    let mut count: usize = 0;
+    for column in &table.columns {
+        let header = column.header;
+        let is_other = Word::Quantity.is_in(header) || Word::Other.is_in(header);
+        let is_numbered = header.ends_with(|letter: char| letter.is_ascii_digit());
+        if Word::Item.is_in(header) && is_numbered && !is_other && !column.is_of_measures() {
+            count = count.saturating_add(1);
+            add(&mut reading.recipe.items, column.number)?;
+        }
+    }
+    if count < 2 {
+        reading.recipe.items.clear();
+        return Ok(false);
+    }
+    write!(
+        reading.because,
+        "A basket in each record: {count} columns are named as items, and numbered.\n"
+    );
     Ok(true)
 }
 
@@ -68,12 +95,23 @@ fn share_values(one: &Column<'_>, other: &Column<'_>) -> bool {
 fn front(table: &Table<'_>) -> usize {
     let mut count: usize = 0;
     for column in table.columns.iter().take(MOST_FRONT) {
-        if !is_front(column) || !is_alone(table, column) {
+        // Behind a day, a few words that come nowhere else are a till's or a shop's.
+        let is_place = column.different() < 20 && has_day(table, count);
+        if !(is_front(column) || is_place) || !is_alone(table, column) {
             break;
         }
         count = count.saturating_add(1);
     }
     count
+}
+
+/// Whether one of so many columns has days.
+fn has_day(table: &Table<'_>, count: usize) -> bool {
+    table
+        .columns
+        .iter()
+        .take(count)
+        .any(|column| column.is_of_days())
 }
 
 fn is_front(column: &Column<'_>) -> bool {
@@ -117,6 +155,9 @@ fn take_front(
             "The number before a basket may be something else than how many such baskets there were. \
 If it is the count of a set, it is --form csv-counts.\n",
         );
+    } else if first.is_unique() && has_names_behind_colons(first) {
+        reading.doubts.push_str("The first field has more in it than an id, which is left out.\n");
+        because.push_str("A basket in each record, from column 2 on.\n");
     } else if first.is_unique() || first.is_of_measures() {
         write!(
             because,
@@ -135,6 +176,16 @@ If it is the count of a set, it is --form csv-counts.\n",
         })?;
     }
     Ok(())
+}
+
+/// Whether most values have something behind a colon, as `1: bread`.
+fn has_names_behind_colons(column: &Column<'_>) -> bool {
+    let count = column
+        .values
+        .iter()
+        .filter(|value| value.contains(": "))
+        .count();
+    count > column.different() / 2
 }
 
 /// Whether the first field of nearly all records is the number of the others that are not blank.

@@ -28,6 +28,7 @@ pub fn add_parts(
     let alloc = table.alloc;
     let is_customer = Word::Customer.is_in(basket.header) && !Word::Basket.is_in(basket.header);
     let mut key = basket.codes.as_slice().to_vec(alloc)?;
+    let mut together = "both";
     for _ in 0..MOST_PARTS {
         let Some(part) = best_part(table, &key, basket, item, is_customer)? else {
             break;
@@ -40,13 +41,14 @@ pub fn add_parts(
         };
         write!(
             reading.because,
-            "One id of column {id} comes with several {several} of column {other}, so a basket is known by both.\n"
+            "One id of column {id} comes with several {several} of column {other}, so a basket is known by {together}.\n"
         );
         reading.recipe.basket.push(Key {
             column: other,
             is_day: part.is_day,
         })?;
         key = joined(alloc, &key, &part.codes)?;
+        together = "all of these";
     }
     Ok(())
 }
@@ -87,11 +89,15 @@ fn best_part<'t, 'a>(
 fn makes_receipts(part: &Part<'_, '_>, basket: &Column<'_>, key: &[u32], both: &[u32]) -> bool {
     let (ids, id_runs) = (different(key), runs(key));
     let come_again = id_runs > ids.saturating_add(ids / 20);
-    let keeps_runs = runs(both) <= id_runs.saturating_add(id_runs / 20);
+    let both_runs = runs(both);
+    let keeps_runs = both_runs <= id_runs.saturating_add(id_runs / 20);
+    let count = different(both);
+    let stand_together = both_runs <= count.saturating_add(count / 20)
+        && count < both.len() / 10 * 9;
     let is_time_of_day = basket.is_of_days() && part.column.is_of_measures();
     Word::Place.is_in(part.column.header)
         || is_time_of_day
-        || come_again && (keeps_runs || part.column.is_of_days())
+        || come_again && (keeps_runs || stand_together || part.column.is_of_days())
 }
 
 /// Whether a part is determined by the id, or by the item as its price is.
@@ -125,7 +131,9 @@ fn part_of<'t, 'a>(
         }));
     }
     let is_time = column.is_of_times_of_day();
-    let is_measure = column.is_of_measures() || Word::Other.is_in(column.header);
+    let is_measure = column.is_of_measures()
+        || Word::Other.is_in(column.header)
+        || Word::Quantity.is_in(column.header);
     let may_be = is_time || !is_measure && !column.is_unique() && !column.is_blank();
     let codes = column.codes.as_slice().to_vec(alloc)?;
     Ok(may_be.then_some(Part {
@@ -142,22 +150,27 @@ fn is_of_purchases(alloc: Global, times: &Column<'_>, key: &[u32]) -> Result<boo
 }
 
 /// Says which columns are left out that change what a record says.
-pub fn note_others(table: &Table<'_>, reading: &mut Reading) {
+pub fn note_others(table: &Table<'_>, basket: &Column<'_>, reading: &mut Reading) {
     for column in &table.columns {
-        let number = column.number;
-        if column.counts.negatives > 0 {
-            let count = column.counts.negatives;
+        let (number, negatives) = (column.number, column.counts.negatives);
+        let is_used = reading.recipe.basket.iter().any(|key| key.column == number);
+        if is_used || column.different() < 2 || number == basket.number {
+            continue;
+        }
+        if negatives > 0 && negatives < column.len() / 2 {
             write!(
-                reading.notes,
-                "Column {number} is below 0 in {count} records, as returned goods are: they count as bought.\n"
+                reading.doubts,
+                "Column {number} is below 0 in {negatives} records, as returned goods are: they count as bought.\n"
             );
-        } else if Word::Other.is_in(column.header)
-            && column.is_of_numbers()
-            && column.different() > 1
-        {
+        } else if Word::Quantity.is_in(column.header) {
             write!(
                 reading.notes,
-                "Column {number} is left out: a basket has an item once, however many of it.\n"
+                "Column {number} is left out: a basket has an item once, however many of it and at any price.\n"
+            );
+        } else if Word::Undone.is_in(column.header) {
+            write!(
+                reading.doubts,
+                "Column {number} may say what was taken back: such records count as bought.\n"
             );
         }
     }

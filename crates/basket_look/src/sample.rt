@@ -1,8 +1,15 @@
 //! The baskets of a file's beginning, as they will be read.
+use crate::said::Said;
 use basket_pairs::{PairsFault, Recipe, TakesPairs, pairs_of};
 use indexmap::IndexSet;
 use std::alloc::{AllocError, Global};
 use std::hash::{BuildHasherDefault, FoldHasher};
+
+/// So many items on average are more than a receipt has.
+const MOST_USUAL: usize = 30;
+
+/// How many items of a basket are kept.
+const MOST_ITEMS: usize = 500;
 
 type Names = IndexSet<String, BuildHasherDefault<FoldHasher>>;
 
@@ -68,7 +75,7 @@ fn add_basket(baskets: &mut Vec<Vec<u32>>) -> Result<(), AllocError> {
 /// Adds an item to a basket that lacks it.
 fn add_item(items: &mut Vec<u32>, name: usize) -> Result<(), AllocError> {
     let name = u32::try_from(name).unwrap_or(u32::MAX);
-    if !items.contains(&name) {
+    if items.len() < MOST_ITEMS && !items.contains(&name) {
         items.push(name)?;
     }
     Ok(())
@@ -81,4 +88,35 @@ fn index_of(alloc: Global, names: &mut Names, name: &str) -> Result<usize, Alloc
     }
     let (index, _) = names.insert_full(String::from_str(alloc, name)?)?;
     Ok(index)
+}
+
+impl Sample {
+    /// Says what in the baskets hardly comes of receipts.
+    pub fn doubt(&self, doubts: &mut Said) -> Result<(), AllocError> {
+        let len = self.baskets.len();
+        let mut items: usize = 0;
+        let mut counts: Vec<usize> = vec![in self.alloc; 0; self.names.len()]?;
+        for basket in &self.baskets {
+            items = items.saturating_add(basket.len());
+            for name in basket {
+                if let Some(count) = counts.get_mut(*name as usize) {
+                    *count = count.saturating_add(1);
+                }
+            }
+        }
+        let usual = items / len.max(1);
+        if usual > MOST_USUAL {
+            write!(
+                doubts,
+                "A basket has {usual} items on average: is it one receipt?\n"
+            );
+        }
+        for (name, count) in self.names.iter().zip(&counts) {
+            if len > 20 && *count > len / 20 * 19 {
+                doubts.show(name.as_str());
+                doubts.push_str(" is in nearly every basket: is it a product?\n");
+            }
+        }
+        Ok(())
+    }
 }

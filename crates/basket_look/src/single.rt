@@ -1,18 +1,21 @@
 //! Tables with an item in each record.
 use crate::codes::determines;
 use crate::column::Column;
+use crate::parts::{add_parts, note_others};
 use crate::reading::{Form, Reading};
+use crate::scores::{best_basket, best_item, is_named_basket};
 use crate::table::Table;
+use crate::titles::cell;
 use crate::value::Word;
 use basket_pairs::{Key, Span};
 use std::alloc::AllocError;
 
+/// The columns of the basket and of the item.
+type Choice<'t, 'a> = (&'t Column<'a>, &'t Column<'a>);
+
 /// Reads a table with an item of a basket in each record.
 pub fn read(table: &Table<'_>, reading: &mut Reading) -> Result<bool, AllocError> {
-    let Some(item) = best_item(table)? else {
-        return Ok(false);
-    };
-    let Some(basket) = best_basket(table, item)? else {
+    let Some((basket, item)) = choice(table)? else {
         return Ok(false);
     };
     reading.form = Form::Single;
@@ -21,172 +24,121 @@ pub fn read(table: &Table<'_>, reading: &mut Reading) -> Result<bool, AllocError
         column: basket.number,
         is_day: false,
     })?;
-    reading.recipe.fills = basket.counts.blanks > basket.len() / 10;
-    say_choice(table, basket, item, reading)?;
-    crate::parts::add_parts(table, basket, item, reading)?;
-    crate::parts::note_others(table, reading);
+    say_choice(basket, item, reading);
+    add_parts(table, basket, item, reading)?;
+    take_blanks(table, basket, item, reading);
+    note_others(table, basket, reading);
     Ok(true)
 }
 
-/// The column that would do best as items: of those that do equally well the finest, since each
-/// name has one group.
-fn best_item<'t, 'a>(table: &'t Table<'a>) -> Result<Option<&'t Column<'a>>, AllocError> {
-    let mut best: Option<(&Column<'a>, i32)> = None;
-    for column in &table.columns {
-        let score = item_score(column);
-        let is_better = match best {
-            None => score > -9,
-            Some((other, most)) => {
-                score > most.saturating_add(1)
-                    || score >= most.saturating_sub(1) && is_finer(table, column, other)?
-            }
-        };
-        if is_better {
-            best = Some((column, score));
-        }
-    }
-    Ok(best.map(|(column, _)| column))
-}
-
-fn item_score(column: &Column<'_>) -> i32 {
-    let header = column.header;
-    if column.is_of_measures() || column.different() < 2 || column.is_blank() {
-        return -10;
-    }
-    let mut score: i32 = 0;
-    let mut add = |is_so: bool, points: i32| {
-        if is_so {
-            score = score.saturating_add(points);
-        }
+/// Chooses a basket for the best item, and another item if each basket has one of it alone.
+fn choice<'t, 'a>(table: &'t Table<'a>) -> Result<Option<Choice<'t, 'a>>, AllocError> {
+    let Some(item) = best_item(table, None)? else {
+        return Ok(None);
     };
-    add(Word::Item.is_in(header), 6);
-    add(Word::Name.is_in(header), 2);
-    add(Word::Other.is_in(header) || Word::Place.is_in(header), -6);
-    add(Word::Basket.is_in(header), -6);
-    add(Word::Customer.is_in(header), -6);
-    add(Word::Time.is_in(header), -6);
-    add(!column.is_of_numbers(), 3);
-    add(column.has_neighbours(), -3);
-    add(column.is_unique(), -4);
-    score
-}
-
-/// The column that would do best as the ids of baskets: of those that do equally well the finest,
-/// since each receipt has one customer.
-fn best_basket<'t, 'a>(
-    table: &'t Table<'a>,
-    item: &Column<'a>,
-) -> Result<Option<&'t Column<'a>>, AllocError> {
-    let mut best: Option<(&Column<'a>, i32)> = None;
-    for column in &table.columns {
-        if column.number == item.number || is_of_item(table, column, item)? {
-            continue;
-        }
-        let score = basket_score(column);
-        let is_better = match best {
-            None => score > -9,
-            Some((other, most)) => {
-                score > most.saturating_add(1)
-                    || score >= most.saturating_sub(1) && is_finer(table, column, other)?
-            }
-        };
-        if is_better {
-            best = Some((column, score));
-        }
-    }
-    Ok(best.map(|(column, _)| column))
-}
-
-fn basket_score(column: &Column<'_>) -> i32 {
-    let header = column.header;
-    if column.different() < 2 || column.is_blank() || column.is_unique() {
-        return -10;
-    }
-    let mut score: i32 = 0;
-    let mut add = |is_so: bool, points: i32| {
-        if is_so {
-            score = score.saturating_add(points);
-        }
+    let Some(basket) = best_basket(table, item)? else {
+        return Ok(None);
     };
-    let is_basket = Word::Basket.is_in(header);
-    add(is_basket, 8);
-    add(!is_basket && Word::Customer.is_in(header), 4);
-    add(
-        !is_basket && (Word::Other.is_in(header) || Word::Place.is_in(header)),
-        -20,
-    );
-    add(!is_basket && Word::Item.is_in(header), -4);
-    add(column.has_neighbours(), 3);
-    add(column.is_of_numbers(), 1);
-    add(
-        column.is_of_days(),
-        if column.has_times() { -3 } else { -6 },
-    );
-    add(column.is_of_measures() && !column.is_of_days(), -20);
-    score
+    if determines(table.alloc, &basket.codes, &item.codes)?
+        && let Some(other) = best_item(table, Some(basket))?
+        && let Some(basket) = best_basket(table, other)?
+    {
+        return Ok(Some((basket, other)));
+    }
+    Ok(Some((basket, item)))
 }
 
-/// Whether a column only says more of the item, as its price and its group do.
-fn is_of_item(
-    table: &Table<'_>,
-    column: &Column<'_>,
-    item: &Column<'_>,
-) -> Result<bool, AllocError> {
-    Ok(!Word::Basket.is_in(column.header) && determines(table.alloc, &item.codes, &column.codes)?)
-}
-
-/// Whether a column determines another that does not determine it.
-fn is_finer(table: &Table<'_>, one: &Column<'_>, other: &Column<'_>) -> Result<bool, AllocError> {
-    Ok(one.different() > other.different() && determines(table.alloc, &one.codes, &other.codes)?)
+/// Has a blank id stand for the one above, unless it is that of subtotals.
+fn take_blanks(table: &Table<'_>, basket: &Column<'_>, item: &Column<'_>, reading: &mut Reading) {
+    let blanks = basket.counts.blanks;
+    if blanks <= basket.len() / 10 {
+        return;
+    }
+    let mut totals: usize = 0;
+    for record in table.body {
+        let is_blank = cell(record, basket.number.saturating_sub(1)).is_empty();
+        if is_blank && Word::Total.is_in(cell(record, item.number.saturating_sub(1))) {
+            totals = totals.saturating_add(1);
+        }
+    }
+    let begins_blank = match table.body.first() {
+        Some(first) => cell(first, basket.number.saturating_sub(1)).is_empty(),
+        None => false,
+    };
+    if begins_blank {
+        write!(
+            reading.doubts,
+            "Column {} is blank in {blanks} records, which are left out.\n",
+            basket.number
+        );
+        return;
+    }
+    if totals > blanks / 2 {
+        reading.notes.push_str(
+            "Records without a basket are totals, it seems, and are left out.\n",
+        );
+        return;
+    }
+    reading.recipe.fills = true;
+    let (number, len) = (basket.number, basket.len());
+    let said = if blanks > len / 5 * 4 {
+        &mut reading.doubts
+    } else {
+        &mut reading.notes
+    };
+    write!(
+        said,
+        "Column {number} is blank in {blanks} of {len} records, which are taken to be of the basket above.\n"
+    );
 }
 
 /// Says why these two columns were taken, and which others might be.
-fn say_choice(
-    table: &Table<'_>,
-    basket: &Column<'_>,
-    item: &Column<'_>,
-    reading: &mut Reading,
-) -> Result<(), AllocError> {
+fn say_choice(basket: &Column<'_>, item: &Column<'_>, reading: &mut Reading) {
     let (basket_number, item_number) = (basket.number, item.number);
+    let (because, doubts) = (&mut reading.because, &mut reading.doubts);
+    let is_customer = Word::Customer.is_in(basket.header) && !is_named_basket(basket.header);
     write!(
-        reading.because,
+        because,
         "An item of a basket in each record: column {basket_number} is the basket"
     );
-    let named = |word: Word, column: &Column<'_>| word.is_in(column.header);
-    let (because, doubts) = (&mut reading.because, &mut reading.doubts);
-    if named(Word::Basket, basket) {
+    if is_named_basket(basket.header) {
         because.push_str(", by its name");
     } else if basket.has_neighbours() {
         because.push_str(", since records with one id stand together");
-    } else if !named(Word::Customer, basket) {
+    } else if !is_customer {
         write!(
             doubts,
             "Nothing but its repeats says that column {basket_number} is the basket.\n"
         );
     }
     write!(because, "; column {item_number} is the item");
-    because.push_str(if named(Word::Item, item) {
-        ", by its name.\n"
+    if Word::Item.is_in(item.header) {
+        because.push_str(", by its name.\n");
     } else {
-        ", since its values come again in other baskets.\n"
-    });
-    if named(Word::Customer, basket) && !named(Word::Basket, basket) {
+        because.push_str(", since its values come again in other baskets.\n");
+        if item.is_unique() {
+            write!(
+                doubts,
+                "Nearly no value of column {item_number} comes twice.\n"
+            );
+        }
+        if item.is_of_numbers() {
+            write!(
+                doubts,
+                "Column {item_number} has numbers, which may be no items.\n"
+            );
+        }
+    }
+    if is_customer {
         write!(
             doubts,
             "Column {basket_number} is a customer, it seems, and no column a receipt.\n"
         );
     }
+    if basket.is_unique() {
+        doubts.push_str("Nearly each basket has one item alone.\n");
+    }
     if basket.is_of_days() && !basket.has_times() {
         doubts.push_str("Without an id of receipts, what was sold at one time is one basket.\n");
     }
-    if basket.counts.blanks > basket.len() / 10 {
-        reading.notes.push_str("Where the basket is blank, it is that of the record above.\n");
-    }
-    if !named(Word::Item, item) && item.is_of_numbers() {
-        write!(
-            doubts,
-            "Column {item_number} has numbers, which may be no items.\n"
-        );
-    }
-    Ok(())
 }

@@ -59,6 +59,13 @@ impl<'a> Table<'a> {
         let below = records.get(skip..).unwrap_or(&[]);
         let (below, totals) = without_totals(below);
         let is_even = width > 1 && are_most(below, 10, |record| record.len() == width);
+        // Names of columns of which the first, that of row names, has none are others' names.
+        let is_shifted = match below.first() {
+            Some(first) => is_even && first.len().saturating_add(1) == width,
+            None => false,
+        };
+        let skip = skip.saturating_add(usize::from(is_shifted));
+        let below = below.get(usize::from(is_shifted)..).unwrap_or(&[]);
         let (first, rest) = below.split_first().unzip();
         let rest = rest.unwrap_or(&[]);
         let mut table = Table {
@@ -73,7 +80,7 @@ impl<'a> Table<'a> {
             columns: Vec::new(alloc),
         };
         table.add_columns()?;
-        if !table.has_header()? {
+        if is_shifted || !table.has_header()? {
             table.header = None;
             table.body = below;
             table.add_columns()?;
@@ -88,12 +95,40 @@ impl<'a> Table<'a> {
             let header = self.header.map_or("", |record| cell(record, place));
             let mut column = Column::new(self.alloc, place.saturating_add(1), header);
             for record in self.body {
-                column.push(cell(record, place))?;
+                // The head of another page is no record.
+                if self
+                    .header
+                    .is_none_or(|names| names.as_slice() != record.as_slice())
+                {
+                    column.push(cell(record, place))?;
+                }
             }
             columns.push(column)?;
         }
         self.columns = columns;
         Ok(())
+    }
+
+    /// Whether the names of a header only count up.
+    fn is_count(&self, header: &StringRecord) -> bool {
+        let mut before: Option<u64> = None;
+        let mut count: usize = 0;
+        for name in header.iter() {
+            let name = name.trim();
+            let number = name.parse::<u64>().ok();
+            let is_next = match before {
+                None => number == Some(0) || number == Some(1),
+                Some(before) => number == Some(before.saturating_add(1)),
+            };
+            if !name.is_empty() && !is_next {
+                return false;
+            }
+            if is_next {
+                before = number;
+                count = count.saturating_add(1);
+            }
+        }
+        count > 2
     }
 
     /// Whether the records are lists of names, ragged or padded.
@@ -114,7 +149,7 @@ impl<'a> Table<'a> {
             return Ok(false);
         }
         let marks = mark_columns(self.alloc, self.body, self.width)?;
-        if is_header_of_marks(header, &marks) {
+        if is_header_of_marks(header, &marks) || self.is_count(header) {
             return Ok(true);
         }
         let has_words = header.iter().any(|name| {

@@ -40,6 +40,18 @@ pub fn is_day(value: &str) -> bool {
     false
 }
 
+/// Whether digits alone are a day, as 20261102.
+pub fn is_compact_day(value: &str) -> bool {
+    let part = |from: usize, to: usize| {
+        let digits = value.get(from..to).unwrap_or("");
+        digits.parse::<u32>().unwrap_or(0)
+    };
+    value.len() == 8
+        && matches!(part(0, 4), 1980..=2099)
+        && matches!(part(4, 6), 1..=12)
+        && matches!(part(6, 8), 1..=31)
+}
+
 fn is_day_of(day: &str, separator: char) -> bool {
     let (mut numbers, mut parts): (usize, usize) = (0, 0);
     for part in day.split(separator) {
@@ -62,11 +74,16 @@ pub fn begins_with_digit(value: &str) -> bool {
 }
 
 /// Whether a header has one of these words in it, in letters of any case. The words have blanks
-/// between them.
+/// between them; one with `^` stands at the beginning, one with `$` at the end.
 pub fn has_word(header: &str, words: &str) -> bool {
     for word in words.split(' ') {
-        for part in header.as_bytes().windows(word.len().max(1)) {
-            if part.eq_ignore_ascii_case(word.as_bytes()) {
+        let bare = word.trim_matches(['^', '$']).as_bytes();
+        let header = header.as_bytes();
+        let places = header.windows(bare.len().max(1)).enumerate();
+        for (place, part) in places {
+            let is_begin = !word.starts_with('^') || place == 0;
+            let is_end = !word.ends_with('$') || place.saturating_add(bare.len()) == header.len();
+            if is_begin && is_end && part.eq_ignore_ascii_case(bare) {
                 return true;
             }
         }
@@ -84,8 +101,12 @@ pub enum Word {
     Item,
     /// What may be an item's name, or another's.
     Name,
-    /// A quantity, a price, a place or a group: neither a basket nor an item.
+    /// A quantity or a price.
+    Quantity,
+    /// A group, a state or the like: neither a basket nor an item.
     Other,
+    /// What was taken back.
+    Undone,
     /// A day or a time.
     Time,
     Total,
@@ -93,27 +114,34 @@ pub enum Word {
 
 const BASKET_WORDS: &str =
     "receipt basket order invoice transaction trans_ ticket bill session cart \
-beleg bon rechnung facture factura fattura auftrag einkauf tid commande pedido";
+beleg ^bon bon$ rechnung facture factura fattura auftrag einkauf ^tid$ commande pedido ^check ^trx$ zettel vorg ^visit$";
 
 const CUSTOMER_WORDS: &str =
     "customer member client kunde user household buyer visitor besucher cliente";
 
 const PLACE_WORDS: &str =
-    "till register kasse store shop filiale branch terminal outlet caisse caja";
+    "till register kasse store shop filial branch terminal outlet caisse caja \
+markt ^kst$ site location standort";
 
-const NAME_WORDS: &str = "name title titel page url";
+const NAME_WORDS: &str = "name title titel page url model ^dsc$";
 
 const ITEM_WORDS: &str = "product produkt produit item article artikel articulo artículo descri \
-bezeichnung sku ware stock goods material ean barcode plu gtin asin upc";
+bezeichnung sku ware stock goods material ean$ barcode plu gtin asin upc";
 
-const OTHER_WORDS: &str = "price preis prix quant qty menge anzahl amount betrag discount rabatt \
-country land region city stadt markt cashier payment zahl categor kategor group gruppe brand \
-marke pos line_no lineno line-no linenumber zeile index unit einheit count cart_order reorder \
-department aisle type status currency tax mwst";
+const QUANTITY_WORDS: &str =
+    "price preis prix quant qty menge anzahl amount betrag discount rabatt";
 
-const TIME_WORDS: &str = "date datum day tag time zeit uhr fecha jour hora stamp";
+const OTHER_WORDS: &str =
+    "country land region city stadt cashier payment zahl categor kategor group \
+gruppe brand marke pos$ position line_no lineno line-no linenumber line$ zeile index unit einheit count \
+size n_items num_items cart_order reorder department aisle type status state currency tax mwst gender age$ \
+guid";
 
-const TOTAL_WORDS: &str = "total summe gesamt sum ergebnis somme totale";
+const UNDONE_WORDS: &str = "void storno cancel return refund retoure gutschrift reversal";
+
+const TIME_WORDS: &str = "date datum day tag$ ^tag time zeit uhr fecha jour hora stamp";
+
+const TOTAL_WORDS: &str = "total summe gesamt ^sum ergebnis somme totale";
 
 impl Word {
     pub fn is_in(self, header: &str) -> bool {
@@ -125,7 +153,9 @@ impl Word {
                 Word::Place => PLACE_WORDS,
                 Word::Item => ITEM_WORDS,
                 Word::Name => NAME_WORDS,
+                Word::Quantity => QUANTITY_WORDS,
                 Word::Other => OTHER_WORDS,
+                Word::Undone => UNDONE_WORDS,
                 Word::Time => TIME_WORDS,
                 Word::Total => TOTAL_WORDS,
             },

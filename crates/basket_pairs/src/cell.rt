@@ -2,8 +2,9 @@
 use std::alloc::{AllocError, Global};
 
 /// Words that say no, in small letters.
-const NO: [&str; 10] = [
-    "", "no", "n", "nein", "non", "false", "falsch", "faux", "f", "nan",
+const NO: [&str; 22] = [
+    "", "no", "n", "nein", "non", "nie", "nao", "não", "ne", "nej", "false", "falsch", "faux",
+    "falso", "f", "off", "not bought", "none", "n/a", "na", ".", "?",
 ];
 
 /// Whether a cell of marks says that the basket lacks the item: it is blank, says no, or is a number
@@ -28,7 +29,7 @@ fn is_zero(cell: &str) -> bool {
 
 /// Whether a cell has nothing in it, as databases and pandas write that.
 pub fn is_null(cell: &str) -> bool {
-    matches!(cell, "NULL" | "\\N" | "nan" | "NaN")
+    matches!(cell, "NULL" | "\\N" | "nan" | "NaN" | "None")
 }
 
 /// The part of a time that is the day.
@@ -62,6 +63,33 @@ pub fn names_within<'a>(
     }
     names.push(bare(inner.get(start..).unwrap_or("")))?;
     Ok(names)
+}
+
+/// A name without how many of it there are, as `2x bread`, `bread x 2` or `bread (2)`.
+pub fn without_count(name: &str) -> &str {
+    let front = name.trim_start_matches(is_digit);
+    let rest = front.trim_start();
+    if front.len() < name.len() {
+        for mark in ["x ", "× ", "* ", "X "] {
+            if let Some(name) = rest.strip_prefix(mark) {
+                return name.trim_start();
+            }
+        }
+    }
+    let inner = name.strip_suffix(')').unwrap_or(name);
+    let back = inner.trim_end_matches(is_digit);
+    if back.len() < inner.len() {
+        for mark in [" (", " x", " x ", " ×", " × ", " *"] {
+            if let Some(name) = back.strip_suffix(mark) {
+                return name.trim_end();
+            }
+        }
+    }
+    name
+}
+
+fn is_digit(letter: char) -> bool {
+    letter.is_ascii_digit()
 }
 
 /// A name without the blanks and quotes around it.

@@ -13,13 +13,14 @@ pub enum Fields {
 }
 
 /// A separator and the word for it on a command line.
-const WORDS: [(char, &str); 6] = [
+const WORDS: [(char, &str); 7] = [
     (',', "comma"),
     (';', "semicolon"),
     ('\t', "tab"),
     ('|', "pipe"),
     ('/', "slash"),
     ('+', "plus"),
+    ('\n', "line"),
 ];
 
 /// The word for a separator.
@@ -46,7 +47,7 @@ impl Fields {
     /// What a word of `--sep` stands for.
     pub fn of_word(value: &str) -> Option<Self> {
         match separator_of(value) {
-            Some('/' | '+') => None,
+            Some('/' | '+' | '\n') => None,
             Some(separator) => Some(Fields::Separated(u8::try_from(separator).unwrap_or(b','))),
             None if value == "space" => Some(Fields::Blanks),
             None => None,

@@ -17,7 +17,7 @@ mod records;
 mod words;
 mod writer;
 
-pub use cell::{day_of, is_no, is_null, names_within};
+pub use cell::{day_of, is_no, is_null, names_within, without_count};
 pub use encoding::{ENCODINGS, Encoding};
 pub use fault::PairsFault;
 pub use fields::{Fields, separator_of, word_of};

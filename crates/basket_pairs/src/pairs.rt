@@ -1,5 +1,5 @@
 //! The pairs of a basket's id and an item that a text has.
-use crate::cell::{day_of, is_no, is_null, names_within};
+use crate::cell::{day_of, is_no, is_null, names_within, without_count};
 use crate::fault::PairsFault;
 use crate::recipe::{Key, Recipe, Span};
 use crate::records::Records;
@@ -41,6 +41,10 @@ pub fn pairs_of<T: TakesPairs>(
             break;
         }
         widest = widest.max(record.len());
+        // The head of another page.
+        if recipe.has_header && record.as_slice() == header.as_slice() {
+            continue;
+        }
         let number = place.saturating_sub(first).saturating_add(1);
         let own = id_of(alloc, &record, &recipe.basket, number)?;
         if !own.is_empty() || !recipe.fills {
@@ -178,6 +182,7 @@ impl Row<'_> {
     }
 
     fn hand_on_item<T: TakesPairs>(&self, item: &str, taker: &mut T) -> Result<(), PairsFault> {
+        let item = if self.recipe.has_counts { without_count(item) } else { item };
         if item.is_empty() || is_null(item) {
             return Ok(());
         }

@@ -53,6 +53,8 @@ pub struct Recipe {
     pub are_marks: bool,
     /// What separates several names in one cell.
     pub within: Option<char>,
+    /// Whether a number of pieces beside a name is left out.
+    pub has_counts: bool,
 }
 
 impl Recipe {
@@ -69,6 +71,7 @@ impl Recipe {
             items: Vec::new(alloc),
             are_marks: false,
             within: None,
+            has_counts: false,
         }
     }
 
@@ -115,6 +118,9 @@ impl Recipe {
         add(words, role, spans(alloc, &self.items)?.as_str())?;
         if let Some(separator) = self.within {
             add(words, "--within", word_of(separator))?;
+        }
+        if self.has_counts {
+            words.push(String::from_str(alloc, "--counts")?)?;
         }
         Ok(())
     }

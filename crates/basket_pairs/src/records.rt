@@ -95,6 +95,7 @@ fn cut(line: &str, fields: &Fields, record: &mut StringRecord) -> Result<(), All
             }
             record.push_field(letters.as_str().trim())
         }
+        _ if line.contains('"') => cut_quoted(line, record),
         _ => {
             for field in line.split_whitespace() {
                 record.push_field(field)?;
@@ -102,6 +103,20 @@ fn cut(line: &str, fields: &Fields, record: &mut StringRecord) -> Result<(), All
             Ok(())
         }
     }
+}
+
+/// Cuts a line into fields with blanks between them, which may be in quotes.
+fn cut_quoted(line: &str, record: &mut StringRecord) -> Result<(), AllocError> {
+    for (place, part) in line.split('"').enumerate() {
+        if place % 2 == 1 {
+            record.push_field(part.trim())?;
+        } else {
+            for field in part.split_whitespace() {
+                record.push_field(field)?;
+            }
+        }
+    }
+    Ok(())
 }
 
 /// Takes so many letters from the front of a text.

@@ -19,7 +19,9 @@ Options:
       --basket <COLUMNS>  The columns that together are the basket's id: 1, or 2,1, or 2,1:day,
                           which leaves out the time behind a day. Without it, each record is one
       --fill              A blank id is that of the record above
-      --within <S>        What separates several names in a cell: comma, semicolon, pipe, slash, plus
+      --within <S>        What separates several names in a cell: comma, semicolon, pipe, slash, plus,
+                          line
+      --counts            Leaves out how many there are of a name, as in 2x bread and bread (2)
       --header            The first record has the names of the columns
       --skip <N>          Leaves out so many records at the beginning
       --skip-last <N>     Leaves out so many records at the end
@@ -28,7 +30,7 @@ Options:
       --encoding <E>      utf-8, utf-16le, utf-16be, windows-1252, cp850, macintosh [default: utf-8]
   -h, --help              Print help
 
-Blank lines and lines of dashes are no records. A cell that is blank, NULL, \\N or nan is no item; a
+Blank lines, lines of dashes and repeated headers are no records. A cell that is blank, NULL, \\N, None or nan is no item; a
 mark is none if it says no or is not above 0. The whole file is kept in memory.
 
 Example:
@@ -115,7 +117,7 @@ const VALUED: [&str; 9] = [
     "--encoding",
 ];
 
-const FLAGS: [&str; 3] = ["--header", "--fill", "--help"];
+const FLAGS: [&str; 4] = ["--header", "--fill", "--counts", "--help"];
 
 fn takes_value(option: &str) -> bool {
     VALUED.contains(&option)
@@ -158,6 +160,7 @@ impl<'a> Asked<'a> {
         match word {
             "--header" => self.recipe.has_header = true,
             "--fill" => self.recipe.fills = true,
+            "--counts" => self.recipe.has_counts = true,
             _ => return self.take_file(word),
         }
         true

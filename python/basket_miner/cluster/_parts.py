@@ -14,8 +14,8 @@ from dask.base import is_dask_collection
 from dask.delayed import Delayed, delayed
 from distributed import Client, Future
 
-from .._baskets import Labels
-from .._data import SEPARATOR_WORDS, read
+from .._baskets import SEPARATOR_WORDS, Labels
+from .._data import read
 from .._errors import DataError
 from .._files import refuse_foreign_file
 from .._frames import columns_of_key, place_of
@@ -124,12 +124,16 @@ def _files(names: list[Any], layout: Layout) -> Parts:
                 "parts are names of files alone, or delayed parts and futures alone, and one is "
                 f"of the type {type(name).__name__}"
             )
-    if layout["form"] == "single":
-        raise DataError(
-            "files with a row for each item may cut a basket: read them as a Dask data frame "
-            "(dask.dataframe.read_csv), which brings the rows of a basket together"
-        )
     read_so = [read(name, layout) for name in names]
+    for name, made in zip(names, read_so):
+        if made.pairs or "--form=single" in made.words:
+            raise DataError(
+                f"{name} has a row for each item, of which files may cut a basket, or has to be "
+                "rewritten: read such files as a Dask data frame (dask.dataframe.read_csv), which brings "
+                "the rows of a basket together"
+            )
+        if made.words != read_so[0].words:
+            raise DataError(f"{name} is written otherwise than {names[0]}: give form=")
     files = [Path(os.path.abspath(os.path.expanduser(name))) for name in names]
     for file in files:
         is_plain = os.path.isfile(file) or os.path.isdir(file)

@@ -27,6 +27,7 @@ class PrepareCall(Protocol):
         sep: str | None = ...,
         header: bool = ...,
         weighted: bool = ...,
+        encoding: str | None = ...,
         progress: bool = ...,
         timeout: float | None = ...,
     ) -> Parts:
@@ -50,6 +51,7 @@ class SetsCall(Protocol):
         sep: str | None = ...,
         header: bool = ...,
         weighted: bool = ...,
+        encoding: str | None = ...,
         workers: int = ...,
         exact: bool = ...,
         progress: bool = ...,
@@ -78,6 +80,7 @@ class RulesCall(Protocol):
         sep: str | None = ...,
         header: bool = ...,
         weighted: bool = ...,
+        encoding: str | None = ...,
         workers: int = ...,
         exact: bool = ...,
         progress: bool = ...,
