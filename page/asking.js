@@ -27,6 +27,7 @@ function saySoon(own, text) {
 
 function sayFault(text) {
   clear();
+  element("question").hidden = !source?.reading;
   say(text, true);
 }
 
@@ -41,7 +42,6 @@ function clear() {
 function begin() {
   document.querySelector("main").setAttribute("aria-busy", "true");
   element("end").hidden = true;
-  endPreparing();
   return ++turn;
 }
 
@@ -81,11 +81,10 @@ function minedBy({ total }, limit = MOST_SETS) {
 // The command that writes the same report.
 function commandOf({ what, words }) {
   const shell = (word) => (/^[\w./%=+:,@-]+$/.test(word) ? word : `'${word.replaceAll("'", "'\\''")}'`);
-  const { pipe } = file;
-  const name = shell(file.name.replace(/^-/, "./-"));
-  const programs = pipe.map((program, place) => (place ? program : `${program} < ${name}`));
-  const asked = [...words, ...file.words, ...(["items", "count"].includes(what) ? [] : minedBy(file))].map(shell).join(" ");
-  return [...programs, `basket ${asked}${pipe.length ? "" : ` ${name}`}`].join(" | ");
+  const line = (...some) => ["basket", ...some].map(shell).join(" ");
+  const name = file.name.replace(/^-/, "./-");
+  const asked = [...words, ...file.words, ...(["items", "count"].includes(what) ? [] : minedBy(file))];
+  return file.pairs ? `${line("pairs", ...file.pairs, name)} | ${line(...asked)}` : line(...asked, name);
 }
 
 // The sets that are typed in, with commas between the names, as the program reads sets: in CSV after a count.
@@ -106,15 +105,15 @@ function offerSets() {
   element("given").value = lines.join("\n");
 }
 
-function listingOf({ separator }, isOfRules = false, most = MOST_LISTED) {
-  return { separator, isOfRules, most };
+function listingOf({ separator }, isOfRules = false) {
+  return { separator, isOfRules, most: MOST_LISTED };
 }
 
 // The itemsets of a file at a minimum. They are kept as counted sets, of which those at a higher minimum are asked.
 async function setsAt(own, file, least, limit) {
   const from = file.mined?.least <= least ? file.mined : file;
   const words = ["sets", "--min", `${least}`, ...from.words, ...minedBy(file, limit), "-"];
-  const answer = await ask(own, words, from.bytes, { listing: listingOf(file) });
+  const answer = await ask(own, words, from.input, { listing: listingOf(file) });
   if (answer?.status === 0 && from === file) file.mined = { least, ...countedSets(file, answer.report), rules: answer.rules };
   return answer;
 }
@@ -122,11 +121,8 @@ async function setsAt(own, file, least, limit) {
 // The report of itemsets as an input: the baskets first, as the count of the empty set.
 function countedSets({ total, separator, letter }, report) {
   const isOfNumbers = separator === OF_NUMBERS;
-  const first = new TextEncoder().encode(isOfNumbers ? `(${total})\n` : `${total}\n`);
-  const bytes = new Uint8Array(first.length + report.length);
-  bytes.set(first);
-  bytes.set(report, first.length);
-  return { bytes, words: isOfNumbers ? ["--form", "counts"] : ["--form", "csv-counts", "--sep", letter] };
+  const input = new Blob([isOfNumbers ? `(${total})\n` : `${total}\n`, report]);
+  return { input, words: isOfNumbers ? ["--form", "counts"] : ["--form", "csv-counts", "--sep", letter] };
 }
 
 // The answer to a question: of the file, or of its itemsets, from which closed and maximal ones and rules follow.
@@ -135,7 +131,7 @@ async function answerTo(own, question) {
   const listing = listingOf(file, what === "rules");
   if (["items", "count"].includes(what)) {
     const sets = what === "count" ? givenSets(question) : null;
-    return ask(own, [...words, ...file.words, "-"], file.bytes, { sets, listing });
+    return ask(own, [...words, ...file.words, "-"], file.input, { sets, listing });
   }
   const isMined = file.mined?.least <= least;
   let sets = { milliseconds: 0, memory: 0 };
@@ -144,7 +140,7 @@ async function answerTo(own, question) {
     if (what === "sets" || sets?.status !== 0) return sets;
     if (what === "rules" && sets.rules > MOST_RULES) return { status: ENDED, explanation: tooManyRules(sets.rules) };
   }
-  const answer = await ask(own, [...words, ...file.mined.words, ...minedBy(file), "-"], file.mined.bytes, { listing });
+  const answer = await ask(own, [...words, ...file.mined.words, ...minedBy(file), "-"], file.mined.input, { listing });
   return answer && { ...answer, milliseconds: sets.milliseconds + answer.milliseconds, memory: Math.max(sets.memory, answer.memory) };
 }
 

@@ -1,138 +1,106 @@
 
-// What the program's own `look` says of a file, taken over into the form: it shows the command that mines the file.
-const LOOKED_AT = (1 << 20) + 1; // One byte more than it reads tells it that there are more.
-const FORMS = { single: "an item on each line", baskets: "a basket on each line", fimi: "numbers, a basket on each line", counts: "sets with counts", "csv-counts": "sets with counts" };
-const LETTERS = { comma: ",", semicolon: ";", tab: "\t", pipe: "|" };
-const QUOTE = 34;
-const OF_NUMBERS = " "; // What separates numbers, and no names.
-const MOST_LAYERS = 20; // A file that is packed again and again is unpacked so often.
+// What is shown of a file: its first lines below the roles of their columns, how it is read and why.
+const MOST_ROWS = 6;
+const MOST_LENGTH = 40; // Of a cell that is shown.
+const MOST_BASKETS = 5;
+const MOST_NAMES = 12; // Of a basket that is shown.
+const FIRST_PAIRS = 4096; // Bytes of the pairs in which the first baskets are.
+const PAIR = /("(?:[^"]|"")*"|[^",\n]*),("(?:[^"]|"")*"|[^",\n]*)\n/gy;
 
-// The programs before `basket` in a command, as steps that the page does.
-const FILTERS = [
-  [/^iconv -f (\S+) -t UTF-8$/, ([, encoding]) => ({ name: "decode", encoding: encoding.toLowerCase() })],
-  [/^tr -d '\\r'$/, () => ({ name: "dropReturns" })],
-  [/^tr '\\r' '\\n'$/, () => ({ name: "turnReturns" })],
-  [/^tail -n \+2$/, () => ({ name: "skipLine" })],
-  [/^awk -F'(\S+)' -v OFS='\S+' '{ print \$(\d+), \$(\d+) }'$/, ([, letter, one, other]) => picked(letter, one - 1, other - 1)],
-  [/^python3 -c .*writer\(sys\.stdout, delimiter="(\S+)"\).*\[r\[(\d+)\], r\[(\d+)\]\]/, ([, letter, one, other]) => picked(letter, Number(one), Number(other))],
-  [/^cut (?:-d'(\S)' )?-f2-$/, ([, letter]) => ({ name: "skipColumn", separator: letter ?? "\t" })],
-  [/^awk -F'(\S+)' 'NR == 1 .*i = (\d+);/, ([, letter, first]) => ({ name: "nameMarks", separator: letterOf(letter), first: first - 1 })],
-];
-
-function letterOf(escaped) {
-  return escaped === "\\t" ? "\t" : escaped;
-}
-
-function picked(letter, one, other) {
-  return { name: "pick", separator: letterOf(letter), columns: [one, other] };
-}
-
-function stepOf(program) {
-  for (const [form, made] of FILTERS) {
-    const found = program.match(form);
-    if (found) return made(found);
-  }
-  return null;
-}
-
-// What the command in the text of `look` proposes, or null if it has none.
-function proposed(text) {
-  const line = text.split("\n").find((it) => /^ {2}(?:.* \| )?basket sets /.test(it));
-  if (!line) return null;
-  const programs = line.trim().split(" | ");
-  const words = programs.pop().split(" ");
-  const steps = programs.map(stepOf);
-  const after = (word, other) => (words.includes(word) ? words[words.indexOf(word) + 1] : other);
-  return {
-    steps: steps.includes(null) ? [] : steps,
-    pipe: programs,
-    width: Number(text.match(/nearly all of (\d+) fields/)?.[1] ?? 0),
-    form: after("--form", "fimi"),
-    sep: after("--sep", "comma"),
-    header: words.includes("--header"),
-    weight: words.includes("--weight"),
-  };
-}
-
-// The columns that the text of `look` tells of, as choices, with those that are taken.
-function offerColumns(text, steps) {
-  const width = Number(text.match(/nearly all of (\d+) fields/)?.[1] ?? 0);
-  const names = new Map(Array.from(text.matchAll(/^ {2}column (\d+)(?: (.*?))?: \d+ different,/gm), ([, number, name]) => [Number(number), name]));
-  const taken = steps.find(({ name }) => name === "pick")?.columns ?? [0, 1];
-  for (const [which, id] of ["basket-column", "item-column"].entries()) {
-    const options = Array.from({ length: width }, (_, place) => new Option(`${place + 1}${names.get(place + 1) ? `: ${names.get(place + 1)}` : ""}`, place));
-    element(id).replaceChildren(...options);
-    element(id).value = taken[which];
-  }
-}
-
-// The steps for the columns that are chosen, and the programs of a shell that do the same.
-function chosenSteps({ steps, pipe, sep, width }, bytes) {
-  const columns = ["basket-column", "item-column"].map((id) => Number(element(id).value));
-  const place = steps.findIndex(({ name }) => name === "pick");
-  const others = (list) => (place < 0 ? list : list.filter((_, at) => at !== place));
-  if (element("form").value !== "single" || width < 2 || (columns[0] === 0 && columns[1] === 1)) return { steps: others(steps), pipe: others(pipe) };
-  const letter = sep === "tab" ? "\\t" : LETTERS[sep];
-  const [one, other] = columns;
-  const program = bytes.includes(QUOTE)
-    ? `python3 -c 'import csv, sys; csv.writer(sys.stdout, delimiter="${letter}").writerows([r[${one}], r[${other}]] for r in csv.reader(sys.stdin, delimiter="${letter}"))'`
-    : `awk -F'${letter}' -v OFS='${letter}' '{ print $${one + 1}, $${other + 1} }'`;
-  return { steps: [...others(steps), picked(letter, one, other)], pipe: [...others(pipe), program] };
-}
-
-// Has the steps done, out of the page's way, by one worker that ends with its turn.
-let preparing = null;
-
-function prepared(bytes, steps) {
-  if (!steps.length) return bytes;
-  const helper = workerOf("preparing");
-  preparing = helper;
-  return new Promise((resolve, reject) => {
-    helper.onmessage = ({ data: { made, fault } }) => (fault ? reject(new Error(fault)) : resolve(made));
-    helper.onerror = helper.onmessageerror = (event) => reject(new Error(event.message || "its worker did not start"));
-    helper.postMessage({ bytes, steps });
-  }).finally(() => helper.terminate());
-}
-
-function endPreparing() {
-  preparing?.terminate();
-}
-
-function fillForm({ form, sep, header, weight }) {
-  element("form").value = form;
-  element("sep").value = sep;
-  element("header").checked = header;
-  element("weight").checked = weight;
-  tellForm();
-}
-
-function isCsv() {
-  return ["single", "baskets", "csv-counts"].includes(element("form").value);
+// The form of the file in a few words.
+function formInWords() {
+  const { look, reading, words } = source;
+  if (reading.form === "fimi") return "numbers, a basket on each line";
+  if (reading.form === "counts") return "sets with counts";
+  const form = words.includes("--marks") ? "a column for each item" : words.includes("--basket") ? "an item on each line" :
+    words.includes("--within") ? "the items of a basket in one cell" : "a basket on each line";
+  const fields = look.separator ? `separated by ${look.separator}` : "fields by their places";
+  return [form, fields, `${look.header ? "with" : "without"} a header`, ...(isFixed() ? ["its weight first"] : [])].join(", ");
 }
 
 function tellForm() {
-  const form = element("form").value;
-  const isHeaded = isCsv() && form !== "csv-counts";
-  for (const one of document.querySelectorAll(".csv")) one.hidden = !isCsv() || (one.classList.contains("check") && !isHeaded);
-  for (const one of document.querySelectorAll(".columns")) one.hidden = form !== "single" || element("item-column").length < 2;
-  document.querySelector(".weighted").hidden = form !== "baskets";
-  const said = [FORMS[form]];
-  if (isCsv()) said.push(`separated by ${element("sep").value}`);
-  if (isHeaded) said.push(element("header").checked ? "with a header" : "without a header");
-  if (form === "baskets" && element("weight").checked) said.push("its weight first");
-  element("recognised").textContent = said.join(", ");
+  const { look, reading } = source;
+  element("recognised").textContent = formInWords();
+  element("encoding").value = encodingOf();
+  element("written").hidden = isFixed();
+  element("roles").hidden = isFixed();
+  for (const cell of element("first-lines").querySelectorAll("[data-column]")) {
+    const role = roleOf(Number(cell.dataset.column));
+    cell.dataset.role = role;
+    const shown = cell.querySelector(".role");
+    if (shown) shown.textContent = role;
+  }
+  const isOther = encodingOf() !== look.encoding;
+  const chosen = ["As you chose it.", ...(isOther ? [`The lines below are still shown in ${encodingName(look.encoding)}.`] : [])];
+  const said = isChanged() ? chosen : [...reading.because, ...reading.notes];
+  element("because").textContent = said.join(" ");
+  const doubts = isChanged() || !reading.doubts.length ? [] : [made("p", `Not sure: ${reading.doubts.join(" ")}`)];
+  const others = source.readings.filter((other) => other !== reading || isChanged());
+  element("doubts").replaceChildren(...doubts, ...others.map(offerReading));
 }
 
-function separatorOf() {
-  return isCsv() ? LETTERS[element("sep").value] : OF_NUMBERS;
+function offerReading(reading) {
+  const offer = made("p", `${reading === source.reading ? "As it was recognised" : "It may also be"}: ${reading.because.join(" ")} `);
+  const button = made("button", "Read it so", offer);
+  button.type = "button";
+  button.addEventListener("click", () => {
+    change(() => takeReading(reading));
+    element("ask").focus();
+  });
+  return offer;
 }
 
-// The words of a command line that say the form.
-function formWords() {
-  const form = element("form").value;
-  const words = form === "fimi" ? [] : ["--form", form];
-  if (isCsv() && element("sep").value !== "comma") words.push("--sep", element("sep").value);
-  if (isCsv() && form !== "csv-counts" && element("header").checked) words.push("--header");
-  if (form === "baskets" && element("weight").checked) words.push("--weight");
-  return words;
+// The first lines below the heads of their columns, each a button that changes the column's role.
+function showLines() {
+  const { columns, rows } = source.look;
+  const line = (role) => Object.assign(made("div"), { role });
+  const cell = (row, kind, { number }, text) => {
+    const one = made("div", text, row);
+    one.role = kind;
+    one.dataset.column = number;
+    return one;
+  };
+  const head = line("row");
+  for (const column of columns) {
+    const name = column.name || `column ${column.number}`;
+    const place = cell(head, "columnheader", column);
+    const top = made(isFixed() ? "span" : "button", undefined, place);
+    made("bdi", name, top);
+    made("span", undefined, top).className = "role";
+    if (isFixed()) continue;
+    top.type = "button";
+    top.addEventListener("click", () => change(() => turnRole(column.number)));
+  }
+  const lines = rows.slice(0, MOST_ROWS).map((cells) => {
+    const row = line("row");
+    columns.forEach((column, place) => cell(row, "cell", column, shortened(cells[place] ?? "")));
+    return row;
+  });
+  element("lines").hidden = !columns.length;
+  element("first-lines").replaceChildren(head, ...lines);
+}
+
+function shortened(text) {
+  return text.length > MOST_LENGTH ? `${text.slice(0, MOST_LENGTH - 1)}…` : text;
+}
+
+// The first baskets, as `look` or else the pairs have them.
+async function tellBaskets(own, pairs) {
+  const { look, reading } = source;
+  const isFirst = reading === look.readings[0] && !isChanged();
+  const baskets = new Map(isFirst ? look.baskets.map(({ id, items }) => [id, new Set(items)]) : []);
+  const text = isFirst || !pairs ? "" : await pairs.slice(0, FIRST_PAIRS).text();
+  for (const [, ...fields] of text.matchAll(PAIR)) {
+    const [id, item] = fields.map((field) => (field.startsWith('"') ? field.slice(1, -1).replaceAll('""', '"') : field));
+    baskets.set(id, (baskets.get(id) ?? new Set()).add(item));
+  }
+  if (own !== turn) return;
+  element("baskets").replaceChildren(...[...baskets].slice(0, MOST_BASKETS).map(([id, items]) => {
+    const one = made("li");
+    made("bdi", id, one);
+    one.append(": ");
+    addNames([...items].slice(0, MOST_NAMES), one);
+    return one;
+  }));
+  element("begun").hidden = !baskets.size;
 }

@@ -22,23 +22,23 @@ function lacking() {
 
 async function unpacked(text) {
   const packed = Uint8Array.from(atob(text.trim()), (letter) => letter.charCodeAt(0));
-  return unzipped(packed);
+  return (await unzipped(new Blob([packed]))).arrayBuffer();
 }
 
-async function unzipped(bytes) {
-  const stream = new Blob([bytes]).stream().pipeThrough(new DecompressionStream("gzip"));
-  return new Uint8Array(await new Response(stream).arrayBuffer());
+// What is in a file that is packed, as a file.
+function unzipped(blob) {
+  return new Response(blob.stream().pipeThrough(new DecompressionStream("gzip"))).blob();
 }
 
-function workerOf(id) {
-  const address = URL.createObjectURL(new Blob([element(id).textContent], { type: "text/javascript" }));
-  const made = new Worker(address);
-  URL.revokeObjectURL(address);
-  return made;
+async function isPacked(blob) {
+  const [first, second] = new Uint8Array(await blob.slice(0, 2).arrayBuffer());
+  return first === 0x1f && second === 0x8b;
 }
 
 function startWorker() {
-  worker = workerOf("worker");
+  const address = URL.createObjectURL(new Blob([element("worker").textContent], { type: "text/javascript" }));
+  worker = new Worker(address);
+  URL.revokeObjectURL(address);
   hasFailed = false;
   const own = worker;
   const settle = (answer) => {
@@ -76,7 +76,7 @@ function endQuestion() {
 
 // The answer to a question of a turn, or null if a newer turn came or the question was ended. It may have itemsets
 // that are counted, and say what is listed of the report.
-async function ask(own, words, bytes, { sets = null, listing = null } = {}) {
+async function ask(own, words, input, { sets = null, listing = null } = {}) {
   await ready;
   if (own !== turn) return null;
   if (running) {
@@ -91,13 +91,7 @@ async function ask(own, words, bytes, { sets = null, listing = null } = {}) {
   let resolve;
   const done = new Promise((settle) => (resolve = settle));
   running = { id, resolve, done, begun: performance.now() };
-  try {
-    worker.postMessage({ id, words, input: bytes, sets, listing });
-  } catch (error) {
-    // There is no memory for another copy of the file.
-    running = null;
-    return { status: ENDED, report: nothing, explanation: error.message };
-  }
+  worker.postMessage({ id, words, input, sets, listing });
   const answer = await done;
   return own === turn ? answer : null;
 }

@@ -3,7 +3,6 @@
 const PLACES = 400;
 const ENOUGH = 150; // Itemsets that are to meet the first minimum, about.
 const TOO_MANY = 4000;
-const SOME_ITEMS = 25; // The minimum is looked for from the least count of so many items.
 let counts = [1]; // The counts that the slider's places stand for, the smallest first.
 
 function setTotal(total) {
@@ -49,13 +48,11 @@ async function metBy(own, file, count) {
   return answer.status === 0 ? answer.lines : Infinity;
 }
 
-// A minimum that about as many itemsets meet as one likes to see. The counts of the items say where to look.
-async function firstLeast(own, file) {
-  const answer = await ask(own, ["items", "--min", "1", ...file.words, "-"], file.bytes, { listing: listingOf(file, false, SOME_ITEMS) });
-  if (!answer) return null;
-  const items = Array.from(linesOf(new TextDecoder().decode(answer.listed), file.separator), ([count]) => Number(count));
+// A minimum that about as many itemsets meet as one likes to see. The one that `look` proposes says where to look.
+async function firstLeast(own, file, proposed) {
+  const [top, bottom = 100] = proposed.split(/[%/]/).filter(Boolean);
   let [few, manyAt] = [null, null];
-  let count = Math.max(2, Math.min(...items, Math.ceil(file.total / 2)));
+  let count = Math.max(2, Math.ceil((file.total * top) / bottom));
   for (let tries = 0; tries < 12; tries++) {
     const met = await metBy(own, file, count);
     if (met === null) return null;

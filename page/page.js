@@ -3,28 +3,32 @@
 const FEW_RULES = 10; // With fewer, a new file begins at the next lower confidence.
 const CONFIDENCES = [50, 20, 5, 0];
 const EXAMPLE = "example.csv";
-let source = null; // What was opened: { name, given: bytes, found: what `look` proposes }.
-// What is mined, once all of it is there: { name, pipe: the programs before `basket`, bytes, words: of a command line
-// for its form, separator, letter: the separator's name, total, mined: its itemsets once some are }.
+const MOST_LAYERS = 20; // A file that is packed again and again is unpacked so often.
+// What was opened: { name, given: its blob, look: what `look` says, readings, reading: that which is taken, words: of
+// `pairs` }.
+let source = null;
+// What is mined, once all of it is there: { name, input: a blob, pairs: the words of `pairs`, if these wrote it, words:
+// of a command line for its form, separator, letter: the separator's name, total, mined: its itemsets once some are }.
 let file = null;
 let opening = null; // The turn of an opening, and whether the form has a question for it.
 let kept = linked(); // What the address says of the question, until a file is there.
 
-// A new file, or its bytes once they are there: what it is, how many baskets it has, and a minimum to begin with.
+// A new file: what it is, how many baskets it has, and a minimum to begin with.
 function open(given, name) {
   source = opening = null;
   return during(`Reading ${name}`, async (own) => {
     beginOpening(own);
     await ready;
-    let bytes = await given;
-    for (let layers = 0; layers < MOST_LAYERS && bytes[0] === 0x1f && bytes[1] === 0x8b; layers++) bytes = await unzipped(bytes);
-    const answer = await ask(own, ["look", "-"], bytes.slice(0, LOOKED_AT));
+    let blob = given;
+    for (let layers = 0; layers < MOST_LAYERS && (await isPacked(blob)); layers++) blob = await unzipped(blob);
+    const answer = await lookedAt(own, blob);
     if (!answer) return;
-    const text = new TextDecoder().decode(answer.report).replace(/^standard input/, () => name);
-    source = { name, given: bytes, found: proposed(text) };
-    tellSource(text);
-    if (source.found) await prepare(own);
-    else sayFault(text || answer.explanation);
+    if (answer.status !== 0) return sayFault(answer.explanation);
+    const look = JSON.parse(new TextDecoder().decode(answer.report));
+    source = { name, given: blob, look, readings: readingsOf(look) };
+    tellSource();
+    if (source.reading) await prepare(own);
+    else sayFault(refusalOf(source.look, name));
   });
 }
 
@@ -41,44 +45,41 @@ function beginOpening(own) {
   opening = { own, isAsked: Boolean(opening?.isAsked) };
   file = null;
   clear();
+  element("begun").hidden = true;
   allowMinimum(false);
   tellLeast();
 }
 
-function tellSource(text) {
-  const { name, found } = source;
+function tellSource() {
+  const { name, readings } = source;
   element("file-name").textContent = name;
-  element("looked").textContent = text;
-  element("question").hidden = false;
-  element("question").classList.toggle("unknown", !found);
+  element("question").hidden = !readings.length;
   document.body.classList.add("opened");
   document.title = `${name} - basket`;
-  if (!found) return;
-  offerColumns(text, found.steps);
-  fillForm(found);
+  if (!readings.length) return;
+  takeReading(readings[0]);
+  showLines();
   element("glance").open = false;
 }
 
 // The file in a form that is mined, its number of baskets and its first minimum; then the first question.
 async function prepare(own) {
   tellForm();
-  const { name, given, found } = source;
-  const form = { words: formWords(), separator: separatorOf(), letter: element("sep").value };
-  const { steps, pipe } = chosenSteps({ ...found, sep: form.letter }, given);
-  const bytes = await prepared(given, steps);
+  const { name, look } = source;
+  const ways = waysOf();
+  const input = await inputOf(own, ways);
+  if (!input) return;
+  await tellBaskets(own, ways.pairs && input);
   saySoon(own, `Counting the baskets of ${name}.`);
-  const answer = await ask(own, ["count", "--sets", "sets", ...form.words, "-"], bytes, { sets: nothing });
+  const answer = await ask(own, ["count", "--sets", "sets", ...ways.words, "-"], input, { sets: nothing });
   if (!answer) return;
-  if (answer.status !== 0) {
-    element("glance").open = true;
-    return sayFault(answer.explanation);
-  }
+  if (answer.status !== 0) return sayFaultOfFile(answer.explanation);
   const total = Number(new TextDecoder().decode(answer.report).match(/\d+/)?.[0] ?? 0);
-  if (!total) return sayFault("There is no basket in it.");
-  const made = { name, pipe, bytes, ...form, total, mined: null };
+  if (!total) return sayFaultOfFile("There is no basket in it.");
+  const made = { name, input, ...ways, total, mined: null };
   const state = stateFor(name);
   saySoon(own, "Looking for a minimum to begin with.");
-  const least = Number(state.get("min")) || await firstLeast(own, made);
+  const least = Number(state.get("min")) || await firstLeast(own, made, look.minimum);
   if (least === null) return;
   file = made;
   setTotal(total);
@@ -117,15 +118,15 @@ function askAnew() {
   if (opening) opening.isAsked = true;
   if (opening?.own === turn) tellQuestion();
   else if (file) during("Mining", mine);
-  else if (source?.found) again();
+  else if (source?.reading) again();
 }
 
 function openFile(one) {
-  return open(one.arrayBuffer().then((buffer) => new Uint8Array(buffer)), one.name);
+  return open(one, one.name);
 }
 
 function openExample() {
-  return open(new TextEncoder().encode(element("example-text").textContent), EXAMPLE);
+  return open(new Blob([element("example-text").textContent]), EXAMPLE);
 }
 
 // The question is a part of the address, with the name of its file.
@@ -169,14 +170,12 @@ function openTransfer(transfer, name) {
   const files = [...transfer.files];
   const one = files.find(({ type }) => !text || !type.startsWith("image/"));
   if (one) openFile(one);
-  else if (text) open(new TextEncoder().encode(text), name);
+  else if (text) open(new Blob([text]), name);
 }
 
 function startQuestion() {
   element("question").addEventListener("submit", (event) => event.preventDefault());
-  for (const id of ["form", "sep", "header", "weight", "basket-column", "item-column"]) {
-    element(id).addEventListener("change", () => source?.found && again());
-  }
+  element("encoding").addEventListener("change", () => change(() => takeEncoding(element("encoding").value)));
   element("minimum").addEventListener("input", () => {
     setLeast(counts[Number(element("minimum").value)]);
     askAnew();
@@ -196,7 +195,7 @@ function startQuestion() {
     if (report) fillQuestion(report.question);
     keepLink();
     say("Stopped.");
-    element(source?.found ? "ask" : "choose").focus();
+    element(source?.reading ? "ask" : "choose").focus();
   });
   element("save-report").addEventListener("click", () => {
     const name = report.file.name.replace(/\.\w+$/, "");

@@ -92,6 +92,9 @@ int open(const char *path, int flags, ...) {
     return file < 0 ? failed(NO_FILE) : file;
 }
 
+/* Only the size of a file with a name is asked for, and no such file is looked at here. */
+int statx(int folder, const char *path, int flags, u32 mask, void *to) { return failed(NO_FILE); }
+
 int close(int file) { return 0; }
 
 i64 read(int file, u8 *to, u64 room) {

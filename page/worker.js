@@ -2,6 +2,7 @@
 // Runs the miner, which is a program for a command line. This worker is its system: each question has a fresh
 // memory, the words and files that were sent with it, and two streams that are sent back.
 const OUTPUT = 1;
+const UNREADABLE = 4;
 const OUT_OF_MEMORY = 6;
 const TRAPPED = 134;
 const utf8 = new TextEncoder();
@@ -80,12 +81,18 @@ function systemOf(words, files, streams, memory) {
   };
 }
 
+// A file comes as what it is, so that its bytes are here alone.
+function bytesOf(input) {
+  return new Uint8Array(input instanceof Blob ? new FileReaderSync().readAsArrayBuffer(input) : input);
+}
+
 // The exit status of a run, and what is to be said of one that was cut off: then the report is nothing.
 function statusOf(run) {
   try {
     return { status: run() };
   } catch (error) {
     if (error instanceof Ended) return { status: error.status };
+    if (error instanceof DOMException) return { status: UNREADABLE, cut: "The file can't be read. If it was changed or moved, open it again.\n" };
     // The memory of this page can be out where the program can't see it: that of its calls, or of the report.
     if (error instanceof RangeError) return { status: OUT_OF_MEMORY, cut: "basket: out of memory\n" };
     return { status: TRAPPED, cut: `basket: the program was stopped: ${error.message}\n` };
@@ -95,10 +102,10 @@ function statusOf(run) {
 function answerTo({ id, words, input, sets, listing }) {
   const streams = [[], []];
   const given = ["basket", ...words].map((word) => utf8.encode(word));
-  const files = new Files(input instanceof Uint8Array ? input : new Uint8Array(input), sets);
   const begun = performance.now();
   let memory = null;
   const run = statusOf(() => {
+    const files = new Files(bytesOf(input), sets);
     const page = systemOf(given, files, streams, () => memory);
     const { exports } = new WebAssembly.Instance(miner, { page });
     memory = exports.memory;

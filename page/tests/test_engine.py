@@ -79,6 +79,9 @@ QUESTIONS = (
     ("look", "receipts.csv"),
     ("look -", "shop"),
     ("look", "windows"),
+    ("look --json", "receipts.csv"),
+    ("pairs --header --basket 1 --item 2", "receipts.csv"),
+    ("pairs --encoding windows-1252 --item 1-", "windows"),
     ("--version", "nothing"),
     ("rules --help", "nothing"),
     # Faults, and the advice on them.
@@ -91,6 +94,9 @@ QUESTIONS = (
     ("sets --min 1/1000 --limit 100", "shop"),
     ("sets --min 2 missing.dat", "shop.dat"),
     ("sets --min 1/2 --form counts", "shop.dat"),
+    ("pairs --item 1-", "windows"),
+    ("pairs --item 7", "receipts.csv"),
+    ("pairs --item", "receipts.csv"),
     ("sells", "shop.dat"),
     ("", "nothing"),
 )

@@ -1,6 +1,7 @@
 # mypy: allow-untyped-calls
 """What may happen while a file is opened, how an opening ends, and what an address says of a file."""
 
+from pathlib import Path
 
 import pytest
 from selenium import webdriver
@@ -8,11 +9,11 @@ from selenium.webdriver.support.wait import WebDriverWait
 
 from browser import at, rows
 from program_tests.program import run
-from program_tests.test_look import PAIRS, RECEIPTS, SHOP, with_column
+from program_tests.test_look import RECEIPTS, SHOP
 
 from .use import choose, give, report_of, settled
 
-PRICES = with_column(2, "price", ["0.99"] * len(PAIRS)).encode()
+PRICES = RECEIPTS.replace(b"\n", b",0.99\n").replace(b"0.99", b"price", 1)
 # Gives a field another value as soon as the page shows the name of the file that is opened.
 CHANGE_SOON = """
 const [name, value] = arguments;
@@ -36,17 +37,13 @@ dataTransfer.setData("text/plain", arguments[0]);
 const [kind, target] = ["drop", arguments[1] ? element(arguments[1]) : document.body];
 return target.dispatchEvent(new DragEvent(kind, { dataTransfer, bubbles: true, cancelable: true }));
 """
-# Has the file prepared by a worker with another script, counts those that are ended, and changes a column twice.
+# Has another worker, which does another script, and changes a column.
 WITH_WORKER = """
-const [script, places] = arguments;
-element("preparing").textContent = script;
-window.ended ??= 0;
-window.terminate ??= Worker.prototype.terminate;
-Worker.prototype.terminate = function () { ended++; terminate.call(this); };
-for (const place of places) {
-  element("item-column").value = place;
-  element("item-column").dispatchEvent(new Event("change"));
-}
+const [script, column] = arguments;
+element("worker").textContent = script;
+worker.terminate();
+startWorker();
+document.querySelectorAll("#first-lines button")[column].click();
 """
 
 
@@ -65,35 +62,55 @@ def test_a_change_while_a_file_is_opened_is_of_that_file(
     assert "in 15 baskets" in give(shown, PRICES, "second.csv")
     least = str(at(shown, "least").get_attribute("value"))
     words = [*words, "--min", least, "--form", "single", "--header"]
-    assert report_of(shown) == run(words, RECEIPTS.encode()).out != b""
+    assert report_of(shown) == run(words, RECEIPTS).out != b""
 
 
+@pytest.mark.parametrize(("shelf", "place"), [("", "record"), (",s", "line")])
 def test_bytes_that_are_no_text_are_told_wherever_they_are(
-    shown: webdriver.Chrome,
+    shown: webdriver.Chrome, shelf: str, place: str
 ) -> None:
-    # The first MiB has none, which is what is looked at.
-    lines = "".join(f"r{n // 2},s,item {n % 50},1\n" for n in range(70_000))
-    given = f"receipt,shelf,product,price\n{lines}r1,s,caf\xe9,1\nr1,s,caf\xe8,1\n"
-    assert "no text in UTF-8" in give(shown, given.encode("latin-1"))
+    # The first MiB has none, which is what is looked at. One file is read as it is, the other is rewritten.
+    lines = "".join(f"r{n // 2}{shelf},item no. {n % 50}\n" for n in range(60_000))
+    given = f"receipt{shelf},product\n{lines}r1{shelf},caf\xe9\n".encode("latin-1")
+    said = f"The file is no text in UTF-8 at {place} 60002."
+    assert give(shown, given).startswith(said)
     assert not at(shown, "listing").is_displayed()
+    assert at(shown, "encoding").is_displayed()
+
+
+def test_a_file_that_was_changed_since_is_told(
+    shown: webdriver.Chrome, tmp_path: Path
+) -> None:
+    # The page keeps no bytes of it: the worker reads it for a question.
+    file = tmp_path / "till.csv"
+    for content in (RECEIPTS, RECEIPTS + b"1016,tea\n"):
+        file.write_bytes(content)
+        if content != RECEIPTS:
+            said = choose(shown, "ask", "items")
+            assert (
+                said
+                == "The file can't be read. If it was changed or moved, open it again.\n"
+            )
+        shown.execute_script(
+            "document.querySelector('main').setAttribute('aria-busy', 'true')"
+        )
+        at(shown, "file").send_keys(str(file))
+        settled(shown)
+    assert "in 16 baskets" in settled(shown)
 
 
 def test_a_change_of_a_column_is_told_and_can_be_stopped(
     shown: webdriver.Chrome,
 ) -> None:
     give(shown, PRICES)
-    script = shown.execute_script("return element('preparing').textContent")
-    shown.execute_script(WITH_WORKER, "onmessage = () => {};", [2, 0])
+    script = shown.execute_script("return element('worker').textContent")
+    shown.execute_script(WITH_WORKER, "onmessage = () => {};", 2)
     WebDriverWait(shown, 30).until(lambda _: at(shown, "end").is_displayed())
     assert at(shown, "answered").text == "Reading some file.csv."
     at(shown, "end").click()
     assert settled(shown) == "Stopped."
     assert not at(shown, "listing").is_displayed()
-    assert shown.execute_script("return ended") == 2
-    shown.execute_script(WITH_WORKER, "throw new Error('not today');", [2])
-    said = settled(shown)
-    assert said.startswith("Reading some file.csv failed:") and "not today" in said
-    shown.execute_script(WITH_WORKER, script, [1])
+    shown.execute_script(WITH_WORKER, script, 2)
     assert "in 15 baskets" in settled(shown)
 
 
@@ -114,7 +131,7 @@ def test_cells_are_pasted_though_their_picture_lies_beside_them(
     shown.execute_script(
         "document.querySelector('main').setAttribute('aria-busy', 'true')"
     )
-    shown.execute_script(PASTE, RECEIPTS.replace(",", "\t"))
+    shown.execute_script(PASTE, RECEIPTS.decode().replace(",", "\t"))
     assert "in 15 baskets" in settled(shown)
     assert shown.title == "pasted text - basket"
 
@@ -125,20 +142,11 @@ def test_a_text_is_dropped_on_the_page_or_into_a_field(
     shown.execute_script(
         "document.querySelector('main').setAttribute('aria-busy', 'true')"
     )
-    assert not shown.execute_script(DROP_TEXT, RECEIPTS, None)
+    assert not shown.execute_script(DROP_TEXT, RECEIPTS.decode(), None)
     assert "in 15 baskets" in settled(shown)
     # The browser puts it into a field.
     assert shown.execute_script(DROP_TEXT, "tea", "given")
     assert shown.title == "dropped text - basket"
-
-
-def test_a_name_with_the_marks_of_a_replacement_is_that_name(
-    shown: webdriver.Chrome,
-) -> None:
-    give(shown, SHOP, "cash$&.dat")
-    assert shown.execute_script(
-        "return element('looked').textContent.startsWith('cash$&.dat')"
-    )
 
 
 def test_an_address_is_of_its_file(shown: webdriver.Chrome) -> None:
@@ -147,7 +155,7 @@ def test_an_address_is_of_its_file(shown: webdriver.Chrome) -> None:
     choose(shown, "least", "9")
     shown.execute_script("element('either').value = '2'; update(); writeLink()")
     kept, address = rows(shown), shown.current_url
-    for content, name in ((RECEIPTS.encode(), "till.csv"), (SHOP, "shop.dat")):
+    for content, name in ((RECEIPTS, "till.csv"), (SHOP, "shop.dat")):
         shown.get("about:blank")
         shown.get(address)
         give(shown, content, name)

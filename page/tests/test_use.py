@@ -130,12 +130,13 @@ def test_a_question_is_stopped(example: webdriver.Chrome) -> None:
 
 
 def test_a_fault_is_the_programs_own_text(shown: webdriver.Chrome) -> None:
-    give(shown, RECEIPTS, "receipts.csv")
-    said = choose(shown, "form", "fimi")
-    wanted = run_at_terminal(["items", "--min", "1"], RECEIPTS).said
+    # The first MiB has none, which is what is looked at.
+    content = b"1 2 3\n" * 200_000
+    said = give(shown, content + b"3 4,5\n")
+    wanted = run_at_terminal(["items", "--min", "1"], content + b"3 4,5\n").said
     assert said == wanted != ""
     assert not at(shown, "listing").is_displayed()
-    assert "rules in 15 baskets" in choose(shown, "form", "single")
+    assert "rules in 15 baskets" in give(shown, SHOP)
 
 
 def test_counts_of_sets_that_are_typed(example: webdriver.Chrome) -> None:
@@ -191,7 +192,7 @@ def test_a_file_is_dropped_or_pasted(
 def test_names_of_a_file_are_text(shown: webdriver.Chrome) -> None:
     hostile = "</script><img src=x onerror=\"document.title='run'\">"
     quoted = hostile.replace('"', '""')
-    give(shown, f'"{quoted}",b\n"{quoted}",b\nb,c\n'.encode())
+    give(shown, f'"{quoted}",b\n"{quoted}",b,d\nb,c\n'.encode())
     choose(shown, "least", "1")
     assert hostile in {row[0] for row in rows(shown)}
     assert shown.find_elements(By.TAG_NAME, "img") == []

@@ -3,19 +3,18 @@
 
 import base64
 import re
-import shlex
 import time
 from pathlib import Path
 
 from selenium import webdriver
 
 from browser import at
-from program_tests.program import Run, run
+from program_tests.program import Run, run_script
 
 SECONDS = 60
 GIVE = """
 const [text, name] = arguments;
-open(Uint8Array.from(atob(text), (letter) => letter.charCodeAt(0)), name);
+open(new Blob([Uint8Array.from(atob(text), (letter) => letter.charCodeAt(0))]), name);
 """
 REPORT = """
 const [done] = arguments;
@@ -61,15 +60,16 @@ def recognised(browser: webdriver.Chrome) -> str:
     return str(browser.execute_script("return element('recognised').textContent"))
 
 
+def shown_command(browser: webdriver.Chrome) -> str:
+    return str(browser.execute_script("return element('command').textContent"))
+
+
 def asked_of_the_program(
     browser: webdriver.Chrome, content: bytes, folder: Path
 ) -> Run:
-    """What the program answers to the command that the page shows, which has no pipe."""
-    shown = browser.execute_script("return element('command').textContent")
-    name, *words = shlex.split(shown)
-    assert name == "basket"
-    (folder / words[-1]).write_bytes(content)
-    return run([*words[:-1], str(folder / words[-1])])
+    """What a shell answers to the command that the page shows."""
+    (folder / browser.execute_script("return file.name")).write_bytes(content)
+    return run_script(shown_command(browser), folder)
 
 
 def figures(text: str) -> list[int]:
