@@ -73,6 +73,7 @@ from ._itemsets import closed, items, maximal, sets
 from ._page import page
 from ._recommend import Recommender, recommend
 from ._rules import count, rules
+from ._significance import is_significant, p_values
 from ._tidy import tidy
 from ._version import __version__
 from .certify import WrongReport, certify
@@ -96,8 +97,10 @@ __all__ = [
     "closed",
     "count",
     "explore",
+    "is_significant",
     "items",
     "maximal",
+    "p_values",
     "page",
     "recommend",
     "rules",
