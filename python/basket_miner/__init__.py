@@ -72,6 +72,7 @@ from ._explore import explore
 from ._itemsets import closed, items, maximal, sets
 from ._page import page
 from ._recommend import Recommender, recommend
+from ._redundancy import improvement, is_productive, is_redundant
 from ._rules import count, rules
 from ._significance import is_significant, p_values
 from ._tidy import tidy
@@ -97,6 +98,9 @@ __all__ = [
     "closed",
     "count",
     "explore",
+    "improvement",
+    "is_productive",
+    "is_redundant",
     "is_significant",
     "items",
     "maximal",

@@ -16,7 +16,7 @@ _STEPS = 16
 _LEAST_SHARE = 2.0**-60
 
 
-def upper_tail(both: Array, left: Array, right: Array, total: int) -> Array:
+def upper_tail(both: Array, left: Array, right: Array, total: Array | int) -> Array:
     """For each table the chance of at least so many baskets with both sides, if these are independent.
 
     Of `total` baskets `left` have one side and `right` the other, and all ways to place them are equally
@@ -24,13 +24,14 @@ def upper_tail(both: Array, left: Array, right: Array, total: int) -> Array:
     The chance is the sum of these from `both` on (Fisher, The Design of Experiments, 1935).
     """
     found = np.empty(len(both))
+    totals = np.broadcast_to(total, len(both))
     for start in range(0, len(both), _AT_ONCE):
         part = slice(start, start + _AT_ONCE)
-        found[part] = _upper_tail(both[part], left[part], right[part], total)
+        found[part] = _upper_tail(both[part], left[part], right[part], totals[part])
     return found
 
 
-def two_sided(both: Array, left: Array, right: Array, total: int) -> Array:
+def two_sided(both: Array, left: Array, right: Array, total: Array | int) -> Array:
     """Twice the lesser chance of the two sides, and at most 1 (Yates, Tests of significance for 2 x 2
     contingency tables, 1984).
     """
@@ -41,9 +42,9 @@ def two_sided(both: Array, left: Array, right: Array, total: int) -> Array:
     return np.minimum(2 * np.minimum(*sides), 1.0)
 
 
-def _upper_tail(both: Array, left: Array, right: Array, total: int) -> Array:
+def _upper_tail(both: Array, left: Array, right: Array, total: Array) -> Array:
     # Terms fall away from the mean alone. On its other side the rest is summed: fewer than `both`.
-    is_high = both * float(total) >= left * right.astype(float)
+    is_high = both * total.astype(float) >= left * right.astype(float)
     first = np.where(is_high, both, right - both + 1).astype(float)
     side = np.where(is_high, left, total - left)
     cells = np.array([first, side - first, right - first, total - side - right + first])

@@ -31,6 +31,18 @@ def best_first(counts: RuleCounts, by: str) -> Array:
     return order
 
 
+def places_by_quotient(tops: Array, bottoms: Array) -> Array:
+    """For each quotient its place among all different ones, from the least on, as exact numbers."""
+    keys = _keys(tops, bottoms)
+    order = np.lexsort(keys[::-1])
+    is_other = np.zeros(len(order), dtype=bool)
+    for key in keys:
+        is_other[1:] |= np.diff(key[order]) != 0
+    places = np.empty(len(order), dtype=np.int64)
+    places[order] = is_other.cumsum()
+    return places
+
+
 def _keys(tops: Array, bottoms: Array) -> tuple[Array, Array]:
     """For each quotient its float, and its place among different ones that have this float.
 

@@ -120,7 +120,7 @@ def checked_level(alpha: float) -> float:
 
 def _possible_rules(rules: pd.DataFrame, items: int | None) -> int:
     sides = [itemsets_of(rules, name) for name in ("antecedents", "consequents")]
-    size = max((len(left) + len(right) for left, right in zip(*sides)), default=0)
+    size: int = max((len(left) + len(right) for left, right in zip(*sides)), default=0)
     in_rules: int = len(frozenset().union(*{*sides[0], *sides[1]}))
     if items is None:
         items = max(rules.attrs.get("items", 0), in_rules)
@@ -129,7 +129,7 @@ def _possible_rules(rules: pd.DataFrame, items: int | None) -> int:
         raise DataError(
             f"items is a number of at least the {in_rules} items of the rules, not {items!r}"
         )
-    possible = sum(math.comb(whole, u) * (2**u - 2) for u in range(2, size + 1))
+    sizes = range(2, size + 1)
+    possible = sum(math.comb(whole, u) * ((1 << u) - 2) for u in sizes)
     # Where rules stand twice, each row counts.
-    rows: int = len(rules)
-    return max(possible, rows)
+    return max(possible, len(sides[0]))

@@ -136,15 +136,13 @@ def test_among_independent_items_anything_is_found_in_a_twentieth_of_shops_at_mo
     """Of 400 shops 20 and, by chance, 13 more: three standard deviations."""
     draw = np.random.default_rng(7)
     shops = [rules_of(shop_of(draw, 0.3)) for _ in range(400)]
-    found = {
-        adjust: sum(
-            is_significant(shop, adjust=adjust, items=6).any() for shop in shops
-        )
-        for adjust in ("holm", "bonferroni", "bh", None)
-    }
-    assert max(found["holm"], found["bonferroni"], found["bh"]) <= 33
+
+    def found(adjust: Adjust | None) -> int:
+        return sum(is_significant(shop, 0.05, adjust, items=6).any() for shop in shops)
+
+    assert max(found("holm"), found("bonferroni"), found("bh")) <= 33
     # Without a correction most shops have something.
-    assert found[None] > 200
+    assert found(None) > 200
 
 
 def test_items_that_come_together_are_found() -> None:
