@@ -55,6 +55,7 @@ import importlib
 from typing import TYPE_CHECKING
 
 from ._baskets import Baskets
+from ._compare import compare
 from ._data import baskets
 from ._ending import to_thread
 from ._errors import (
@@ -96,6 +97,7 @@ __all__ = [
     "baskets",
     "certify",
     "closed",
+    "compare",
     "count",
     "explore",
     "improvement",

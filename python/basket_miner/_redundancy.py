@@ -14,10 +14,11 @@ from ._errors import DataError
 from ._fisher import upper_tail
 from ._frames import column_of
 from ._given_sets import demand_frame, itemsets_of
+from ._keywords import Adjust
 from ._measures import MOST_TOTAL_OF_FLOATS
 from ._ranks import places_by_quotient
 from ._rule_counts import RuleCounts, counts_of
-from ._significance import Adjust, adjusted, checked_level
+from ._significance import adjusted, checked_level
 
 Itemset = frozenset[Any]
 

@@ -1,7 +1,7 @@
 """Which rules are more than chance."""
 
 import math
-from typing import Literal, get_args
+from typing import get_args
 
 import numpy as np
 import pandas as pd
@@ -10,10 +10,9 @@ from ._baskets import Array
 from ._errors import DataError
 from ._fisher import upper_tail
 from ._given_sets import itemsets_of
+from ._keywords import Adjust
 from ._minimum import share_of, whole_of
 from ._rule_counts import counts_of
-
-Adjust = Literal["holm", "bonferroni", "bh"]
 
 # The attribute of a frame or a mask that tells their number.
 HYPOTHESES = "hypotheses"

@@ -15,7 +15,8 @@ import pytest
 import brute
 from basket_miner import DataError, is_significant, p_values, rules
 from basket_miner._fisher import two_sided, upper_tail
-from basket_miner._significance import Adjust, adjusted
+from basket_miner._keywords import Adjust
+from basket_miner._significance import adjusted
 from basket_miner.frequent_patterns import apriori, association_rules
 
 RECEIPTS = Path(__file__).parents[2] / "examples/receipts.csv"
