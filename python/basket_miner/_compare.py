@@ -13,10 +13,10 @@ from ._data import Data, read
 from ._errors import DataError
 from ._fisher import two_sided
 from ._itemsets import sets
-from ._keywords import Layout, Run, SizedOptions, keywords_of
+from ._keywords import Adjust, Layout, Run, SizedOptions, keywords_of
 from ._minimum import Minimum
 from ._rules import count
-from ._significance import HYPOTHESES, Adjust, adjusted
+from ._significance import HYPOTHESES, adjusted
 from ._signatures import CompareCall
 from ._typed import Typed
 
