@@ -69,6 +69,7 @@ from ._errors import (
     TooManySets,
     UsageError,
 )
+from ._evaluate import evaluate
 from ._explore import explore
 from ._itemsets import closed, items, maximal, sets
 from ._page import page
@@ -76,6 +77,7 @@ from ._recommend import Recommender, recommend
 from ._redundancy import improvement, is_productive, is_redundant
 from ._rules import count, rules
 from ._significance import is_significant, p_values
+from ._split import split
 from ._tidy import tidy
 from ._version import __version__
 from .certify import WrongReport, certify
@@ -99,6 +101,7 @@ __all__ = [
     "closed",
     "compare",
     "count",
+    "evaluate",
     "explore",
     "improvement",
     "is_productive",
@@ -111,6 +114,7 @@ __all__ = [
     "recommend",
     "rules",
     "sets",
+    "split",
     "tidy",
     "to_thread",
 ]

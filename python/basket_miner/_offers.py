@@ -112,7 +112,7 @@ class Index:
                     break
         return [*offers.items()][: wish.top]
 
-    def _speaking(self, items: frozenset[Any]) -> list[int]:
+    def _speaking(self, items: frozenset[Any]) -> Iterable[int]:
         """The ranks of the rules whose antecedents a basket has, perhaps without those whose consequents it has."""
         near = sum(self._rules_at[label] for label in items)
         if pays(near, len(self._items), len(self._consequents)):

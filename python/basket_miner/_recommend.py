@@ -1,5 +1,6 @@
 """Offers by rules."""
 
+import itertools
 from collections.abc import Hashable, Iterable, Sequence
 from typing import Any
 
@@ -77,14 +78,15 @@ class Recommender:
 
     def __init__(self, rules: pd.DataFrame, by: By = "confidence") -> None:
         counts = counts_of(rules)
-        self._popular = popular_items(rules, counts)
+        sold = popular_items(rules, counts)
         order = ranked(rules, counts, by)
         self._index = Index(rules, order.tolist())
         # The popular items stand as rules behind the others.
-        more = len(self._popular)
-        self._order = np.r_[order, np.arange(len(order), len(order) + more)]
-        self._counts = with_popular(counts, self._popular)
-        self._labels = [*rules.index.tolist(), *[None] * more]
+        self._rules = len(order)
+        self._popular = {label: rank for rank, label in enumerate(sold, len(order))}
+        self._order = np.r_[order, len(order) + np.arange(len(sold))]
+        self._counts = with_popular(counts, sold)
+        self._labels = [*rules.index.tolist(), *[None] * len(sold)]
 
     def recommend(
         self,
@@ -116,19 +118,28 @@ class Recommender:
         ((_, basket),) = named_baskets([items], None, None)
         return [label for label, _ in self._offers(basket, wish)]
 
+    def by_rules(self, items: frozenset[Any], wish: Wish) -> list[Any]:
+        """The items that rules offer to a basket."""
+        return [label for label, _ in self._index.offers(items, wish)]
+
+    def by_sales(self, items: frozenset[Any], wish: Wish) -> list[Any]:
+        """The most frequent items that a basket lacks."""
+        allowed = (
+            label
+            for label in self._popular
+            if label not in items and wish.allows(label)
+        )
+        return [*itertools.islice(allowed, wish.top)]
+
     def _offers(self, items: frozenset[Any], wish: Wish) -> list[tuple[Any, int]]:
         """The offers to a basket, each with the rank of its rule."""
         found = self._index.offers(items, wish)
         if wish.fill is None or len(found) == wish.top:
             return found
         known = dict(found)
-        first = len(self._order) - len(self._popular)
-        for rank, label in enumerate(self._popular, start=first):
-            if len(known) == wish.top:
-                break
-            if label not in items and wish.allows(label):
-                known.setdefault(label, rank)
-        return [*known.items()]
+        for label in self.by_sales(items | known.keys(), wish):
+            known[label] = self._popular[label]
+        return [*known.items()][: wish.top]
 
     def _frame(
         self,
@@ -144,7 +155,7 @@ class Recommender:
             if items not in known:
                 known[items] = self._offers(items, wish)
             rows += [(name, *offer) for offer in known[items]]
-        if all(rank >= len(self._order) - len(self._popular) for *_, rank in rows):
+        if all(rank >= self._rules for *_, rank in rows):
             self._index.refuse_other_types(set().union(*known))
         places = self._order[np.array([rank for *_, rank in rows], dtype=np.intp)]
         found = {

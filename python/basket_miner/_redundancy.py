@@ -16,9 +16,10 @@ from ._frames import column_of
 from ._given_sets import demand_frame, itemsets_of
 from ._keywords import Adjust
 from ._measures import MOST_TOTAL_OF_FLOATS
+from ._minimum import proportion_of
 from ._ranks import places_by_quotient
 from ._rule_counts import RuleCounts, counts_of
-from ._significance import adjusted, checked_level
+from ._significance import adjusted
 
 Itemset = frozenset[Any]
 
@@ -99,7 +100,7 @@ def is_productive(
 
     Webb, Discovering significant patterns, 2007.
     """
-    level = checked_level(alpha)
+    level = float(proportion_of(alpha, "alpha"))
     counts = counts_of(rules)
     places, both, left = _without_each(rules, counts, sets)
     chances = upper_tail(counts.both[places], counts.left[places], both, left)

@@ -1,7 +1,7 @@
 """Rules as rows of bits by item, for large baskets, of which many rules speak."""
 
 import itertools
-from collections.abc import Sequence
+from collections.abc import Iterator, Sequence
 from typing import Any
 
 import numpy as np
@@ -10,7 +10,7 @@ from ._baskets import Array
 
 # What a basket costs, in nanoseconds, as measured: by lists for each rule at one of its items; by rows of bits for each
 # rule, for each byte of the rows, and once.
-_PER_RULE_NEAR, _PER_RULE, _PER_BYTE, _ONCE = 100.0, 1.0, 0.1, 20_000.0
+_PER_RULE_NEAR, _PER_RULE, _PER_BYTE, _ONCE = 50.0, 2.0, 0.1, 20_000.0
 _MOST_BYTES = 1 << 26
 
 
@@ -46,7 +46,7 @@ class RuleBits:
         np.bitwise_or.at(rows, (numbers, ranks >> 3), 1 << (ranks & 7).astype(np.uint8))
         return rows.view(np.uint64)
 
-    def speaking(self, items: frozenset[Any]) -> list[int]:
+    def speaking(self, items: frozenset[Any]) -> Iterator[int]:
         """The ranks of the rules whose antecedents a basket has and of whose consequents it has none."""
         known = self._numbers.keys() & items
         owned = [self._numbers[item] for item in known]
@@ -55,5 +55,7 @@ class RuleBits:
         silent = np.bitwise_or.reduce(self._wants[lacking], axis=0)
         silent |= np.bitwise_or.reduce(self._gives[owned], axis=0)
         bits = np.unpackbits((~silent).view(np.uint8), bitorder="little")
-        found: list[int] = np.flatnonzero(bits[: self._rules]).tolist()
-        return found
+        found = np.flatnonzero(bits[: self._rules])
+        # Few of them are asked for.
+        for start in range(0, len(found), 256):
+            yield from found[start : start + 256].tolist()

@@ -11,7 +11,7 @@ from ._errors import DataError
 from ._fisher import upper_tail
 from ._given_sets import itemsets_of
 from ._keywords import Adjust
-from ._minimum import share_of, whole_of
+from ._minimum import proportion_of, whole_of
 from ._rule_counts import counts_of
 
 # The attribute of a frame or a mask that tells their number.
@@ -74,7 +74,7 @@ def is_significant(
     Controlling the false discovery rate, 1995; the number of hypotheses as in Webb, Discovering
     significant patterns, 2007.
     """
-    level = checked_level(alpha)
+    level = float(proportion_of(alpha, "alpha"))
     if hypotheses is None:
         hypotheses = _possible_rules(rules, items)
     p = p_values(rules)
@@ -108,13 +108,6 @@ def adjusted(p: Array, adjust: Adjust | None, hypotheses: int) -> Array:
     found = np.empty(len(p))
     found[order] = np.minimum(steps, 1.0)
     return found
-
-
-def checked_level(alpha: float) -> float:
-    share = share_of(alpha)
-    if share is None or not 0 <= share <= 1:
-        raise DataError(f"alpha is a number from 0 to 1, not {alpha!r}")
-    return float(alpha)
 
 
 def _possible_rules(rules: pd.DataFrame, items: int | None) -> int:

@@ -220,7 +220,7 @@ def test_rows_of_bits_say_the_rules_that_speak(size: int) -> None:
     bits = RuleBits(sides[0], sides[1])
     for _ in range(50):
         items = frozenset(chance.sample("abcdefghxy", chance.randint(0, 8)))
-        assert bits.speaking(items) == [
+        assert [*bits.speaking(items)] == [
             rank
             for rank, (left, right) in enumerate(zip(*sides))
             if left <= items and right.isdisjoint(items)
