@@ -39,8 +39,12 @@ data, ..)`, and the end of Python, however it comes, on Linux with the tool `set
 
 The program has the package's version, or a later one of the same major version.
 
-`tidy` makes a row for each item, `recommend` says what to offer to baskets by rules (`Recommender` makes
-the rules ready once for many calls), `explore` writes a page that shows rules in a browser, `page` says
+`p_values` and `is_significant` say which rules are more than chance, `is_redundant`, `improvement` and
+`is_productive` which say more than shorter ones, and `compare` what changed. `recommend` says what to
+offer to baskets by rules (`Recommender` makes the rules ready once for many calls), `evaluate` how good
+that is on other baskets, and `split` makes these.
+
+`tidy` makes a row for each item, `explore` writes a page that shows rules in a browser, `page` says
 where the page lies that mines in a browser, `certify` checks a report of the program against its
 baskets by other code, `basket_miner.frequent_patterns` and `basket_miner.preprocessing` have the calls
 of mlxtend, and `basket_miner.cluster` asks parts of the baskets on a Dask cluster.
