@@ -42,8 +42,12 @@ data, ..)`, and the end of Python, however it comes, on Linux with the tool `set
 
 The program has the package's version, or a later one of the same major version.
 
-`tidy` makes a row for each item, `recommend` says what to offer to baskets by rules (`Recommender` makes
-the rules ready once for many calls), `explore` writes a page that shows rules in a browser, `page` says
+`p_values` and `is_significant` say which rules are more than chance, `is_redundant`, `improvement` and
+`is_productive` which say more than shorter ones, and `compare` what changed. `recommend` says what to
+offer to baskets by rules (`Recommender` makes the rules ready once for many calls), `evaluate` how good
+that is on other baskets, and `split` makes these.
+
+`tidy` makes a row for each item, `explore` writes a page that shows rules in a browser, `page` says
 where the page lies that mines in a browser, `certify` checks a report of the program against its
 baskets by other code, `basket_miner.frequent_patterns` and `basket_miner.preprocessing` have the calls
 of mlxtend, and `basket_miner.cluster` asks parts of the baskets on a Dask cluster.
@@ -58,6 +62,7 @@ import importlib
 from typing import TYPE_CHECKING
 
 from ._baskets import Baskets
+from ._compare import compare
 from ._data import baskets
 from ._ending import to_thread
 from ._errors import (
@@ -71,12 +76,16 @@ from ._errors import (
     TooManySets,
     UsageError,
 )
+from ._evaluate import evaluate
 from ._explore import explore
 from ._itemsets import closed, items, maximal, sets
 from ._look import Look, look
 from ._page import page
 from ._recommend import Recommender, recommend
+from ._redundancy import improvement, is_productive, is_redundant
 from ._rules import count, rules
+from ._significance import is_significant, p_values
+from ._split import split
 from ._tidy import tidy
 from ._version import __version__
 from .certify import WrongReport, certify
@@ -99,15 +108,23 @@ __all__ = [
     "baskets",
     "certify",
     "closed",
+    "compare",
     "count",
+    "evaluate",
     "explore",
+    "improvement",
+    "is_productive",
+    "is_redundant",
+    "is_significant",
     "items",
     "look",
     "maximal",
+    "p_values",
     "page",
     "recommend",
     "rules",
     "sets",
+    "split",
     "tidy",
     "to_thread",
 ]

@@ -79,6 +79,9 @@ def asked(
         frame = sets_frame(report, baskets, whole, exact=run_so["exact"])
     # Whoever draws the frame sees below which count it has nothing.
     frame.attrs["minimum"] = least_count(exact_minimum(least), whole)
+    if baskets.labels is not None:
+        # Whoever tests rules sees how many there could have been.
+        frame.attrs["items"] = len(baskets.labels)
     return frame
 
 

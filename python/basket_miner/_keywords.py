@@ -21,6 +21,8 @@ Key = Hashable | Sequence[Hashable]
 Missing = Literal["refuse", "drop"]
 Form = Literal["fimi", "baskets", "single"]
 Miner = Literal["apriori", "eclat", "eclat-diff", "eclat-bits", "fpgrowth"]
+# How p-values are corrected for their number.
+Adjust = Literal["holm", "bonferroni", "bh"]
 
 Options = TypeVar("Options")
 

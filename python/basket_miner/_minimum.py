@@ -112,6 +112,15 @@ def share_of(value: object) -> Fraction | None:
     return None
 
 
+def proportion_of(value: object, name: str) -> Fraction:
+    """A number from 0 to 1 as the fraction that it means, or `DataError` with the argument's name."""
+    whole = whole_of(value)
+    share = share_of(value) if whole is None else Fraction(whole)
+    if share is None or not 0 <= share <= 1:
+        raise DataError(f"{name} is a number from 0 to 1, not {value!r}")
+    return share
+
+
 def _meant(decimal: Decimal, rounding: Fraction) -> Fraction:
     """A decimal, less what it may have been rounded up by where it was computed."""
     is_computed = len(decimal.as_tuple().digits) >= _DIGITS_OF_COMPUTED

@@ -9,7 +9,7 @@ from typing import Any, Protocol
 import pandas as pd
 
 from ._baskets import Baskets, Labels
-from ._keywords import Form, Key, Miner, Missing
+from ._keywords import Adjust, Form, Key, Miner, Missing
 from ._minimum import Confidence, Minimum
 
 
@@ -80,6 +80,37 @@ class SetsCall(Protocol):
         header: bool = ...,
         weighted: bool = ...,
         encoding: str | None = ...,
+        names: Labels | None = ...,
+        workers: int = ...,
+        exact: bool = ...,
+        progress: bool = ...,
+        timeout: float | None = ...,
+        miner: Miner | None = ...,
+        limit: int | None = ...,
+        max_items: int | None = ...,
+    ) -> pd.DataFrame:
+        ...
+
+
+class CompareCall(Protocol):
+    """As `compare`."""
+
+    def __call__(
+        self,
+        before: Any,
+        after: Any,
+        minimum: Minimum,
+        adjust: Adjust | None = ...,
+        hypotheses: int | None = ...,
+        *,
+        basket: Key | None = ...,
+        item: Hashable | None = ...,
+        weight: Hashable | None = ...,
+        missing: Missing = ...,
+        form: Form | None = ...,
+        sep: str | None = ...,
+        header: bool = ...,
+        weighted: bool = ...,
         names: Labels | None = ...,
         workers: int = ...,
         exact: bool = ...,

@@ -29,6 +29,11 @@ CALLS: list[tuple[Callable[..., Any], str, dict[str, Any]]] = [
     (miner.closed, "data minimum", LAYOUT | WORK),
     (miner.maximal, "data minimum", LAYOUT | WORK),
     (miner.rules, "data minimum confidence", LAYOUT | WORK),
+    (
+        miner.compare,
+        "before after minimum adjust hypotheses",
+        LAYOUT | WORK | {"max_items": None},
+    ),
     (miner.count, "data sets", LAYOUT | RUN),
     (cluster.prepare, "parts", {**PART, "progress": False, "timeout": None}),
     (cluster.sets, "parts minimum", PART | WORK),

@@ -11,14 +11,16 @@ import pandas as pd
 import pytest
 
 import brute
-from basket_miner import DataError, Recommender, baskets, recommend, rules
+from basket_miner import DataError, Recommender, _offers, baskets, recommend, rules
 from basket_miner._ranks import FIGURES, best_first
+from basket_miner._rule_bits import RuleBits, pays
 from basket_miner._rule_counts import RuleCounts
 from basket_miner.frequent_patterns import apriori, association_rules
 
 RECEIPTS = Path(__file__).parents[2] / "examples/receipts.csv"
 SHOP = rules(RECEIPTS, 2, "1/4", form="single", header=True)
 COLUMNS = ["basket", "item", "rule", "count", "confidence", "lift"]
+HALF = SHOP.assign(x=pd.Series(1.0, SHOP.index[1:]))
 GAPS = SHOP.assign(lift=SHOP["lift"].astype("Float64").where(SHOP.index > 0))
 
 
@@ -100,7 +102,7 @@ def test_rules_are_ranked_by_exact_figures_where_floats_are_equal(
 
     # Equal ones keep their order.
     wanted = sorted(range(len(table)), key=figures, reverse=True)
-    assert best_first(counts, by).tolist() == wanted
+    assert best_first(counts, [by]).tolist() == wanted
     lifts = {figures(place)[1] for place in wanted}
     assert (len({*map(float, lifts)}) < len(lifts)) == (total > 60)
 
@@ -129,10 +131,10 @@ def test_offers_to_baskets_of_several_columns_have_their_values() -> None:
         {"store": ["a", "b", "b"], "r": [1, 1, 1], "p": ["tea", "tea", "milk"]}
     )
     found = recommend(SHOP, shop, 1, basket=["store", "r"], item="p")
-    # Who has tea gets milk; who has both gets butter, of the rule of tea and milk.
+    # Who has tea gets milk; who has both gets bread, as 7 of 12 with milk have it.
     assert found[["basket", "item"]].to_numpy().tolist() == [
         [("a", 1), "milk"],
-        [("b", 1), "butter"],
+        [("b", 1), "bread"],
     ]
     with pytest.raises(DataError, match="'store' and 'r' and 'p' have missing values"):
         recommend(SHOP, shop.replace("a", None), basket=["store", "r"], item="p")
@@ -162,8 +164,85 @@ def test_rules_that_are_made_ready_once_make_the_same_offers(by: Any) -> None:
     pd.testing.assert_frame_equal(found, recommend(SHOP, [["tea"], ["jam"]], by=by))
     with pytest.raises(DataError, match="at least 1, not 0"):
         ready.recommend(receipts, 0, **names)
-    with pytest.raises(DataError, match="by is one of lift"):
-        Recommender(SHOP, "support")  # type: ignore[arg-type]
+    with pytest.raises(DataError, match="no column 'margin'"):
+        Recommender(SHOP, "margin")
+
+
+def test_rules_are_ranked_by_any_columns_or_as_they_stand() -> None:
+    # Who has bread may get five items by single rules of these.
+    single = SHOP[SHOP["antecedents"] == frozenset({"bread"})]
+    single = single[single["consequents"].map(len) == 1]
+    items = [min(right) for right in single["consequents"]]
+    mixed = single.iloc[::-1]
+    assert Recommender(mixed, None).offers(["bread"], 9) == items[::-1]
+    margins = mixed.assign(margin=range(len(mixed)), same=1)
+    for by in ("margin", ["margin"], ["same", "margin", "lift"]):
+        assert Recommender(margins, by).offers(["bread"], 9) == items
+    most = Recommender(margins, ["same", "count"]).offers(["bread"], 1)
+    assert most == ["milk"]
+
+
+def test_offers_keep_to_what_may_be_offered_and_are_filled_with_what_sells() -> None:
+    ready = Recommender(SHOP)
+    receipts = pd.read_csv(RECEIPTS)
+    sold = receipts.groupby("product")["receipt"].nunique()
+    popular = sorted(sold.index, key=lambda item: (-sold[item], item))
+    popular = [item for item in popular if sold[item] >= 2]
+    assert ready.offers([], 9) == []
+    assert ready.offers([], 9, fill="popular") == popular
+    assert ready.offers(["figs"], 2, fill="popular") == popular[:2]
+    own = ready.offers(["tea"], 9)
+    assert own[0] == "milk" and len(own) < len(popular) - 1
+    filled = ready.offers(["tea"], 9, fill="popular")
+    rest = [item for item in popular if item not in {"tea", *own}]
+    assert filled == own + rest
+    assert ready.offers(["tea"], 9, exclude=["milk"], fill="popular") == filled[1:]
+    assert ready.offers(["tea"], 9, only=rest, fill="popular") == rest
+    assert ready.offers(["jam"], 9, only={"milk", "figs"}) == ["milk"]
+    wide = pd.DataFrame({"tea": [0, 1], "figs": [0, 0]}, index=["x", "y"])
+    found = recommend(SHOP, wide, 1, fill="popular", exact=True)
+    assert found["basket"].tolist() == ["x", "y"]
+    first = [None, sold["milk"], Fraction(sold["milk"], 15), 1]
+    names = ["rule", "count", "exact_confidence", "exact_lift"]
+    assert found.loc[0, ["item", *names]].tolist() == ["milk", *first]
+
+
+@pytest.mark.parametrize("size", [3, 64, 65, 200])
+def test_rows_of_bits_say_the_rules_that_speak(size: int) -> None:
+    chance = random.Random(size)
+    sides = [
+        [
+            frozenset(chance.sample("abcdefgh", chance.randint(1, 3)))
+            for _ in range(size)
+        ]
+        for _ in range(2)
+    ]
+    bits = RuleBits(sides[0], sides[1])
+    for _ in range(50):
+        items = frozenset(chance.sample("abcdefghxy", chance.randint(0, 8)))
+        assert [*bits.speaking(items)] == [
+            rank
+            for rank, (left, right) in enumerate(zip(*sides))
+            if left <= items and right.isdisjoint(items)
+        ]
+
+
+def test_large_baskets_have_the_same_offers_by_either_way(
+    monkeypatch: pytest.MonkeyPatch,
+) -> None:
+    chance = random.Random(1)
+    shop = [chance.sample(range(12), chance.randint(4, 9)) for _ in range(60)]
+    found = rules(shop, 3, "1/4")
+    asked = []
+    for answer in (True, False):
+        with monkeypatch.context() as patch:
+            patch.setattr(_offers, "pays", lambda *_: answer)
+            asked.append(recommend(found, shop, 3))
+    pd.testing.assert_frame_equal(*asked)
+    # Small questions take lists, and those of many rules over few items bits.
+    assert pays(near=50_000, items=100, rules=130_000)
+    assert not pays(near=100, items=100, rules=130_000)
+    assert not pays(near=50_000, items=50_000, rules=130_000)
 
 
 def test_rules_of_mlxtends_calls_make_offers() -> None:
@@ -206,7 +285,14 @@ def test_items_of_another_type_than_the_rules_have_are_refused() -> None:
 @pytest.mark.parametrize(
     ("said", "call"),
     [
-        ("by is one of lift", lambda: recommend(SHOP, [["tea"]], by="support")),  # type: ignore[arg-type]
+        ("no column 'margin'", lambda: recommend(SHOP, [["tea"]], by="margin")),
+        ("no numbers", lambda: recommend(SHOP, [["tea"]], by="antecedents")),
+        ("'x' has missing values", lambda: recommend(HALF, [["tea"]], by="x")),
+        ("fill is 'popular'", lambda: recommend(SHOP, [["tea"]], fill="most")),  # type: ignore[arg-type]
+        ("only is an iterable of", lambda: recommend(SHOP, [["tea"]], only="tea")),
+        ("are iterables of items", lambda: recommend(SHOP, [["tea"]], exclude=5)),  # type: ignore[arg-type]
+        ("iterable of items, not 'tea'", lambda: Recommender(SHOP).offers("tea")),
+        ("at least 1, not 0", lambda: Recommender(SHOP).offers(["tea"], 0)),
         ("at least 1, not 0", lambda: recommend(SHOP, [["tea"]], 0)),
         ("iterable of items, not 'tea'", lambda: recommend(SHOP, ["tea"])),
         ("number of at least 1, not '3'", lambda: recommend(SHOP, [["tea"]], "3")),  # type: ignore[arg-type]

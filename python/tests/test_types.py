@@ -29,7 +29,7 @@ sets(pd.DataFrame(), 1, basket=["store", "receipt"], item="product")
 table = pd.DataFrame({"tea": [True]})
 association_rules(apriori(table, 0.5, timeout=9), timeout=0.5)
 Recommender(rules(shop, 1, 0.5), "count").recommend(shop, top=1)
-recommend(table, shop, by="weight")  # wrong
+recommend(table, shop, fill="all")  # wrong
 apriori(table, timeout="9")  # wrong
 apriori(table, 0.5, False, None, 0, False, 9)  # wrong
 sets(shop, 1, itm="product")  # wrong
