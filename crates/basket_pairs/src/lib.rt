@@ -2,8 +2,9 @@
 //! is done to the table is a `Recipe`, which the command's options name.
 //!
 //! ```
-//! match pairs_asked(rt.alloc(), words)? {
-//!     Pairs::Write(recipe, name) => write_pairs(rt.alloc(), &bytes, &recipe, rt.stdout()),
+//! match write_pairs(rt.alloc(), &bytes, recipe, rt.stdout()) {
+//!     Ok(()) => 0,
+//!     Err(PairsFault::Memory) => explain(rt, NO_MEMORY, 6),
 //! ```
 #![tactic(auto)]
 

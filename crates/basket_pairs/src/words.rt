@@ -30,11 +30,12 @@ Options:
       --encoding <E>      utf-8, utf-16le, utf-16be, windows-1252, cp850, macintosh [default: utf-8]
   -h, --help              Print help
 
-Blank lines, lines of dashes and repeated headers are no records. A cell that is blank, NULL, \\N, None or nan is no item; a
-mark is none if it says no or is not above 0. The whole file is kept in memory.
+Blank lines, lines of dashes and repeated headers are no records. A cell that is blank, NULL, \\N,
+None or nan is no item; a mark is none if it says no or is not above 0. The whole file is kept in
+memory.
 
 Example:
-  basket look FILE shows these options for a file
+  printf 'no,tea,jam\\n1,x,\\n2,x,x\\n' | basket pairs --header --basket 1 --marks 2-
 ";
 
 /// What is asked of `pairs`.
