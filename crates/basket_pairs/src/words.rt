@@ -19,15 +19,17 @@ Options:
       --basket <COLUMNS>  The columns that together are the basket's id: 1, or 2,1, or 2,1:day,
                           which leaves out the time behind a day. Without it, each record is one
       --fill              A blank id is that of the record above
-      --within <S>        What separates several names in a cell: comma, semicolon, pipe, slash, plus,
-                          line
+      --within <S>        What separates several names in a cell: comma, semicolon, pipe, slash,
+                          plus, line
       --counts            Leaves out how many there are of a name, as in 2x bread and bread (2)
       --header            The first record has the names of the columns
       --skip <N>          Leaves out so many records at the beginning
       --skip-last <N>     Leaves out so many records at the end
-      --sep <S>           What separates the fields: comma, semicolon, tab, pipe, space [default: comma]
+      --sep <S>           What separates the fields: comma, semicolon, tab, pipe, space; a comma if
+                          it isn't given
       --columns <PLACES>  In place of --sep: where each field begins in a line, as 1,9,24
-      --encoding <E>      utf-8, utf-16le, utf-16be, windows-1252, cp850, macintosh [default: utf-8]
+      --encoding <E>      utf-8, utf-16le, utf-16be, windows-1252, cp850, macintosh;
+                          UTF-8 if it isn't given
   -h, --help              Print help
 
 Blank lines, lines of dashes and repeated headers are no records. A cell that is blank, NULL, \\N,
