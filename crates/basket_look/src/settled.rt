@@ -43,7 +43,14 @@ fn is_mined_as_it_is(table: &Table<'_>, reading: &Reading, lines: &[&str]) -> bo
         && recipe.skip_last == 0
         && !lines.iter().any(|line| is_rule(*line));
     let has_nulls = table.columns.iter().any(|column| column.counts.nulls > 0);
+    let has_heads = table.header.is_some_and(|header| {
+        table
+            .body
+            .iter()
+            .any(|record| record.as_slice() == header.as_slice())
+    });
     is_plain
+        && !has_heads
         && match reading.form {
             Form::Baskets => !has_nulls && recipe.items.as_slice() == [Span::from(1)].as_slice(),
             Form::WeightedBaskets => true,
