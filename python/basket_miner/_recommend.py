@@ -11,7 +11,6 @@ from ._baskets import Array
 from ._columns import fractions_of, labels_column
 from ._data import Data
 from ._keywords import Key
-from ._lists import each
 from ._measures import measures
 from ._named_baskets import named_baskets
 from ._offers import Fill, Index, Wish, wish_of

@@ -1,6 +1,7 @@
 """Which rules say more than shorter ones."""
 
 import itertools
+import math
 from collections import defaultdict
 from collections.abc import Iterator
 from typing import Any
@@ -159,10 +160,10 @@ def _subsets(
     items: Itemset, known: dict[Itemset, Any], by_size: dict[int, list[Itemset]]
 ) -> Iterator[Itemset]:
     """The proper subsets of a set that are known, by whichever way is shorter."""
-    sizes = [size for size in by_size if 0 < size < len(items)]
-    for size in sizes:
-        others = by_size[size]
-        if len(others) < 2 ** len(items):
+    for size, others in by_size.items():
+        if size >= len(items):
+            continue
+        if len(others) < math.comb(len(items), size):
             yield from (other for other in others if other < items)
         else:
             made = map(frozenset, itertools.combinations(items, size))

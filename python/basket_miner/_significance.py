@@ -57,9 +57,9 @@ def is_significant(
             pi <= alpha / m; "holm" those before the first with pi > alpha / (m - i + 1); "bh" those up to
             the last with pi <= alpha * i / m. None takes those with pi <= alpha, and corrects nothing.
         items: how many items could be in a rule, as `len(items(data, minimum))`. Without it all items of
-            the baskets count, which the frame has as `attrs["items"]`. Where it has not, since the baskets
-            were given by a path or the rules were read from a file, only those of the rules count: then
-            give the number.
+            the baskets count, which the frame has as `attrs["items"]`. Where it has not, as that of baskets
+            by a path, of mlxtend's calls, of a cluster, or what was read from a file, only the items of
+            the rules count, which are too few: then give the number.
         hypotheses: m itself, in place of what follows.
 
     m is the number of rules that could have been listed: those whose sides have together up to as many of

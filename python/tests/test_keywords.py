@@ -104,7 +104,7 @@ def test_the_parts_of_the_package_are_found_as_before() -> None:
 def test_modules_that_need_more_packages_are_there_once_they_are_asked_for() -> None:
     code = """
 import sys, basket_miner
-assert not {"dask", "matplotlib"} & {*sys.modules}
+assert not {"dask", "matplotlib", "scipy"} & {*sys.modules}
 for name in ("cluster", "frequent_patterns", "plot", "preprocessing"):
     assert getattr(basket_miner, name).__name__ == f"basket_miner.{name}"
 try:

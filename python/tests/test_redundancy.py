@@ -34,6 +34,10 @@ def shorter(left: frozenset[str]) -> list[frozenset[str]]:
     ]
 
 
+def listed_pairs(frame: pd.DataFrame) -> list[tuple[frozenset[str], frozenset[str]]]:
+    return [*zip(frame["antecedents"], frame["consequents"])]
+
+
 @pytest.mark.parametrize("least", [0, Fraction(1, 3), Fraction(3, 5)])
 def test_a_rule_is_redundant_if_a_shorter_one_has_its_confidence(
     least: Fraction,
@@ -43,14 +47,19 @@ def test_a_rule_is_redundant_if_a_shorter_one_has_its_confidence(
     for _ in range(12):
         shop = shop_of(draw)
         known = brute.rules(shop, 2, Fraction(least))
-        frame = rules(shop, 2, least).sample(frac=1, random_state=1)
-        mask = is_redundant(frame)
-        assert mask.index.equals(frame.index)
-        for label, left, right in frame[["antecedents", "consequents"]].itertuples():
-            others = [known.get((part, right)) for part in shorter(left)]
-            own = known[left, right][1]
-            assert mask[label] == any(other[1] >= own for other in others if other)
-            found[int(mask[label])] += 1
+        # Of a part of the rules few are shorter than a long one.
+        for share in (1, 0.1):
+            frame = rules(shop, 2, least).sample(frac=share, random_state=1)
+            listed = {*listed_pairs(frame)}
+            mask = is_redundant(frame)
+            assert mask.index.equals(frame.index)
+            for label, (left, right) in zip(frame.index, listed_pairs(frame)):
+                others = [(part, right) for part in shorter(left)]
+                own = known[left, right][1]
+                assert mask[label] == any(
+                    known[other][1] >= own for other in others if other in listed
+                )
+                found[int(mask[label])] += 1
     assert min(found) > 50
 
 
