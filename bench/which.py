@@ -69,18 +69,18 @@ def rule(asked: list[Question]) -> dict[str, str]:
         for it in asked
         if it.baskets >= VERY_MANY and it.miners["eclat-bits"].seconds >= 1
     ]
-    default, bits = "the default", "for some questions of many frequent sets"
+    default, bits = "the default", "for some questions of more frequent sets"
     if all(it.times("apriori", it.quickest()) <= 2 for it in few):
-        default += ": for few frequent sets"
+        default += f": for up to some {FEW:,} frequent sets"
     if all(it.is_smallest("apriori") for it in few):
-        default += ", and with the least memory"
+        default += ", and then with the least memory"
     near = sum(it.times("eclat-bits", it.quickest()) <= 1.25 for it in many)
     if 2 * near > len(many):
-        bits = "for many frequent sets"
+        bits = "for more frequent sets"
     return {
         "apriori": default,
         "eclat-bits": bits,
-        "fpgrowth": "if eclat-bits takes a second or more: "
+        "fpgrowth": "worth one try if eclat-bits takes over a second; "
         f"{often('fpgrowth', long)} faster over very many baskets",
         "eclat-diff": f"as eclat-bits, by difference lists; {often('eclat-diff', asked)} faster",
         "eclat": f"as eclat-bits, by lists of basket numbers; {often('eclat', asked)} faster",

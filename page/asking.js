@@ -1,8 +1,8 @@
-
 // A question: its words from the form, the answer to it, and what is said of it.
 const MOST_SETS = 200_000; // Frequent itemsets beyond which a question is refused.
+const MOST_RULES = 2_000_000; // Rules that itemsets may have beyond which these are refused.
 const SLOW = 400; // Milliseconds after which the page says that it is at work.
-let report = null;
+let report = null; // What is listed: the bytes of the report, its question, and the file that this was asked of.
 
 // Says what a turn has come to.
 function say(text, isFault = false) {
@@ -14,7 +14,6 @@ function say(text, isFault = false) {
 function tell(text, isFault = false) {
   element("answered").textContent = text;
   element("answered").classList.toggle("fault", isFault);
-  element("answer").hidden = !text;
 }
 
 // Says what a turn is at, if it still is after a while.
@@ -27,43 +26,76 @@ function saySoon(own, text) {
 }
 
 function sayFault(text) {
-  report = null;
-  element("save-report").disabled = true;
-  document.body.classList.add("empty");
+  clear();
   say(text, true);
 }
 
+// There is no list.
+function clear() {
+  report = null;
+  element("save-report").disabled = true;
+  document.body.classList.add("empty");
+}
+
+// Begins a turn, which ends what an older one is at.
 function begin() {
   document.querySelector("main").setAttribute("aria-busy", "true");
   element("end").hidden = true;
+  endPreparing();
   return ++turn;
 }
 
-function words() {
+// Has a new turn do something. What it is at is said after a while, and whatever fails is said.
+async function during(doing, action) {
+  const own = begin();
+  saySoon(own, `${doing}.`);
+  try {
+    await action(own);
+  } catch (error) {
+    if (own === turn) sayFault(`${doing} failed: ${error.message}`);
+  }
+}
+
+// The question that the form has now.
+function questionOf() {
   const what = element("ask").value;
-  if (what === "count") return [what, "--sets", "sets", ...formWords()];
-  const some = [what, "--min", `${leastCount()}`];
-  if (what === "rules") some.push("--conf", `${element("confidence-least").value}%`);
-  some.push(...formWords());
-  return what === "items" ? some : [...some, "--miner", minerFor(total), "--limit", `${MOST_SETS}`];
+  const question = { what, least: leastCount(), confidence: element("confidence-least").value, given: element("given").value };
+  const words = what === "count" ? [what, "--sets", "sets"] : [what, "--min", `${question.least}`];
+  if (what === "rules") words.push("--conf", `${question.confidence}%`);
+  return { ...question, words };
+}
+
+function fillQuestion({ what, least, confidence, given }) {
+  element("ask").value = what;
+  element("confidence-least").value = confidence;
+  element("given").value = given;
+  setLeast(least);
+  tellQuestion();
+}
+
+// How itemsets are mined, which their report does not tell.
+function minedBy({ total }, limit = MOST_SETS) {
+  return ["--miner", minerFor(total), "--limit", `${limit}`];
 }
 
 // The command that writes the same report.
-function commandOf(question) {
+function commandOf({ what, words }) {
   const shell = (word) => (/^[\w./%=+:,@-]+$/.test(word) ? word : `'${word.replaceAll("'", "'\\''")}'`);
   const { pipe } = file;
   const name = shell(file.name.replace(/^-/, "./-"));
   const programs = pipe.map((program, place) => (place ? program : `${program} < ${name}`));
-  return [...programs, `basket ${question.map(shell).join(" ")}${pipe.length ? "" : ` ${name}`}`].join(" | ");
+  const asked = [...words, ...file.words, ...(["items", "count"].includes(what) ? [] : minedBy(file))].map(shell).join(" ");
+  return [...programs, `basket ${asked}${pipe.length ? "" : ` ${name}`}`].join(" | ");
 }
 
 // The sets that are typed in, with commas between the names, as the program reads sets: in CSV after a count.
-function givenSets() {
-  const lines = element("given").value.split("\n").filter((line) => line.trim());
-  const letter = LETTERS[element("sep").value];
+function givenSets({ given }) {
+  const lines = given.split("\n").filter((line) => line.trim());
+  const letter = file.separator;
   const written = (name) => (/["\r\n]/.test(name) || name.includes(letter) ? `"${name.replaceAll('"', '""')}"` : name);
   const names = lines.map((line) => wanted(line).found.map(({ name }) => name));
-  const text = isCsv() ? names.map((some) => ["0", ...some.map(written)].join(letter)) : lines.map((line) => line.replaceAll(",", " "));
+  const isOfNumbers = letter === OF_NUMBERS;
+  const text = isOfNumbers ? lines.map((line) => line.replaceAll(",", " ")) : names.map((some) => ["0", ...some.map(written)].join(letter));
   return new TextEncoder().encode(text.map((line) => `${line}\n`).join(""));
 }
 
@@ -74,22 +106,68 @@ function offerSets() {
   element("given").value = lines.join("\n");
 }
 
-async function mine(own = begin()) {
-  document.querySelector("main").setAttribute("aria-busy", "true");
+function listingOf({ separator }, isOfRules = false, most = MOST_LISTED) {
+  return { separator, isOfRules, most };
+}
+
+// The itemsets of a file at a minimum. They are kept as counted sets, of which those at a higher minimum are asked.
+async function setsAt(own, file, least, limit) {
+  const from = file.mined?.least <= least ? file.mined : file;
+  const words = ["sets", "--min", `${least}`, ...from.words, ...minedBy(file, limit), "-"];
+  const answer = await ask(own, words, from.bytes, { listing: listingOf(file) });
+  if (answer?.status === 0 && from === file) file.mined = { least, ...countedSets(file, answer.report), rules: answer.rules };
+  return answer;
+}
+
+// The report of itemsets as an input: the baskets first, as the count of the empty set.
+function countedSets({ total, separator, letter }, report) {
+  const isOfNumbers = separator === OF_NUMBERS;
+  const first = new TextEncoder().encode(isOfNumbers ? `(${total})\n` : `${total}\n`);
+  const bytes = new Uint8Array(first.length + report.length);
+  bytes.set(first);
+  bytes.set(report, first.length);
+  return { bytes, words: isOfNumbers ? ["--form", "counts"] : ["--form", "csv-counts", "--sep", letter] };
+}
+
+// The answer to a question: of the file, or of its itemsets, from which closed and maximal ones and rules follow.
+async function answerTo(own, question) {
+  const { what, least, words } = question;
+  const listing = listingOf(file, what === "rules");
+  if (["items", "count"].includes(what)) {
+    const sets = what === "count" ? givenSets(question) : null;
+    return ask(own, [...words, ...file.words, "-"], file.bytes, { sets, listing });
+  }
+  const isMined = file.mined?.least <= least;
+  let sets = { milliseconds: 0, memory: 0 };
+  if (what === "sets" || !isMined || (what === "rules" && file.mined.rules > MOST_RULES)) {
+    sets = await setsAt(own, file, least, MOST_SETS);
+    if (what === "sets" || sets?.status !== 0) return sets;
+    if (what === "rules" && sets.rules > MOST_RULES) return { status: ENDED, explanation: tooManyRules(sets.rules) };
+  }
+  const answer = await ask(own, [...words, ...file.mined.words, ...minedBy(file), "-"], file.mined.bytes, { listing });
+  return answer && { ...answer, milliseconds: sets.milliseconds + answer.milliseconds, memory: Math.max(sets.memory, answer.memory) };
+}
+
+function tooManyRules(rules) {
+  return `These itemsets may have ${whole(rules)} rules, and this page asks for at most ${whole(MOST_RULES)}. ` +
+    "Raise the minimum, or list closed or maximal itemsets.";
+}
+
+// Has the question of the form answered, and lists what is answered.
+async function mine(own) {
   tellQuestion();
-  const question = words();
-  const isOfRules = question[0] === "rules";
+  const question = questionOf();
   saySoon(own, "Mining.");
-  const answer = await ask(own, [...question, "-"], file.bytes, question[0] === "count" ? givenSets() : null);
+  const answer = await answerTo(own, question);
   if (!answer) return;
   if (answer.status !== 0) return sayFault(answer.explanation);
-  const read = await readReport(own, answer.report, isCsv() ? LETTERS[element("sep").value] : "", isOfRules, total);
+  const read = await readReport(own, answer.listed, file.separator, question.what === "rules", file.total);
   if (!read) return;
-  report = answer.report;
+  report = { bytes: answer.report, question, file };
   element("save-report").disabled = false;
   element("command").textContent = commandOf(question);
-  await show(read);
-  if (own === turn) tellAnswer(answer, read);
+  await show({ ...read, found: answer.lines > MOST_LISTED ? answer.lines : read.both.length });
+  if (own === turn) tellAnswer(answer);
 }
 
 async function show(read) {
@@ -104,21 +182,19 @@ async function show(read) {
   update();
 }
 
-function tellAnswer(answer, read) {
-  const lines = report.reduce((sum, byte) => sum + (byte === 10), 0);
-  const isCut = read.both.length === MOST_LISTED && lines > MOST_LISTED;
-  const found = isCut ? `${whole(lines)} lines, of which the first ${whole(MOST_LISTED)} are listed` : listed(read.both.length);
-  const cost = `${whole(Math.round(answer.milliseconds))} ms, ${whole(Math.ceil(answer.memory / 2 ** 20))} MB`;
-  const hint = answer.explanation.trim();
+function tellAnswer({ milliseconds, memory, explanation }) {
+  const found = data.found > size ? `${listed(data.found)}, of which ${strongest()} are listed,` : listed(size);
+  const cost = `${whole(Math.round(milliseconds))} ms, ${whole(Math.ceil(memory / 2 ** 20))} MB`;
+  const hint = explanation.trim();
   element("source").textContent = sourceOf(found);
-  say(`${found} in ${many(total, "basket")} (${cost}).${hint ? `\n${hint}` : ""}`);
+  say(`${found} in ${many(report.file.total, "basket")} (${cost}).${hint ? `\n${hint}` : ""}`);
 }
 
 // What is read on paper above what is listed.
 function sourceOf(found) {
-  const what = element("ask").value;
-  const least = what === "count" ? "" : `, in at least ${many(leastCount(), "basket")} of ${whole(total)}`;
-  return `${file.name}: ${found}${least}${what === "rules" ? `, confidence at least ${element("confidence-least").value}%` : ""}`;
+  const { question: { what, least, confidence }, file: { name, total } } = report;
+  const minimum = what === "count" ? "" : `, in at least ${many(least, "basket")} of ${whole(total)}`;
+  return `${name}: ${found}${minimum}${what === "rules" ? `, confidence at least ${confidence}%` : ""}`;
 }
 
 function tellQuestion() {
@@ -129,3 +205,4 @@ function tellQuestion() {
   element("sure-of").textContent = `${element("confidence-least").value}%`;
   tellLeast();
 }
+

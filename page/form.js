@@ -3,6 +3,8 @@
 const LOOKED_AT = (1 << 20) + 1; // One byte more than it reads tells it that there are more.
 const FORMS = { single: "an item on each line", baskets: "a basket on each line", fimi: "numbers, a basket on each line", counts: "sets with counts", "csv-counts": "sets with counts" };
 const LETTERS = { comma: ",", semicolon: ";", tab: "\t", pipe: "|" };
+const QUOTE = 34;
+const OF_NUMBERS = " "; // What separates numbers, and no names.
 const MOST_LAYERS = 20; // A file that is packed again and again is unpacked so often.
 
 // The programs before `basket` in a command, as steps that the page does.
@@ -65,28 +67,35 @@ function offerColumns(text, steps) {
 }
 
 // The steps for the columns that are chosen, and the programs of a shell that do the same.
-function chosenSteps({ steps, pipe, sep, width }, hasQuotes) {
+function chosenSteps({ steps, pipe, sep, width }, bytes) {
   const columns = ["basket-column", "item-column"].map((id) => Number(element(id).value));
   const place = steps.findIndex(({ name }) => name === "pick");
   const others = (list) => (place < 0 ? list : list.filter((_, at) => at !== place));
   if (element("form").value !== "single" || width < 2 || (columns[0] === 0 && columns[1] === 1)) return { steps: others(steps), pipe: others(pipe) };
   const letter = sep === "tab" ? "\\t" : LETTERS[sep];
   const [one, other] = columns;
-  const program = hasQuotes
+  const program = bytes.includes(QUOTE)
     ? `python3 -c 'import csv, sys; csv.writer(sys.stdout, delimiter="${letter}").writerows([r[${one}], r[${other}]] for r in csv.reader(sys.stdin, delimiter="${letter}"))'`
     : `awk -F'${letter}' -v OFS='${letter}' '{ print $${one + 1}, $${other + 1} }'`;
   return { steps: [...others(steps), picked(letter, one, other)], pipe: [...others(pipe), program] };
 }
 
-// Has the steps done, out of the page's way.
+// Has the steps done, out of the page's way, by one worker that ends with its turn.
+let preparing = null;
+
 function prepared(bytes, steps) {
   if (!steps.length) return bytes;
   const helper = workerOf("preparing");
+  preparing = helper;
   return new Promise((resolve, reject) => {
-    helper.onmessage = ({ data: made }) => resolve(made);
-    helper.onerror = (event) => reject(new Error(event.message));
+    helper.onmessage = ({ data: { made, fault } }) => (fault ? reject(new Error(fault)) : resolve(made));
+    helper.onerror = helper.onmessageerror = (event) => reject(new Error(event.message || "its worker did not start"));
     helper.postMessage({ bytes, steps });
   }).finally(() => helper.terminate());
+}
+
+function endPreparing() {
+  preparing?.terminate();
 }
 
 function fillForm({ form, sep, header, weight }) {
@@ -112,6 +121,10 @@ function tellForm() {
   if (isHeaded) said.push(element("header").checked ? "with a header" : "without a header");
   if (form === "baskets" && element("weight").checked) said.push("its weight first");
   element("recognised").textContent = said.join(", ");
+}
+
+function separatorOf() {
+  return isCsv() ? LETTERS[element("sep").value] : OF_NUMBERS;
 }
 
 // The words of a command line that say the form.

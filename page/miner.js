@@ -7,6 +7,7 @@ const ENDED = 134; // The status of a program that the page had to end.
 const nothing = new Uint8Array(0);
 let program = null; // The compiled module, once it is unpacked.
 let worker = null;
+let hasFailed = false; // Whether the worker did: then another is tried.
 let running = null; // The question that the worker is at.
 let turn = 0;
 let asked = 0;
@@ -38,6 +39,7 @@ function workerOf(id) {
 
 function startWorker() {
   worker = workerOf("worker");
+  hasFailed = false;
   const own = worker;
   const settle = (answer) => {
     if (worker !== own || !running) return;
@@ -45,11 +47,15 @@ function startWorker() {
     running = null;
     resolve(answer);
   };
+  const fail = (why) => {
+    hasFailed ||= worker === own;
+    settle({ status: ENDED, report: nothing, explanation: `The miner failed: ${why}` });
+  };
   worker.onmessage = ({ data: answer }) => {
-    if (answer.ready === false) settle({ status: ENDED, report: nothing, explanation: answer.why });
+    if (answer.ready === false) fail(answer.why);
     else if (answer.id === running?.id) settle(answer);
   };
-  worker.onerror = (event) => settle({ status: ENDED, report: nothing, explanation: event.message || "the miner did not start" });
+  worker.onerror = worker.onmessageerror = (event) => fail(event.message || "it did not start");
   worker.postMessage({ module: program });
 }
 
@@ -68,8 +74,9 @@ function endQuestion() {
   resolve(null);
 }
 
-// The answer to a question of a turn, or null if a newer turn came or the question was ended.
-async function ask(own, words, bytes, sets = null) {
+// The answer to a question of a turn, or null if a newer turn came or the question was ended. It may have itemsets
+// that are counted, and say what is listed of the report.
+async function ask(own, words, bytes, { sets = null, listing = null } = {}) {
   await ready;
   if (own !== turn) return null;
   if (running) {
@@ -79,12 +86,13 @@ async function ask(own, words, bytes, sets = null) {
     if (own !== turn) return null;
     if (running === held) endQuestion();
   }
+  if (hasFailed) startWorker();
   const id = ++asked;
   let resolve;
   const done = new Promise((settle) => (resolve = settle));
   running = { id, resolve, done, begun: performance.now() };
   try {
-    worker.postMessage({ id, words, input: bytes, sets });
+    worker.postMessage({ id, words, input: bytes, sets, listing });
   } catch (error) {
     // There is no memory for another copy of the file.
     running = null;

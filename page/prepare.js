@@ -63,10 +63,24 @@ function* records(text, separator) {
   }
 }
 
+// The bytes as a text. A browser may give an empty one for bytes that are too many.
+function decoded(bytes, encoding) {
+  try {
+    const text = new TextDecoder(encoding, { fatal: true }).decode(bytes);
+    if (text || bytes.length < 4) return { text };
+  } catch (error) {
+    if (error instanceof TypeError) return { fault: `it has bytes that are no text in ${encoding.toUpperCase()}` };
+  }
+  return { fault: "it is too long to be brought into another form here" };
+}
+
 onmessage = ({ data: { bytes, steps } }) => {
-  const encoding = steps.find((step) => step.name === "decode")?.encoding ?? "utf-8";
-  let text = new TextDecoder(encoding).decode(bytes);
+  let { text, fault } = decoded(bytes, steps.find((step) => step.name === "decode")?.encoding ?? "utf-8");
+  if (fault) {
+    postMessage({ fault });
+    return;
+  }
   for (const step of steps) text = STEPS[step.name](text, step);
   const made = new TextEncoder().encode(text);
-  postMessage(made, [made.buffer]);
+  postMessage({ made }, [made.buffer]);
 };

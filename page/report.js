@@ -1,11 +1,12 @@
 
-// From a report to what is listed. It is read in steps, between which the page does what it is asked for.
-const MOST_LISTED = 100_000; // Lines of a report that are listed; the report that is saved has all.
+// From the records of a report that are listed to the listing. They are read in steps, between which the page does
+// what it is asked for.
+const MOST_LISTED = 100_000; // Records of a report that are listed; the report that is saved has all.
 const NUMBERS = /^(.*?)(?: => (.*))? \((\d+)\)(?: (\S+) (\S+))?$/;
 
 // The lines of a report as lists of texts: the count, the names, and of rules how many are on the left, and two fractions.
 function* linesOf(text, separator) {
-  if (separator) {
+  if (separator !== OF_NUMBERS) {
     yield* fieldsOf(text, separator);
     return;
   }
@@ -46,7 +47,7 @@ class Sides {
   }
 
   placeOf(names) {
-    const key = names.join("\0");
+    const key = JSON.stringify(names);
     let place = this.places.get(key);
     if (place === undefined) {
       place = this.names.push(names) - 1;
@@ -68,14 +69,13 @@ class Sides {
   }
 }
 
-// What a report lists, or null if a newer turn came. Counts behind the fractions are whole, so rounding finds them.
+// What is listed, or null if a newer turn came. Counts behind the fractions are whole, so rounding finds them.
 async function readReport(own, bytes, separator, isOfRules, total) {
   const sides = new Sides();
   const read = { left: [], right: [], both: [], withLeft: [], withRight: [], total };
-  let lines = 0;
+  let records = 0;
   for (const [count, ...rest] of linesOf(new TextDecoder().decode(bytes), separator)) {
-    if (read.both.length === MOST_LISTED) break;
-    if (++lines % STEP === 0) await new Promise((done) => setTimeout(done));
+    if (++records % STEP === 0) await new Promise((done) => setTimeout(done));
     if (own !== turn) return null;
     if (isOfRules) {
       const [confidence, lift, length, ...names] = rest;
@@ -88,6 +88,7 @@ async function readReport(own, bytes, separator, isOfRules, total) {
     }
   }
   await new Promise((done) => setTimeout(done));
+  if (own !== turn) return null;
   const { sides: inOrder, places } = sides.inOrder();
   const placed = (side) => Uint32Array.from(side, (place) => places[place]);
   const { both, withLeft, withRight } = read;

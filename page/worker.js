@@ -92,7 +92,7 @@ function statusOf(run) {
   }
 }
 
-function answerTo({ id, words, input, sets }) {
+function answerTo({ id, words, input, sets, listing }) {
   const streams = [[], []];
   const given = ["basket", ...words].map((word) => utf8.encode(word));
   const files = new Files(input instanceof Uint8Array ? input : new Uint8Array(input), sets);
@@ -105,13 +105,14 @@ function answerTo({ id, words, input, sets }) {
     return exports.run();
   });
   const milliseconds = performance.now() - begun;
-  let [report, said] = [new Uint8Array(0), new Uint8Array(0)];
+  let [report, said, records] = [new Uint8Array(0), new Uint8Array(0), {}];
   const { status, cut } = statusOf(() => {
     if (!run.cut) [report, said] = streams.map(joined);
+    if (listing) records = listedOf(report, listing);
     return run.status;
   });
   const explanation = run.cut ?? cut ?? new TextDecoder().decode(said);
-  return { id, status, report, explanation, milliseconds, memory: memory ? memory.buffer.byteLength : 0 };
+  return { id, status, report, ...records, explanation, milliseconds, memory: memory ? memory.buffer.byteLength : 0 };
 }
 
 // Whether the module can be run here: a browser may lack memory of 64 bits.
@@ -131,5 +132,5 @@ onmessage = ({ data }) => {
     return;
   }
   const answer = answerTo(data);
-  postMessage(answer, [answer.report.buffer]);
+  postMessage(answer, [...new Set([answer.report, answer.listed ?? answer.report].map(({ buffer }) => buffer))]);
 };

@@ -1,4 +1,5 @@
-"""What pyproject.toml can't say: a wheel with the program is for one platform, and a build leaves nothing in this folder."""
+"""What pyproject.toml can't say: a wheel with the program is for one platform and brings a command, and a build leaves
+nothing in this folder."""
 
 import tempfile
 from pathlib import Path
@@ -31,5 +32,7 @@ with tempfile.TemporaryDirectory(prefix="basket-build-") as folder:
     setup(
         distclass=Package,
         cmdclass={"bdist_wheel": Wheel},
+        # Without the program such a command would hide another that is on the path.
+        scripts=["command/basket"] if PROGRAM.is_file() else [],
         options={"build": {"build_base": folder}, "egg_info": {"egg_base": folder}},
     )

@@ -6,7 +6,8 @@ usage: tools/edits.py          all: `rt ci` over the repository as it stands, wh
 
 An edit of a crate's source has to be refused by the checker, which shows that a contract says what it should.
 That is tried where an edit or its crate is changed and before a release, and not in each run of the gate. The
-file refused.txt beside the crates says of each edit over which text of its crate it was last refused.
+file refused.txt beside the crates says of each edit over which text of its crate, comments aside, it was last refused.
+An edit of a crate of the statement that was refused over another text fails the gate.
 """
 
 import hashlib
@@ -20,10 +21,28 @@ import kit
 from crates import listed
 
 RECORD = Path("crates/refused.txt")
+# The crates that carry the statement of a whole run.
+STATED = (
+    "basket",
+    "basket_cli",
+    "basket_main",
+    "basket_mining",
+    "basket_outcome",
+    "basket_stream",
+)
+# How a line of comment begins.
+COMMENTS = {".rt": b"//", ".antt": b"--"}
 # A refusal only by a name that the edit took away, or only by a limit of the prover, shows nothing of a contract.
 TRIED = re.compile(
     r"rt: must-fail (\w+)/(\S+\.edit): (refused, as it must be(?! \(only ))?"
 )
+
+
+def without_comments(path: Path) -> bytes:
+    """The lines of a file that are no comment."""
+    mark = COMMENTS.get(path.suffix, b"\0")
+    lines = path.read_bytes().splitlines(keepends=True)
+    return b"".join(line for line in lines if not line.lstrip().startswith(mark))
 
 
 class Edit(NamedTuple):
@@ -56,7 +75,7 @@ class Edit(NamedTuple):
         return None if old is not None else "it changes nothing"
 
     def sums(self) -> tuple[str, str]:
-        """The sums of the crate's text and of the edit's."""
+        """The sums of the crate's text without comments and of the edit's."""
         top = Path("crates", self.crate)
         files = [
             path
@@ -66,7 +85,7 @@ class Edit(NamedTuple):
         ]
         whole = hashlib.sha256()
         for path in files:
-            whole.update(f"{path}\n".encode() + path.read_bytes())
+            whole.update(f"{path}\n".encode() + without_comments(path))
         edit = hashlib.sha256(self.path.read_bytes())
         return whole.hexdigest()[:16], edit.hexdigest()[:16]
 
@@ -101,7 +120,9 @@ def commits_since(line: str) -> str:
 
 
 def looked_at() -> tuple[int, int]:
-    """Says which edits can't be applied, and which were last refused over another text. Counts those that can and can't be."""
+    """Says which edits can't be applied, and which were last refused over another text. Counts the good and the bad ones:
+    bad are those that can't be applied, and of the crates of the statement those that were refused over another text.
+    """
     known, bad, older = recorded(), 0, []
     for edit in edits():
         if fault := edit.fault():
@@ -109,6 +130,7 @@ def looked_at() -> tuple[int, int]:
             bad += 1
         elif known.get(edit.name) != edit.sums():
             older.append(edit.name)
+            bad += edit.crate in STATED
     for name in older:
         if sums := known.get(name):
             when = commits_since(" ".join([name, *sums]))

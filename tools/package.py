@@ -144,7 +144,7 @@ def write_debian(tree: Path, version: str) -> None:
     terms.write_text(copyright_of(version), encoding="utf-8")
     (tree / "DEBIAN/control").write_text(
         f"""Package: basket
-Version: {version}
+Version: {version.replace('-', '~')}
 Architecture: amd64
 Maintainer: the basket authors <basket@localhost>
 Depends: libc6 (>= {least_libc()})

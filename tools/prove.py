@@ -33,6 +33,10 @@ FAILED = re.compile(r"rt: (.+) NOT PROVED")
 WELL = re.compile(r"\w+ \S+: (proved$|modules loaded)|by-macro: ")
 # The C functions of a library, and atomic words, on whose contracts a proof rests.
 AXIOMS = re.compile(r"axioms (\w+): .*\((\d+) of the \d+ declared\)$")
+# The verdict on a crate, whose words say on what else it rests.
+VERDICT = re.compile(r"logic=proved( \S+)+$")
+# Words of it that differ from one text of the crate to the next.
+COUNTS = ("functions", "tests", "axioms")
 # Its last line.
 COUNTED = re.compile(r"(\d+) passed, (\d+) failed\n")
 
@@ -87,6 +91,8 @@ class Report:
         self.kept: list[str] = []
         # For each crate how many axioms of each library it rests on.
         self.axioms: dict[str, dict[str, int]] = {}
+        # The words of its verdict, without its counts.
+        self.verdicts: dict[str, list[str]] = {}
         self.passed, self.failed = 0, 1
         self._of_crate: list[str] | None = None
 
@@ -108,23 +114,38 @@ class Report:
             if counted := COUNTED.fullmatch(line):
                 self.passed, self.failed = int(counted[1]), int(counted[2])
         elif found := AXIOMS.match(line):
-            crate = self._of_crate[0].removeprefix("== ").strip()
-            self.axioms.setdefault(crate, {})[found[1]] = int(found[2])
+            self.axioms.setdefault(self._crate(), {})[found[1]] = int(found[2])
+        elif VERDICT.match(line):
+            words = line.split()[1:]
+            self.verdicts[self._crate()] = [
+                word for word in words if word.partition("=")[0] not in COUNTS
+            ]
         elif not WELL.match(line):
             self._of_crate.append(line)
         return None
+
+    def _crate(self) -> str:
+        """The crate that the checker speaks of."""
+        return (self._of_crate or [""])[0].removeprefix("== ").strip()
 
     def text(self) -> str:
         """What the checker said of what failed, and its last lines."""
         return "".join([*self.faults, *(self._of_crate or []), *self.loose])
 
-    def untold(self, crate: str, page: str) -> str:
-        """What a page, which has numbers as "31 functions of `libc`", should say of a crate's axioms and doesn't."""
-        told = re.findall(r"(\d+) (?:functions )?of `(\w+)`", page)
+    def unlisted(self, crate: str, told: str) -> str:
+        """What a text, which has numbers as "31 functions of `libc`", should say of a crate's axioms and doesn't."""
+        numbers = re.findall(r"(\d+) (?:functions )?of `(\w+)`", told)
         found = self.axioms.get(crate, {}).items()
         right = [(str(number), library) for library, number in found]
-        lost = [f"{number} of {library}" for number, library in {*right} - {*told}]
-        return f"{crate} rests on {', '.join(sorted(lost))}" if lost else ""
+        lost = [f"{number} of {library}" for number, library in {*right} - {*numbers}]
+        return ", ".join(sorted(lost))
+
+    def untold(self, crate: str, page: str) -> str:
+        """What a page should say of a crate's axioms, or of the words of its verdict, and doesn't."""
+        words = {*re.findall(r"[\w-]+=[^\s`]+", page)}
+        lost = sorted({*self.verdicts.get(crate, [])} - words)
+        missing = ", ".join(filter(None, [self.unlisted(crate, page), *lost]))
+        return f"{crate} rests on {missing}" if missing else ""
 
     def share(self) -> str:
         whole = len(self.proved) + len(self.kept)

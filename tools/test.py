@@ -9,7 +9,8 @@ usage: tools/test.py            at the top of the repository
 
 Proofs, with the tests of the crates, are of all crates but the bench. The must-fail edits are not tried here
 (tools/edits.py tries them): it is seen that each can be applied, and told which were last refused over
-another text. The variable BASKET names another program for the last three, and PAGE another page.
+another text, which fails the gate in the crates of the statement. The variable BASKET names another program for the
+last three, and PAGE another page.
 """
 
 import os
@@ -23,6 +24,7 @@ from pathlib import Path
 from typing import NamedTuple
 from xml.etree import ElementTree
 
+import axioms
 import edits
 import kit
 import page
@@ -35,7 +37,7 @@ BESIDE = ("basket_bench",)
 PYTHON = "/usr/bin/python3"
 FOLDERS = ("python", "tools", "bench", "page")
 STRICT = ("--strict", "--config-file=python/pyproject.toml")
-# The page that says on how many statements about C the program's proof rests.
+# The page that says on how many statements about C the program's proof rests, and has the words of its verdict.
 AXIOMS = Path("docs/THEOREM.md")
 CHECKS = (("black", "--check", *FOLDERS), ("mypy", *STRICT, *FOLDERS))
 
@@ -65,7 +67,10 @@ def proved(program: Path) -> Sum:
         tests = [it.result() for it in over]
     said, failed = report.share(), report.failed
     if lost := report.untold(kit.PROGRAM, AXIOMS.read_text(encoding="utf-8")):
-        said, failed = f"{said}; {AXIOMS} has other numbers: {lost}", failed + 1
+        said, failed = f"{said}; {AXIOMS} says something else: {lost}", failed + 1
+    written = axioms.counted()
+    if written and (lost := report.unlisted(kit.PROGRAM, written)):
+        said, failed = f"{said}; {axioms.RECORD} has other names: {lost}", failed + 1
     return added([Sum(report.passed, failed, said), *tests])
 
 

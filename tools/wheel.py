@@ -67,6 +67,7 @@ def copy_package(folder: Path) -> None:
         shutil.copy(PACKAGE / name, folder)
     for name in LICENCES:
         shutil.copy(name, folder)
+    shutil.copytree(PACKAGE / "command", folder / "command")
     shutil.copytree(
         PACKAGE / "basket_miner",
         folder / "basket_miner",
@@ -76,7 +77,7 @@ def copy_package(folder: Path) -> None:
     place.parent.mkdir()
     shutil.copyfile(PROGRAM, place)
     place.chmod(0o755)
-    shutil.copyfile(PAGE, folder / "basket_miner/page/basket.html")
+    shutil.copyfile(PAGE, folder / "basket_miner/_page_files/basket.html")
 
 
 def build(source: Path, folder: Path) -> Path:

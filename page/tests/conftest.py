@@ -1,3 +1,4 @@
+# mypy: allow-untyped-calls
 """A browser, and the page with the program in it: PAGE names another than the one that is built."""
 
 import os
@@ -7,9 +8,10 @@ from pathlib import Path
 import pytest
 from selenium import webdriver
 
-from browser import opened
+from browser import at, opened
 
 from .engine import Engine
+from .use import settled
 
 BUILT = Path(__file__).parents[2] / "dist/basket.html"
 
@@ -28,3 +30,18 @@ def browser() -> Iterator[webdriver.Chrome]:
 @pytest.fixture(scope="module")
 def engine(browser: webdriver.Chrome, page: Path) -> Engine:
     return Engine(browser, page)
+
+
+@pytest.fixture(name="shown")
+def fresh_page(browser: webdriver.Chrome, page: Path) -> webdriver.Chrome:
+    browser.get("about:blank")
+    browser.get_log("browser")  # What an earlier test left there.
+    browser.get(page.as_uri())
+    return browser
+
+
+@pytest.fixture(name="example")
+def page_of_example(shown: webdriver.Chrome) -> webdriver.Chrome:
+    at(shown, "example").click()
+    settled(shown)
+    return shown

@@ -34,8 +34,15 @@ const [done] = arguments;
 const told = "addEventListener('securitypolicyviolation', (event) => postMessage(event.effectiveDirective));";
 const worker = new Worker(URL.createObjectURL(new Blob([`${told} fetch("http://127.0.0.1:9/").catch(() => {});`])));
 worker.onmessage = ({ data }) => {
-  document.addEventListener("securitypolicyviolation", (event) => done([event.effectiveDirective, data]));
+  const found = [data];
+  setTimeout(() => done(found), 10_000);
+  document.addEventListener("securitypolicyviolation", (event) => {
+    if (found.push(event.effectiveDirective) === 4) done(found.sort());
+  });
   fetch("http://127.0.0.1:9/").catch(() => {});
+  const [base, form] = ["base", "form"].map((tag) => document.body.appendChild(document.createElement(tag)));
+  base.href = form.action = "http://127.0.0.1:9/";
+  form.submit();
 };
 """
 
@@ -89,4 +96,4 @@ def test_nothing_is_asked_of_a_network(page: Path) -> None:
         assert [it.run.status for it in answers] == [0, 2]
         assert requests(browser) == {page.as_uri()}
         found = browser.execute_async_script(FETCH)
-        assert found == ["connect-src", "connect-src"]
+        assert found == ["base-uri", "connect-src", "connect-src", "form-action"]

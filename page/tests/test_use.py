@@ -30,20 +30,6 @@ target.dispatchEvent(new (key === "clipboardData" ? ClipboardEvent : DragEvent)(
 """
 
 
-@pytest.fixture(name="shown")
-def fresh_page(browser: webdriver.Chrome, page: Path) -> webdriver.Chrome:
-    browser.get("about:blank")
-    browser.get(page.as_uri())
-    return browser
-
-
-@pytest.fixture(name="example")
-def page_of_example(shown: webdriver.Chrome) -> webdriver.Chrome:
-    at(shown, "example").click()
-    settled(shown)
-    return shown
-
-
 def test_an_example_is_one_click_away(
     example: webdriver.Chrome, tmp_path: Path
 ) -> None:
@@ -112,17 +98,6 @@ def test_a_slider_that_is_moved_by_keys_mines_again(example: webdriver.Chrome) -
     slider.send_keys(Keys.HOME)
     settled(example)
     assert at(example, "least").get_attribute("value") == "1"
-
-
-def test_everything_is_reached_by_the_tabulator(example: webdriver.Chrome) -> None:
-    example.execute_script("document.body.tabIndex = -1; document.body.focus()")
-    reached = []
-    for _ in range(40):
-        example.switch_to.active_element.send_keys(Keys.TAB)
-        reached.append(example.switch_to.active_element.get_attribute("id"))
-    wanted = "choose example ask least minimum confidence-least save-report picture marks save-shown copy-link"
-    places = [reached.index(name) for name in wanted.split()]
-    assert places == sorted(places)
 
 
 def test_rules_come_back_the_strongest_first(example: webdriver.Chrome) -> None:
@@ -235,40 +210,6 @@ def test_a_browser_without_wide_memory_is_told_so(
         assert not at(browser, "example").is_enabled()
     finally:
         browser.execute_cdp_cmd("Page.removeScriptToEvaluateOnNewDocument", made)
-
-
-@pytest.mark.parametrize("scheme", ["light", "dark"])
-def test_a_phone_shows_all_in_its_width(shown: webdriver.Chrome, scheme: str) -> None:
-    media = {"features": [{"name": "prefers-color-scheme", "value": scheme}]}
-    shown.execute_cdp_cmd("Emulation.setEmulatedMedia", media)
-    metrics = {"width": 375, "height": 700, "deviceScaleFactor": 2, "mobile": True}
-    shown.execute_cdp_cmd("Emulation.setDeviceMetricsOverride", metrics)
-    try:
-        script = "return document.documentElement.scrollWidth <= innerWidth"
-        assert shown.execute_script(script)
-        at(shown, "example").click()
-        settled(shown)
-        shown.execute_script(
-            "for (const one of document.querySelectorAll('details')) one.open = true"
-        )
-        assert shown.execute_script(script)
-    finally:
-        shown.execute_cdp_cmd("Emulation.clearDeviceMetricsOverride", {})
-
-
-def test_everything_that_is_used_has_a_name(example: webdriver.Chrome) -> None:
-    example.execute_script(
-        "for (const one of document.querySelectorAll('details')) one.open = true"
-    )
-    used = example.find_elements(
-        By.CSS_SELECTOR, "input, button, select, canvas, table"
-    )
-    shown = [one for one in used if one.is_displayed()]
-    assert len(shown) > 30
-    assert [
-        one.get_attribute("outerHTML") for one in shown if not one.accessible_name
-    ] == []
-    assert example.get_log("browser") == []
 
 
 def test_a_report_is_not_drawn_before_its_picture_begins(

@@ -21,7 +21,7 @@ REPORT = """
 const [done] = arguments;
 const reader = new FileReader();
 reader.onload = () => done(reader.result.split(",")[1] ?? "");
-reader.readAsDataURL(new Blob([report ?? ""]));
+reader.readAsDataURL(new Blob([report?.bytes ?? ""]));
 """
 
 

@@ -3,9 +3,9 @@
 `items`, `sets`, `closed`, `maximal`, `rules` and `count` run the program and return data frames
 in the order of its report. All take the baskets as one of these:
 
-- a data frame with a row for each item of a basket: `basket=` and `item=` name its columns,
-  and `weight=` one with the weight of the row's basket, if there is one. Rows may stand in
-  any order, and repeated rows count once;
+- a data frame with a row for each item of a basket: `basket=` and `item=` name its columns (`basket=`
+  also several, as a list), and `weight=` one with the weight of the row's basket, if there is one.
+  Rows may stand in any order, and repeated rows count once;
 - a data frame with a row for each basket and a column of true and false (or 1 and 0, also
   sparse) for each item; `weight=` names a column that is no item;
 - a table of another package as one of these frames: what has `to_pandas` (Polars, Arrow), `to_df`
@@ -14,22 +14,23 @@ in the order of its report. All take the baskets as one of these:
 - a matrix of `scipy.sparse` with a row for each basket; `names=` are the labels of its columns;
 - the path of a file: `form=` "fimi", or of CSV "baskets" (a record is a basket) or "single" (a
   record is a basket's id and an item), with `sep=`, `header=` and `weighted=` (a record begins
-  with its weight) as the program has them. A pipe or `/dev/stdin` is copied into a temporary file;
+  with its weight) as the program has them. A pipe or `/dev/stdin` is copied into memory;
 - what `baskets` returns of one of these, for many questions.
 
 Labels come back as they were given; those of a FIMI file are `int`, those of CSV `str`. What looks
-like a table is refused as a list of baskets (records, named tuples, lists of 0 and 1), and rows of
-two fields bring a warning. A weight is a whole number from 1 to 4,294,967,295, and stands for that many equal baskets. Missing values
-are refused (`DataError`), and with `missing="drop"` left out. A basket without an item counts in no
-support and no share; `baskets(data, total=..)` counts such baskets too. Rows of a frame are in
-the order of the program's report, where items are numbered by their first appearance, or by the
-places of their columns.
+like a table is refused as a list of baskets (records, named tuples, rows with names, lists of 0 and
+1), and baskets of one size that look like rows of a table bring a warning. A weight is a whole number
+from 1 to 4,294,967,295, and stands for that many equal baskets. Missing values are refused
+(`DataError`), and with `missing="drop"` left out. A basket without an item counts in no support and
+no share; `baskets(data, total=..)` counts such baskets too. Rows of a frame are in the order of the
+program's report, where items are numbered by their first appearance, those of a set in ascending
+order, or by the places of their columns.
 
 `minimum`, the least support, is a count of baskets as an `int` from 1 on, or a share of all
 baskets: a `float` or a `decimal.Decimal` from 0 to 1, which means the decimal that it prints (0.005
 is 1/200 exactly), a `fractions.Fraction`, or a text: "20" is a count, "5%", "0.5%", "1/200" and
-"0.005" are shares. So 1 is one basket, and 1.0 is all of them. A computed float, as 50 / 300 or one
-of `numpy.arange`, has many digits and means the fraction of numbers up to 67,108,864 that it rounds.
+"0.005" are shares. So 1 is one basket, and 1.0 is all of them. A float of twelve digits or more was
+computed, as 50 / 300 or one of `numpy.arange`, and is met by the count that it is the share of.
 
 `help(sets)` has all keywords. Those of the program's work, as `miner` and `workers`, change time and
 memory, and no report. The floats of a frame are those nearest to the exact values. An interrupt

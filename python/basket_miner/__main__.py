@@ -8,7 +8,7 @@ from pathlib import Path
 from ._errors import BasketError
 from ._explore import explore, file_of, page_of
 from ._rules import rules
-from .certify import ASKS, FORMS, SEPARATORS, Question, certify
+from .certify import ASKS, FORMS, SEPARATORS, Question, WrongReport, certify
 
 
 def _parser() -> argparse.ArgumentParser:
@@ -35,7 +35,10 @@ def _parser() -> argparse.ArgumentParser:
         "-o", "--output", required=True, help="the page's file; - is standard output"
     )
     told = "checks a report of the program against its baskets, by other code"
-    _add_question(commands.add_parser("certify", help=told, description=told))
+    ends = "It ends with 0 if all is checked, 1 if the report is wrong, 2 if question or file is, 3 if not all is checked."
+    _add_question(
+        commands.add_parser("certify", help=told, description=told, epilog=ends)
+    )
     return parser
 
 
@@ -61,11 +64,18 @@ def _certified(given: argparse.Namespace) -> int:
     """Runs `certify`. Returns the exit status."""
     asked = {name: getattr(given, name) for name in Question._fields}
     try:
-        print(certify(given.report, given.baskets, given.seconds, **asked))
-    except (ValueError, OSError) as fault:
+        said = certify(given.report, given.baskets, given.seconds, **asked)
+    except WrongReport as fault:
         print(fault, file=sys.stderr)
         return 1
-    return 0
+    except OSError as fault:
+        print(f"{fault.filename}: {fault.strerror}", file=sys.stderr)
+        return 2
+    except ValueError as fault:
+        print(fault, file=sys.stderr)
+        return 2
+    print(said)
+    return 0 if said.startswith("all ") else 3
 
 
 def main(words: list[str] | None = None) -> int:

@@ -2,6 +2,7 @@
 
 from collections.abc import Hashable, Sequence
 from dataclasses import dataclass, field
+from io import FileIO
 from pathlib import Path
 from typing import Any
 
@@ -10,6 +11,8 @@ import numpy as np
 from ._errors import DataError
 
 Labels = Sequence[Hashable]
+# Bytes, the path of a file, or a file in memory.
+Source = bytes | Path | FileIO
 Array = np.ndarray[Any, np.dtype[Any]]
 
 MOST_WEIGHT = 2**32 - 1
@@ -30,7 +33,7 @@ class Baskets:
         total: how many baskets there are, if those without an item count too.
     """
 
-    source: bytes | Path = field(repr=False)
+    source: Source = field(repr=False)
     words: tuple[str, ...] = ()
     labels: Labels | None = field(default=None, repr=False)
     weight: int | None = None

@@ -3,15 +3,13 @@
 import csv
 import io
 import os
-import tempfile
 from collections.abc import Hashable, Iterable, Iterator, Mapping, Sequence
 from dataclasses import replace
-from pathlib import Path
 from typing import Any, get_args
 
 import pandas as pd
 
-from ._baskets import Baskets
+from ._baskets import Baskets, Source
 from ._data import Data, read
 from ._ending import end_of
 from ._errors import DataError, FileError, UsageError
@@ -45,7 +43,7 @@ def words_of(options: Mapping[str, object]) -> list[str]:
     if work["miner"] not in (None, *get_args(Miner)):
         miners = ", ".join(get_args(Miner))
         raise UsageError(f"miner is one of {miners}, not {work['miner']!r}")
-    words = [f"--workers={work['workers']}"]
+    words = [f"--workers={work['workers'] or 1}"]
     words += [] if work["miner"] is None else [f"--miner={work['miner']}"]
     words += [] if work["limit"] is None else [f"--limit={work['limit']}"]
     return words
@@ -83,7 +81,7 @@ def asked(
     return frame
 
 
-def weight_of(baskets: Baskets, source: bytes | Path, until: float | None) -> int:
+def weight_of(baskets: Baskets, source: Source, until: float | None) -> int:
     """What all baskets weigh together: known, or counted by the program.
 
     The program counts the empty set, which each basket has.
@@ -105,12 +103,10 @@ def counted(
         baskets, text = _as_numbers(baskets, given)
     else:
         text = _as_names(given, baskets.separator)
-    with tempfile.NamedTemporaryFile(prefix="basket-sets-") as file:
-        file.write(text)
-        file.flush()
-        words = ["count", f"--sets={file.name}", *words_of(options), *baskets.words]
-        with kept(baskets.source) as source:
-            report = run(words, source, progress=run_so["progress"], until=until)
+    words = ["count", *words_of(options), *baskets.words]
+    progress = run_so["progress"]
+    with kept(baskets.source) as source:
+        report = run(words, source, sets=text, progress=progress, until=until)
     if baskets.total is not None:
         # The first line is the empty set.
         first, _, others = report.partition(b"\n")

@@ -13,7 +13,7 @@ from ._baskets import Baskets
 from ._errors import DataError
 from ._frames import Rows, long_frame, long_rows, matrix
 from ._keywords import BasketsOptions, Layout, changed, filled
-from ._lists import listed
+from ._lists import listed, refuse_tables
 from ._signatures import BasketsCall
 from ._tables import frame_of, is_table
 from ._typed import Typed
@@ -25,6 +25,7 @@ Data = Any
 _SEPARATORS = {"comma": ",", "semicolon": ";", "tab": "\t", "pipe": "|"}
 SEPARATOR_WORDS = {character: word for word, character in _SEPARATORS.items()}
 _CSV_ENDINGS = (".csv", ".tsv")
+_FRAMES_HINT = "; several frames are given as one frame, by pandas.concat"
 
 
 def read(data: Data, keywords: Layout) -> Baskets:
@@ -54,7 +55,9 @@ def read(data: Data, keywords: Layout) -> Baskets:
     if hasattr(data, "tocsr"):
         _refuse_others(layout, "names", "a sparse matrix")
         return matrix(data, layout["names"])
-    _refuse_others(layout, "missing", "an iterable of baskets")
+    refuse_tables(data)
+    hint = "" if layout["basket"] is None else _FRAMES_HINT
+    _refuse_others(layout, "missing", f"an iterable of baskets{hint}")
     return listed(data, drop)
 
 
@@ -111,6 +114,10 @@ def _refuse_no_path(path: str | os.PathLike[str]) -> None:
         )
     if "\0" in os.fspath(path):
         raise DataError("a path has no zero byte")
+    try:
+        os.fsencode(path)
+    except UnicodeEncodeError as fault:
+        raise DataError(f"a path can't have this character: {fault}") from fault
     if "\n" in os.fspath(path):
         raise DataError(
             f"a path of a file is given, and {os.fspath(path)[:30]!r}.. is text of several lines: "

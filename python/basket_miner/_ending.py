@@ -8,6 +8,7 @@ import subprocess
 import threading
 import time
 import uuid
+from collections import deque
 from collections.abc import Callable, Iterator
 from functools import partial
 from typing import Any, ParamSpec, TypeVar
@@ -20,7 +21,8 @@ Answer = TypeVar("Answer")
 _THREAD = threading.local()
 _LOCK = threading.Lock()
 _RUNNING: dict[str, set[subprocess.Popen[bytes]]] = {}
-_ENDED: set[str] = set()
+# The last names that were ended: what still works for one may begin a run later.
+_ENDED: deque[str] = deque(maxlen=1000)
 
 
 def working_for(name: str, task: Callable[..., Any], *given: Any) -> Any:
@@ -56,7 +58,7 @@ def endable(process: subprocess.Popen[bytes]) -> Iterator[None]:
 def end(name: str) -> None:
     """Kills what runs in this process for a question, and what begins to run for it later."""
     with _LOCK:
-        _ENDED.add(name)
+        _ENDED.append(name)
         for process in _RUNNING.get(name, ()):
             process.kill()
 

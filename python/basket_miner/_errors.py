@@ -116,6 +116,12 @@ _ADVICE = (
     ),
     _Advice(
         (InputError,),
+        r"is not UTF-8",
+        "The file has another encoding, often Windows-1252: write it as UTF-8, as by iconv, or read it by "
+        'pandas.read_csv(.., encoding="cp1252"), and give the frame.',
+    ),
+    _Advice(
+        (InputError,),
         r"fewer than two fields",
         'form="single" wants two fields in each record, a basket\'s id and an item. Give sep= if the separator is '
         'no comma, and form="baskets" if a record has a whole basket.',

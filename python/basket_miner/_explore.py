@@ -16,7 +16,7 @@ from ._errors import DataError, FileError
 from ._given_sets import itemsets_of
 from ._rule_counts import counts_of
 
-_FOLDER = Path(__file__).parent / "page"
+_FOLDER = Path(__file__).parent / "_page_files"
 
 
 class Page(PosixPath):
@@ -69,9 +69,15 @@ def file_of(path: str | os.PathLike[str]) -> Page:
             f"the path of the page is a str or a pathlib.Path, not {path!r}"
         )
     file = Page(os.path.expanduser(path))
-    if file.is_dir():
+    if "\0" in str(file):
+        raise FileError(f"cannot write {str(file)!r}: a path has no zero byte")
+    try:
+        is_folder, has_folder = file.is_dir(), file.parent.is_dir()
+    except OSError as fault:
+        raise FileError(f"cannot write {file}: {fault.strerror}") from fault
+    if is_folder:
         raise FileError(f"cannot write {file}: it is a folder, and no file")
-    if not file.parent.is_dir():
+    if not has_folder:
         raise FileError(f"cannot write {file}: there is no folder {file.parent}")
     return file
 

@@ -1,5 +1,6 @@
 """Baskets from data frames with a row for each item, and from sparse matrices; columns by their names."""
 
+import contextlib
 from collections.abc import Hashable, Iterable
 from dataclasses import dataclass
 from typing import Any
@@ -9,7 +10,8 @@ import pandas as pd
 
 from ._baskets import Array, Baskets, Labels, baskets_of, checked_weights, grouped
 from ._errors import DataError
-from ._numbering import is_missing, numbered
+from ._keywords import Key
+from ._numbering import is_missing, numbered, together
 
 # What may help, after a fault. The calls of mlxtend have no such keywords.
 DROP_HINT = '; missing="drop" leaves them out'
@@ -48,27 +50,40 @@ def long_frame(rows: Rows) -> Baskets:
 
 def long_rows(
     frame: pd.DataFrame,
-    basket: Hashable,
+    basket: Key,
     item: Hashable,
     weight: Hashable | None,
     drop: bool,
 ) -> Rows:
     """The rows of a frame with a row for each item of a basket."""
-    names = [basket, item] if weight is None else [basket, item, weight]
-    columns = [column_of(frame, name) for name in names]
-    places, ids = numbered(columns[0], basket)
-    numbers, items = numbered(columns[1], item)
-    are_there = [places >= 0, numbers >= 0]
-    are_there += [there(column) for column in columns[2:]]
+    names = [*columns_of_key(basket), item]
+    numbering = [numbered(column_of(frame, name), name) for name in names]
+    are_there = [numbers >= 0 for numbers, _ in numbering]
+    if weight is not None:
+        names.append(weight)
+        are_there.append(there(column_of(frame, weight)))
     refuse_gaps(are_there, names, drop)
     if not all(is_there.all() for is_there in are_there):
         kept = frame[np.logical_and.reduce(are_there)]
         return long_rows(kept, basket, item, weight, drop)
+    *keys, (numbers, items) = numbering
+    places, ids = together(keys)
     weights = None
     if weight is not None:
-        values = checked_weights(plain(columns[2]))
+        values = checked_weights(plain(column_of(frame, weight)))
         weights = weights_by_place(places, values, f"column {weight!r}")
     return Rows(places, ids, numbers, items.tolist(), weights)
+
+
+def columns_of_key(basket: Key) -> list[Hashable]:
+    """The columns whose values are a basket's id."""
+    if not isinstance(basket, list):
+        return [basket]
+    if not basket:
+        raise DataError(
+            "basket= is a column or a list of columns, and this list is empty"
+        )
+    return basket
 
 
 def without_drop(fault: DataError, hint: str) -> DataError:
@@ -86,12 +101,22 @@ def matrix(values: Any, names: Labels | None) -> Baskets:
         rows.sum_duplicates()
     labels: Labels = range(rows.shape[1])
     if names is not None:
-        labels = distinct(list(names), "name")
+        labels = distinct(_names(names), "name")
     if len(labels) != rows.shape[1]:
         raise DataError(f"{len(labels)} names for {rows.shape[1]} columns")
     is_in = ones(rows.data, "the matrix")
     places = np.repeat(np.arange(rows.shape[0]), np.diff(rows.indptr))
     return baskets_of(places[is_in], rows.indices[is_in], labels)
+
+
+def _names(given: Any) -> list[Hashable]:
+    """The names of columns, or `DataError` where they have no order, or are none."""
+    if not isinstance(given, (str, bytes, set, frozenset)):
+        with contextlib.suppress(TypeError):
+            return list(given)
+    raise DataError(
+        f"names= are the labels of the columns in their order, as a list, not {type(given).__name__}"
+    )
 
 
 def column_of(frame: pd.DataFrame, name: Hashable) -> pd.Series:

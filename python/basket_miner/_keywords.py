@@ -1,6 +1,6 @@
 """The keywords that the public calls share: the type, the default and the meaning of each, once."""
 
-from collections.abc import Hashable, Mapping
+from collections.abc import Hashable, Mapping, Sequence
 from typing import (
     Annotated,
     Any,
@@ -15,6 +15,8 @@ from typing import (
 
 from ._baskets import Labels
 
+# A column, or a list of columns.
+Key = Hashable | Sequence[Hashable]
 Missing = Literal["refuse", "drop"]
 Form = Literal["fimi", "baskets", "single"]
 Miner = Literal["apriori", "eclat", "eclat-diff", "eclat-bits", "fpgrowth"]
@@ -33,9 +35,11 @@ class PartLayout(TypedDict, total=False):
     """How the baskets lie in a frame, in a file, or in parts of these."""
 
     basket: Annotated[
-        Hashable | None,
+        Key | None,
         Keyword(
-            None, "of a frame with a row for each item: the column of the basket's id."
+            None,
+            "of a frame with a row for each item: the column of the basket's id, or a list of the "
+            'columns that make it, as ["store", "receipt"].',
         ),
     ]
     item: Annotated[Hashable | None, Keyword(None, "the column of the item.")]
@@ -96,7 +100,9 @@ class Run(TypedDict, total=False):
     timeout: Annotated[
         float | None,
         Keyword(
-            None, "after so many seconds the program is ended, and TimedOut raised."
+            None,
+            "after so many seconds the program is ended, and TimedOut raised; lists and frames are "
+            "read to their end first.",
         ),
     ]
 

@@ -2,7 +2,7 @@
 
 import io
 import itertools
-import warnings
+import os
 from collections.abc import Hashable, Iterable, Iterator, Mapping
 from numbers import Real
 from typing import Any
@@ -12,10 +12,13 @@ import pandas as pd
 
 from ._baskets import Array, Baskets, baskets_of
 from ._errors import DataError
-from ._numbering import is_missing
+from ._numbering import in_order, is_missing
+from ._warnings import warn
 
+_USUAL = {list, tuple, set, frozenset}
 _TABLE_HINT = "; a table is given as a pandas.DataFrame"
 _COLUMN_HINT = "; give the frame, with basket= and item="
+_FILES_HINT = "; files of parts of the baskets are put together in one, or given to basket_miner.cluster"
 _MATRIX_HINT = (
     "a table of these is given as a pandas.DataFrame, with a row for each basket and a column for "
     "each item"
@@ -27,10 +30,16 @@ def listed(baskets: Any, drop: bool) -> Baskets:
     numbering: dict[Hashable, int] = {}
     numbers: list[int] = []
     sizes: list[int] = []
+    has_sets = False
     for basket in each(baskets):
         before = len(numbers)
+        is_set = isinstance(basket, (set, frozenset))
+        has_sets |= is_set
         try:
-            numbers += [numbering.setdefault(item, len(numbering)) for item in basket]
+            numbers += [
+                numbering.setdefault(item, len(numbering))
+                for item in (in_order(basket) if is_set else basket)
+            ]
         except TypeError as fault:
             raise _no_items(fault) from fault
         sizes.append(len(numbers) - before)
@@ -38,31 +47,56 @@ def listed(baskets: Any, drop: bool) -> Baskets:
     pairs = places, np.array(numbers, np.int64)
     labels = [*numbering]
     _refuse_truths(*pairs, labels)
-    _warn_of_rows(pairs[1], sizes, labels)
+    if not has_sets:
+        _warn_of_rows(pairs[1], sizes, labels)
     return _without_missing(*pairs, labels, drop)
 
 
 def each(baskets: Any) -> Iterator[Iterable[Hashable]]:
     """The baskets of an iterable, or `DataError` where it, or what it has, are none."""
-    _refuse_tables(baskets)
+    refuse_tables(baskets)
     try:
         found = iter(baskets)
     except TypeError as fault:
         raise _no_items(fault) from fault
     for basket in found:
-        if isinstance(basket, (str, bytes, bytearray, Mapping)):
-            hint = _COLUMN_HINT if isinstance(baskets, pd.Series) else _TABLE_HINT
-            raise DataError(f"a basket is an iterable of items, not {basket!r}{hint}")
-        if isinstance(basket, pd.DataFrame):
-            raise DataError(
-                "a basket is an iterable of items, not a DataFrame; frames of several parts of the baskets are "
-                "given as one, by pandas.concat"
-            )
-        if hasattr(basket, "_fields") or isinstance(basket, np.record):
-            raise DataError(
-                f"a basket is an iterable of items, not the row {basket!r} of a table{_TABLE_HINT}"
-            )
+        if type(basket) not in _USUAL:
+            _refuse_no_basket(basket, isinstance(baskets, pd.Series))
         yield basket
+
+
+def _refuse_no_basket(basket: Any, is_column: bool) -> None:
+    """Raises `DataError` if one of what shall be baskets is a text, a file, a frame or a row of a table."""
+    said = "a basket is an iterable of items, not"
+    if isinstance(basket, os.PathLike):
+        raise DataError(f"{said} {basket!r}{_FILES_HINT}")
+    if isinstance(basket, (str, bytes, bytearray, Mapping)):
+        hint = _COLUMN_HINT if is_column else _TABLE_HINT
+        raise DataError(f"{said} {basket!r}{_hint_of_text(basket, is_column) or hint}")
+    if isinstance(basket, pd.DataFrame):
+        raise DataError(
+            f"{said} a DataFrame; frames of several parts of the baskets are given as one, by pandas.concat"
+        )
+    has_names = hasattr(basket, "keys") and not isinstance(basket, pd.Series)
+    if has_names or hasattr(basket, "_fields") or isinstance(basket, np.record):
+        raise DataError(f"{said} the row {basket!r} of a table{_TABLE_HINT}")
+
+
+def _hint_of_text(text: Any, is_column: bool) -> str | None:
+    """What to do with a text that has several items, or names a file."""
+    if not isinstance(text, str):
+        return None
+    for separator in ",;|\t":
+        if separator in text:
+            way = (
+                ".str.split({0!r})"
+                if is_column
+                else "[text.split({0!r}) for text in data]"
+            )
+            return (
+                f"; a text with several items is split first: {way.format(separator)}"
+            )
+    return _FILES_HINT if "\0" not in text and os.path.isfile(text) else None
 
 
 def _no_items(fault: TypeError) -> DataError:
@@ -70,7 +104,7 @@ def _no_items(fault: TypeError) -> DataError:
     return DataError(f"baskets are iterables of hashable items: {fault}{_TABLE_HINT}")
 
 
-def _refuse_tables(baskets: Any) -> None:
+def refuse_tables(baskets: Any) -> None:
     """Raises `DataError` if what something iterates over are columns, keys, bytes or lines, and no baskets."""
     hint = None
     if isinstance(baskets, bytes):
@@ -79,11 +113,15 @@ def _refuse_tables(baskets: Any) -> None:
         hint = "; a file is given by its path"
     elif hasattr(baskets, "ngroups"):
         hint = "; groups are given as lists, by .agg(list)"
+    elif hasattr(baskets, "get_chunk"):
+        hint = "; chunks of a frame are given as one frame, by pandas.concat"
+    elif hasattr(baskets, "fetchall"):
+        hint = "; what a database returns is given as a pandas.DataFrame, as pandas.read_sql reads it"
     elif isinstance(baskets, np.ndarray):
         is_table = baskets.ndim > 1 or baskets.dtype.names is not None
         hint = _TABLE_HINT if is_table else None
     elif isinstance(baskets, Mapping):
-        hint = _TABLE_HINT
+        hint = f"; baskets by their ids are given as .values(){_TABLE_HINT}"
     if hint is not None:
         name = type(baskets).__name__
         raise DataError(f"{name} is not an iterable of baskets{hint}")
@@ -105,17 +143,17 @@ def _refuse_truths(places: Array, numbers: Array, labels: list[Hashable]) -> Non
 
 
 def _warn_of_rows(numbers: Array, sizes: list[int], labels: list[Hashable]) -> None:
-    """Warns if all baskets look like rows of a basket's id and an item."""
-    if len(sizes) < 2 or {*sizes} != {2}:
+    """Warns if all baskets look like rows of a table, of which a column has a basket's id."""
+    if len(sizes) < 2 or len({*sizes}) != 1 or sizes[0] < 2:
         return
-    firsts, seconds = (np.unique(numbers[side::2]) for side in (0, 1))
-    if not len(np.intersect1d(firsts, seconds)):
-        first, second = (labels[numbers[side]] for side in (0, 1))
-        warnings.warn(
-            f"each basket has two items, as [{first!r}, {second!r}], and no item stands first in one "
-            "and second in another: rows of a basket's id and an item are given as a "
-            "pandas.DataFrame, with basket= and item=",
-            stacklevel=2,
+    rows = numbers.reshape(len(sizes), -1)
+    kinds = np.array([id(type(label)) for label in labels])[rows]
+    are_columns = (kinds == kinds[0]).all() and len({*kinds[0].tolist()}) > 1
+    if are_columns or not np.isin(rows[:, 0], rows[:, 1:]).any():
+        row = [labels[number] for number in rows[0, :5]]
+        warn(
+            f"each basket has {sizes[0]} items, as {row}, and looks like a row of a table: rows of a "
+            "basket's id and an item are given as a pandas.DataFrame, with basket= and item="
         )
 
 

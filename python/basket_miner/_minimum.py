@@ -17,8 +17,8 @@ Confidence = Share
 
 MOST_COUNT = 2**40 - 1
 MOST_PART = 2**32 - 1
-# Two different fractions of numbers up to this are more than the rounding of a float apart.
-_MOST_PART_OF_QUOTIENTS = 2**26
+# A quotient that is computed seldom prints fewer digits, and what a person types seldom has so many.
+_DIGITS_OF_COMPUTED = 12
 # What some steps of computing may add up to: those of floats, as in numpy.arange, and of decimals of 28 digits.
 _ROUNDING = Fraction(1, 2**50)
 _ROUNDING_OF_DECIMALS = Fraction(1, 10**27)
@@ -34,10 +34,10 @@ def minimum_of(minimum: Minimum) -> int | Fraction | str:
     Args:
         minimum: an `int` is a count of baskets, from 1 to 1,099,511,627,775. All else is a share of
             all baskets, from 0 to 1: a `Fraction`; a `float` or a `Decimal`, which means the decimal
-            that it prints, so 0.005 is 1/200 exactly, but if that has ten digits or more and is the
-            rounded quotient of numbers up to 67,108,864, this quotient, as 1/6 where it is 50 / 300.
-            So 1.0 is all baskets where 1 is one of them. A text is one of "20", "5%", "0.5%",
-            "1/200", "0.005".
+            that it prints, so 0.005 is 1/200 exactly. One of twelve digits or more was computed, and
+            means a little less, so that the count that it is the share of meets it: 50 of 300 where
+            it is 50 / 300. So 1.0 is all baskets where 1 is one of them. A text is one of "20",
+            "5%", "0.5%", "1/200", "0.005".
 
     Raises:
         DataError: it is none of these, or out of its range.
@@ -87,7 +87,8 @@ def confidence_word(confidence: Confidence) -> str:
     confidence of baskets that weigh no more lies below.
     """
     if isinstance(confidence, str):
-        found = _of_text(confidence)
+        is_whole = confidence in ("0", "1")
+        found = Fraction(confidence) if is_whole else _of_text(confidence)
         if not isinstance(found, Fraction):
             return confidence
         return word_of(_from_above(found))
@@ -101,22 +102,20 @@ def share_of(value: object) -> Fraction | None:
     if isinstance(value, Fraction):
         return value
     if isinstance(value, Decimal) and value.is_finite():
-        return _meant(Fraction(value), _ROUNDING_OF_DECIMALS)
+        return _meant(value, _ROUNDING_OF_DECIMALS)
     # Of the floats of numpy only `float64` is a `float`; each prints its decimal by `str`.
     is_float = isinstance(value, numbers.Real) and not isinstance(
         value, numbers.Rational
     )
     if is_float and math.isfinite(value):  # type: ignore[arg-type]
-        return _meant(Fraction(str(value)), _ROUNDING)
+        return _meant(Decimal(str(value)), _ROUNDING)
     return None
 
 
-def _meant(decimal: Fraction, rounding: Fraction) -> Fraction:
-    """A decimal, or the quotient of small numbers that it rounds, if it has many digits."""
-    if decimal.denominator <= MOST_PART:
-        return decimal
-    quotient = decimal.limit_denominator(_MOST_PART_OF_QUOTIENTS)
-    return quotient if abs(quotient - decimal) <= rounding * decimal else decimal
+def _meant(decimal: Decimal, rounding: Fraction) -> Fraction:
+    """A decimal, less what it may have been rounded up by where it was computed."""
+    is_computed = len(decimal.as_tuple().digits) >= _DIGITS_OF_COMPUTED
+    return Fraction(decimal) * (1 - rounding if is_computed else 1)
 
 
 def _of_text(text: str) -> int | Fraction | None:

@@ -15,6 +15,8 @@ def figures_of(metrics: str | Iterable[str] | None) -> list[str]:
     """The figures that are asked for by their names, or by the name of one; without any, all."""
     if isinstance(metrics, str):
         return [metrics]
+    if metrics is not None and not isinstance(metrics, Iterable):
+        raise DataError(f"return_metrics are names of measures, not {metrics!r}")
     return [*MEASURES] if metrics is None else [*metrics]
 
 

@@ -1,7 +1,9 @@
 """Numbers for the values of a column."""
 
-from collections.abc import Hashable
+from collections.abc import Hashable, Iterable, Sequence
 from types import SimpleNamespace
+
+from typing import Any
 
 import numpy as np
 import pandas as pd
@@ -37,6 +39,29 @@ def numbered(column: pd.Series, name: Hashable) -> tuple[Array, pd.Index | Array
     return numbers, values
 
 
+def together(
+    columns: Sequence[tuple[Array, pd.Index | Array]]
+) -> tuple[Array, pd.Index | Array]:
+    """For each row the number of its values in several numbered columns, and the tuples of these
+    values by number. One column stays as it is."""
+    if len(columns) == 1:
+        return columns[0]
+    places = columns[0][0]
+    for numbers, values in columns[1:]:
+        places, found = pd.factorize(places * len(values) + numbers)
+    rows = _first_rows(places, len(found))
+    parts = [values.take(numbers[rows]).tolist() for numbers, values in columns]
+    return places, pd.Index([*zip(*parts)], dtype=object, tupleize_cols=False)
+
+
+def _first_rows(places: Array, size: int) -> Array:
+    """The row in which each number stands first."""
+    rows = np.empty(size, dtype=np.intp)
+    # The first row comes last here, and stays.
+    rows[places[::-1]] = np.arange(len(places) - 1, -1, -1)
+    return rows
+
+
 def _of_numbers(given: Array) -> tuple[Array, Array]:
     if not len(given) or (given[1:] < given[:-1]).any():
         numbers, values = pd.factorize(given)
@@ -57,10 +82,7 @@ def _of_objects(given: Array, name: Hashable) -> tuple[Array, Array]:
         _refuse_zero_bytes(given, numbers, values, name)
         return numbers, values
     places, at = pd.factorize(addresses(given))
-    firsts = np.empty(len(at), dtype=np.intp)
-    # The first row comes last here, and stays.
-    firsts[places[::-1]] = np.arange(len(given) - 1, -1, -1)
-    objects = given[firsts]
+    objects = given[_first_rows(places, len(at))]
     numbers, values = pd.factorize(objects)
     _refuse_zero_bytes(objects, numbers, values, name)
     return numbers[places], values
@@ -72,6 +94,22 @@ def addresses(values: Array) -> Array:
     del interface["descr"]
     # The objects stay as long as the array of their addresses does.
     return np.asarray(SimpleNamespace(__array_interface__=interface, kept=values))
+
+
+def in_order(labels: Iterable[Hashable]) -> list[Any]:
+    """The labels of a set in ascending order, or that of their texts where they can't be compared.
+
+    That in which Python goes through a set of texts differs from process to process.
+    """
+    try:
+        return sorted(labels)
+    except TypeError:
+        return by_text(labels)
+
+
+def by_text(labels: Iterable[Hashable]) -> list[Any]:
+    """Labels in the order of their texts; a number comes before the text that it prints."""
+    return sorted(labels, key=lambda label: (str(label), isinstance(label, str)))
 
 
 def is_missing(label: object) -> bool:

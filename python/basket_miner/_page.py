@@ -5,7 +5,7 @@ from pathlib import Path
 from ._errors import FileError
 from ._explore import Page
 
-_FILE = Path(__file__).parent / "page/basket.html"
+_FILE = Path(__file__).parent / "_page_files/basket.html"
 
 
 def page() -> Page:

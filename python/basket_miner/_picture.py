@@ -50,6 +50,8 @@ def demand(frame: pd.DataFrame, *columns: str) -> pd.DataFrame:
 
 def axes_of(axes: Axes | None, width: float, height: float) -> Axes:
     if axes is not None:
+        if not isinstance(axes, Axes):
+            raise DataError(f"axes are those of matplotlib, not {type(axes).__name__}")
         return axes
     return matplotlib.pyplot.subplots(figsize=(width, height), layout="constrained")[1]
 

@@ -8,12 +8,14 @@ import shutil
 import subprocess
 import sys
 import time
-from collections.abc import Iterator, Sequence
+from collections.abc import Sequence
 from io import FileIO
 from pathlib import Path
 
+from ._baskets import Source
 from ._ending import endable
-from ._errors import ProgramMissing, TimedOut, error_of
+from ._errors import ProgramMissing, TimedOut, UsageError, error_of
+from ._files import in_memory
 from ._version import __version__
 
 _PACKAGE = Path(__file__).resolve().parent
@@ -43,19 +45,25 @@ def find() -> Path:
         ProgramMissing: there is none of a version that fits, or `BASKET` names none.
     """
     if named := os.environ.get("BASKET"):
-        if not (found := shutil.which(named)):
+        if not (found := _found(named)):
             raise ProgramMissing(f"BASKET names no program: {named}; {_HOW_TO_GET_IT}")
         if fault := _fault_of(found):
             raise ProgramMissing(f"{fault}; {_HOW_TO_GET_IT}")
         return Path(found)
     faults = []
     for place in (str(_PACKAGE / "bin/basket"), "basket", str(_BUILT), *_KEPT):
-        if found := shutil.which(place):
+        if found := _found(place):
             if not (fault := _fault_of(found)):
                 return Path(found)
             faults.append(fault)
     said = "; ".join(faults) or "the program basket is not here"
     raise ProgramMissing(f"{said}; {_HOW_TO_GET_IT}")
+
+
+def _found(name: str) -> str | None:
+    """The file of a path, or of a program on the path, of which parts that begin at the current folder are left out."""
+    folders = os.environ.get("PATH", os.defpath).split(os.pathsep)
+    return shutil.which(name, path=os.pathsep.join(filter(os.path.isabs, folders)))
 
 
 def keep(content: bytes, folder: str) -> None:
@@ -81,7 +89,7 @@ def _fault_of(file: str) -> str | None:
         return f"{file} does not run: {fault}"
     said = ended.stdout.decode(errors="replace").strip()
     major, minor = map(int, __version__.split(".")[:2])
-    found = re.fullmatch(r"basket (\d+)\.(\d+)\.\d+", said)
+    found = re.fullmatch(r"basket (\d+)\.(\d+)\.\d+(?:-dev)?", said)
     if not found or int(found[1]) != major or int(found[2]) < minor:
         return (
             f"{file} is not basket {major}.{minor} or a later {major}.x: for --version it "
@@ -98,7 +106,7 @@ def _guard() -> tuple[str, ...]:
     The system does so when the thread that began the command ends. The thread waits for the
     command, so that is not too early. Without util-linux's setpriv there are no such words.
     """
-    if not (found := shutil.which("setpriv")):
+    if not (found := _found("setpriv")):
         return ()
     words = (found, "--pdeathsig", "KILL", "--")
     tried = subprocess.run(
@@ -112,8 +120,9 @@ def _guard() -> tuple[str, ...]:
 
 def run(
     words: Sequence[str],
-    source: bytes | Path | None = None,
+    source: Source | None = None,
     *,
+    sets: bytes | None = None,
     progress: bool = False,
     until: float | None = None,
 ) -> bytes:
@@ -121,7 +130,8 @@ def run(
 
     Args:
         words: its command and options, as `["sets", "--min", "20%"]`.
-        source: the input: a file by its path, bytes as standard input, or nothing.
+        source: the input: a file by its path, bytes or a file in memory as standard input, or nothing.
+        sets: those of `--sets`, for the command `count`.
         progress: keeps a line on standard error, renewed each second, which says what runs
             and for how long, where that is a terminal or a notebook.
         until: the time of `time.monotonic` at which the program is ended.
@@ -135,12 +145,22 @@ def run(
     does.
     """
     command = [*_guard(), str(find()), *words]
-    if isinstance(source, Path):
-        name = str(source)
-        command.append(f"./{name}" if name.startswith("-") else name)
     given = source if isinstance(source, bytes) else b""
-    with _in_memory(given) as stdin, _in_memory() as report, _in_memory() as told:
-        process = _started(command, stdin, report, told)
+    with (
+        in_memory(given) as stdin,
+        in_memory(sets or b"") as asked,
+        in_memory() as report,
+        in_memory() as told,
+    ):
+        if isinstance(source, FileIO):
+            source.seek(0)
+            stdin = source
+        if sets is not None:
+            command.append(f"--sets=/dev/fd/{asked.fileno()}")
+        if isinstance(source, Path):
+            name = str(source)
+            command.append(f"./{name}" if name.startswith("-") else name)
+        process = _started(command, asked, stdin, report, told)
         with process, endable(process):
             try:
                 _wait(process, " ".join(words), progress, until)
@@ -154,34 +174,25 @@ def run(
         return _content(report)
 
 
-@contextlib.contextmanager
-def _in_memory(content: bytes = b"") -> Iterator[FileIO]:
-    """A file in memory with a content, to be read from its begin.
-
-    No pipe: a process that another thread forks meanwhile would have its writing end too, and a
-    pipe ends when all of these are closed.
-    """
-    with open(os.memfd_create("basket"), "w+b", buffering=0) as file:
-        rest = memoryview(content)
-        while rest:
-            rest = rest[file.write(rest) :]
-        file.seek(0)
-        yield file
-
-
 def _content(file: FileIO) -> bytes:
     file.seek(0)
     return file.readall()
 
 
 def _started(
-    command: list[str], stdin: FileIO, report: FileIO, told: FileIO
+    command: list[str], passed: FileIO, stdin: FileIO, report: FileIO, told: FileIO
 ) -> subprocess.Popen[bytes]:
+    passed_on = [passed.fileno()]
     try:
-        return subprocess.Popen(command, stdin=stdin, stdout=report, stderr=told)
+        return subprocess.Popen(
+            command, stdin=stdin, stdout=report, stderr=told, pass_fds=passed_on
+        )
     except OSError as fault:
         said = f"{command[0]} does not run: {fault}; {_HOW_TO_GET_IT}"
         raise ProgramMissing(said) from fault
+    except ValueError as fault:
+        # A zero byte, or half of a character.
+        raise UsageError(f"a word can't be that of a command line: {fault}") from fault
 
 
 def _wait(

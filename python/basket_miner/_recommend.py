@@ -1,10 +1,12 @@
 """Offers by rules."""
 
 import itertools
+import numbers
 import operator
 import os
 from collections import Counter, defaultdict
 from collections.abc import Hashable, Iterator
+from functools import cached_property
 from typing import Any, Literal
 
 import numpy as np
@@ -14,12 +16,13 @@ from ._baskets import Array, Baskets
 from ._columns import fractions_of, labels_column
 from ._data import Data
 from ._errors import DataError
-from ._frames import column_of, without_drop
+from ._frames import column_of, columns_of_key, without_drop
 from ._given_sets import itemsets_of
 from ._lists import each
+from ._keywords import Key
 from ._measures import measures
 from ._minimum import whole_of
-from ._numbering import numbered
+from ._numbering import by_text, numbered, together
 from ._ranks import FIGURES, best_first
 from ._rule_counts import RuleCounts, counts_of
 from ._tables import frame_of, is_table
@@ -35,7 +38,7 @@ def recommend(
     top: int = 5,
     by: Figure = "lift",
     *,
-    basket: Hashable | None = None,
+    basket: Key | None = None,
     item: Hashable | None = None,
     exact: bool = False,
 ) -> pd.DataFrame:
@@ -84,7 +87,7 @@ class Recommender:
         baskets: Data,
         top: int = 5,
         *,
-        basket: Hashable | None = None,
+        basket: Key | None = None,
         item: Hashable | None = None,
         exact: bool = False,
     ) -> pd.DataFrame:
@@ -97,6 +100,8 @@ class Recommender:
             if items not in known:
                 known[items] = self._index.offers(items, most)
             rows += [(name, *offer) for offer in known[items]]
+        if not rows:
+            self._index.refuse_other_types(set().union(*known))
         places = self._order[np.array([rank for *_, rank in rows], dtype=np.intp)]
         found = {
             "basket": labels_column([name for name, _, _ in rows]),
@@ -128,6 +133,7 @@ class _Index:
         left, right = (
             itemsets_of(rules, name) for name in ("antecedents", "consequents")
         )
+        self._sides = left, right
         self._consequents = [right[place] for place in order]
         ranks: dict[frozenset[Any], list[int]] = defaultdict(list)
         for rank, place in enumerate(order):
@@ -141,6 +147,20 @@ class _Index:
                 rarest = min(items, key=frequencies.__getitem__)
                 self._by_item[rarest].append((items, found))
 
+    @cached_property
+    def _types(self) -> dict[type, Any]:
+        return _types_of(set().union(*itertools.chain.from_iterable(self._sides)))
+
+    def refuse_other_types(self, items: set[Any]) -> None:
+        """Raises `DataError` if no item can be in a rule, since the rules' items are of other types."""
+        types, own = self._types, _types_of(items)
+        if types and own and types.keys().isdisjoint(own):
+            labels = [next(iter(side.values())) for side in (types, own)]
+            told = [f"{type(label).__name__}, as {label!r}" for label in labels]
+            raise DataError(
+                f"no item of the baskets is in a rule: the rules have {told[0]}, the baskets {told[1]}"
+            )
+
     def offers(self, items: frozenset[Any], top: int) -> list[tuple[Any, int]]:
         """The first items to offer to a basket, each with the rank of its rule."""
         speaking = [
@@ -153,15 +173,26 @@ class _Index:
         for rank in sorted(itertools.chain.from_iterable(speaking)):
             consequents = self._consequents[rank]
             if consequents.isdisjoint(items):
-                for label in sorted(consequents, key=str):
+                for label in by_text(consequents):
                     offers.setdefault(label, rank)
                 if len(offers) >= top:
                     break
         return [*offers.items()][:top]
 
 
+def _types_of(labels: set[Any]) -> dict[type, Any]:
+    """The types of labels, with one label of each; one type for all numbers and one for all texts, which may be equal."""
+    return {_type_of(label): label for label in by_text(labels)}
+
+
+def _type_of(label: Any) -> type:
+    plain = label.item() if isinstance(label, np.generic) else label
+    kinds: tuple[type, ...] = (str, numbers.Number)
+    return next((kind for kind in kinds if isinstance(plain, kind)), type(plain))
+
+
 def _baskets(
-    data: Data, basket: Hashable | None, item: Hashable | None
+    data: Data, basket: Key | None, item: Hashable | None
 ) -> Iterator[tuple[Hashable, frozenset[Any]]]:
     """The baskets with their names."""
     if is_table(data):
@@ -200,13 +231,14 @@ def _wide(frame: pd.DataFrame) -> Iterator[tuple[Hashable, frozenset[Any]]]:
 
 
 def _long(
-    frame: pd.DataFrame, basket: Hashable, item: Hashable
+    frame: pd.DataFrame, basket: Key, item: Hashable
 ) -> Iterator[tuple[Hashable, frozenset[Any]]]:
-    columns = [column_of(frame, name) for name in (basket, item)]
-    if any(column.isna().any() for column in columns):
-        raise DataError(f"columns {basket!r} and {item!r} have missing values")
-    places, names = numbered(columns[0], basket)
-    numbers, labels = numbered(columns[1], item)
+    keys = [*columns_of_key(basket), item]
+    if any(column_of(frame, name).isna().any() for name in keys):
+        told = " and ".join(map(repr, keys))
+        raise DataError(f"columns {told} have missing values")
+    *parts, (numbers, labels) = (numbered(column_of(frame, key), key) for key in keys)
+    places, names = together(parts)
     items: list[list[Any]] = [[] for _ in names]
     for place, label in zip(places.tolist(), map(labels.tolist().__getitem__, numbers)):
         items[place].append(label)

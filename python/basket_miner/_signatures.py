@@ -9,7 +9,7 @@ from typing import Any, Protocol
 import pandas as pd
 
 from ._baskets import Baskets, Labels
-from ._keywords import Form, Miner, Missing
+from ._keywords import Form, Key, Miner, Missing
 from ._minimum import Confidence, Minimum
 
 
@@ -20,7 +20,7 @@ class BasketsCall(Protocol):
         self,
         data: Any,
         *,
-        basket: Hashable | None = ...,
+        basket: Key | None = ...,
         item: Hashable | None = ...,
         weight: Hashable | None = ...,
         missing: Missing = ...,
@@ -42,7 +42,7 @@ class ItemsetsCall(Protocol):
         data: Any,
         minimum: Minimum,
         *,
-        basket: Hashable | None = ...,
+        basket: Key | None = ...,
         item: Hashable | None = ...,
         weight: Hashable | None = ...,
         missing: Missing = ...,
@@ -69,7 +69,7 @@ class SetsCall(Protocol):
         data: Any,
         minimum: Minimum,
         *,
-        basket: Hashable | None = ...,
+        basket: Key | None = ...,
         item: Hashable | None = ...,
         weight: Hashable | None = ...,
         missing: Missing = ...,
@@ -98,7 +98,7 @@ class RulesCall(Protocol):
         minimum: Minimum,
         confidence: Confidence,
         *,
-        basket: Hashable | None = ...,
+        basket: Key | None = ...,
         item: Hashable | None = ...,
         weight: Hashable | None = ...,
         missing: Missing = ...,
@@ -125,7 +125,7 @@ class CountCall(Protocol):
         data: Any,
         sets: pd.DataFrame | Iterable[Iterable[Hashable]],
         *,
-        basket: Hashable | None = ...,
+        basket: Key | None = ...,
         item: Hashable | None = ...,
         weight: Hashable | None = ...,
         missing: Missing = ...,
@@ -151,7 +151,7 @@ class MinimumsCall(Protocol):
         minimums: Iterable[Minimum],
         axes: Any = ...,
         *,
-        basket: Hashable | None = ...,
+        basket: Key | None = ...,
         item: Hashable | None = ...,
         weight: Hashable | None = ...,
         missing: Missing = ...,

@@ -5,6 +5,7 @@ import pandas as pd
 from ._columns import labels_column
 from ._errors import DataError
 from ._given_sets import demand_frame, itemsets_of
+from ._numbering import by_text
 
 _SIDES = {"antecedents": "antecedent", "consequents": "consequent"}
 
@@ -28,7 +29,7 @@ def tidy(frame: pd.DataFrame) -> pd.DataFrame:
         (row, side, item)
         for row, *itemsets in zip(range(len(frame)), *columns)
         for side, itemset in zip(sides.values(), itemsets)
-        for item in sorted(itemset, key=str)
+        for item in by_text(itemset)
     ]
     places = [row for row, _, _ in rows]
     items = [item for _, _, item in rows]

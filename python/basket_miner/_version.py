@@ -14,7 +14,8 @@ def _found() -> str:
         said = tomllib.loads(_SOURCE.read_text(encoding="utf-8")).get("project", {})
         if said.get("name") == _NAME:
             return str(said["version"])
-    return metadata.version(_NAME)
+    # An installer writes 1.2.0-dev as 1.2.0.dev0.
+    return metadata.version(_NAME).replace(".dev0", "-dev")
 
 
 __version__ = _found()

@@ -4,7 +4,6 @@ The frequent sets are found size by size: a set is counted if all its subsets wi
 frequent set that was missed would have a smallest missed one among its subsets, which would have been counted.
 """
 
-import math
 import random
 import re
 import time
@@ -14,6 +13,7 @@ from contextlib import suppress
 from fractions import Fraction
 from functools import reduce
 from itertools import chain, combinations, groupby, islice
+from math import ceil, inf
 from operator import and_
 from pathlib import Path
 from typing import Any, NamedTuple
@@ -26,6 +26,7 @@ Given = bytes | str | Path
 ASKS = ("items", "sets", "closed", "maximal", "rules")
 FORMS = ("fimi", "baskets", "single")
 SEPARATORS = dict(zip("comma semicolon tab pipe , ; \t |".split(" "), 2 * ",;\t|"))
+_QUESTION = f"ask is one of {ASKS}, form of {FORMS}, sep of {[*SEPARATORS]}; rules alone have a confidence"
 _MOST_NUMBER, _MOST_WEIGHT, _MOST_DRAWN = 2**32 - 1, 2**40 - 1, 1_000
 
 
@@ -52,10 +53,12 @@ def _number(digits: str, most: int, least: int = 0) -> int:
     return int(found[1])
 
 
-def _share(text: str) -> Fraction:
-    top, _, bottom = re.sub("%$", "/100", text).partition("/")
-    below = _number(bottom, _MOST_NUMBER, 1)
-    return Fraction(_number(top, below), below)
+def _share(text: str, what: str) -> Fraction:
+    found = re.fullmatch("([0-9]+)(?:%|/([0-9]+))", text)
+    top, below = (int(found[1]), int(found[2] or 100)) if found else (1, 0)
+    if not top <= below <= _MOST_NUMBER or below == 0:
+        raise ValueError(f"{text!r} is no {what}: a share is written as 20% or 1/5")
+    return Fraction(top, below)
 
 
 def _lines(text: str) -> Iterator[Basket]:
@@ -76,8 +79,7 @@ def _records(text: str, separator: str) -> Iterator[tuple[str, list[str]]]:
     for found in field.finditer(text):
         fields.append((found[1] or "").replace('""', '"') + found[2])
         if found[3] != separator:
-            written = text[start : found.end()]
-            if written.strip("\r\n"):
+            if (written := text[start : found.end()]).strip("\r\n"):
                 yield written, fields
             start, fields = found.end(), []
 
@@ -86,16 +88,17 @@ def _baskets(text: str, question: Question) -> tuple[list[Basket], list[str]]:
     """The baskets, and from CSV the names of their numbers."""
     if question.form == "fimi":
         return [*_lines(text)], []
-    numbers: dict[str, int] = {}
-    baskets: dict[str, Basket] = {}
-    records = islice(_records(text, SEPARATORS[question.sep]), question.header, None)
-    for place, (_, fields) in enumerate(records):
-        "".join(fields).encode()  # which fails if a field is not UTF-8
+    numbers, baskets = dict[str, int](), dict[str, Basket]()
+    records = enumerate(_records(text, SEPARATORS[question.sep]), 1)
+    for place, (written, fields) in islice(records, question.header, None):
+        if re.search("[\ud800-\udfff]", written):
+            raise ValueError(f"record {place}: field is not UTF-8")
         names = [field.strip(" \t") for field in fields]
         key, weight = str(place), 1
         if question.form == "single":
-            key, name, *_ = names  # which fails if there are fewer
-            names = [name]
+            if len(names) < 2:
+                raise ValueError(f"record {place}: fewer than two fields")
+            key, names = names[0], names[1:2]
         elif question.weighted:
             weight = _number(names.pop(0), _MOST_NUMBER, 1)
         for name in filter(None, names):
@@ -109,25 +112,24 @@ class Report:
 
     def __init__(self, text: str, question: Question) -> None:
         baskets, self.names = _baskets(text, question)
-        self.separator = SEPARATORS[question.sep] if question.form != "fimi" else ""
-        self.ask, self.confidence = question.ask, _share(question.confidence or "0/1")
+        self.ask, minimum, confidence, form, sep, *_ = question
+        self.separator, self.until = SEPARATORS[sep] if form != "fimi" else "", inf
+        self.confidence = _share(confidence or "0/1", "confidence")
         self.total = _number(str(sum(weight for _, weight in baskets)), _MOST_WEIGHT)
-        if question.minimum.isdigit():
-            least = _number(question.minimum, _MOST_WEIGHT, 1)
+        if minimum.isdigit():
+            self.least = _number(minimum, _MOST_WEIGHT, 1)
         else:
-            least = max(1, math.ceil(_share(question.minimum) * self.total))
-        self.least, self.until = least, math.inf
-        alone: Counter[int] = Counter()
+            self.least = max(1, ceil(_share(minimum, "minimum") * self.total))
+        one = Counter[int]()
         for items, weight in baskets:
-            alone.update(dict.fromkeys(items, weight))
-        self.known: Level = {(i,): n for i, n in sorted(alone.items()) if n >= least}
+            one.update(dict.fromkeys(items, weight))
+        self.known: Level = {(i,): n for i, n in sorted(one.items()) if n >= self.least}
         # Row ~b has the baskets whose weight has bit b.
         self.bits = range(max((n for _, n in baskets), default=0).bit_length())
         wanted = {*chain.from_iterable(self.known), *(~bit for bit in self.bits)}
         rows = {row: bytearray(len(baskets) // 8 + 1) for row in wanted}
         for place, (items, weight) in enumerate(baskets):
-            held = items.union(~bit for bit in self.bits if weight >> bit & 1)
-            for row in held & wanted:
+            for row in wanted & items.union(~b for b in self.bits if weight >> b & 1):
                 rows[row][place >> 3] |= 1 << (place & 7)
         self.rows = {row: int.from_bytes(held, "little") for row, held in rows.items()}
 
@@ -146,12 +148,10 @@ class Report:
         """The sets with one item more of which all subsets of the level's size are in it, and their counts."""
         for prefix, group in groupby(level, lambda items: items[:-1]):
             lasts, cover = [items[-1] for items in group], self.cover(prefix)
-            for place, one in enumerate(lasts):
-                shared = cover & self.rows[one]
-                for other in lasts[place + 1 :]:
-                    items = (*prefix, one, other)
-                    if level.keys() >= {*combinations(items, len(items) - 1)}:
-                        yield items, self.weight(shared & self.rows[other])
+            for one, other in combinations(lasts, 2):
+                items = (*prefix, one, other)
+                if level.keys() >= {*combinations(items, len(items) - 1)}:
+                    yield items, self.weight(cover & self.rows[one] & self.rows[other])
 
     def sides(self) -> Iterator[Sides]:
         """What each line is about, in order."""
@@ -174,11 +174,10 @@ class Report:
             self.known |= level
 
     def rules(self, union: Itemset) -> Iterator[Sides]:
-        for size in range(1, len(union)):
-            for right in combinations(union, size):
-                left = tuple(item for item in union if item not in right)
-                if Fraction(self.known[union], self.known[left]) >= self.confidence:
-                    yield left, right
+        for right in chain(*(combinations(union, n) for n in range(1, len(union)))):
+            left = tuple(item for item in union if item not in right)
+            if Fraction(self.known[union], self.known[left]) >= self.confidence:
+                yield left, right
 
     def text(self, sides: Sides) -> str:
         """A line with its figures, which are those of the baskets."""
@@ -201,18 +200,21 @@ class Report:
 
     def read(self, line: str) -> Sides:
         """What a line is about."""
+        is_rule, names = self.ask == "rules", self.names
         if not self.separator:
-            sides = line.partition(" (")[0].split(" => ")
-            return tuple(tuple(map(int, side.split())) for side in sides)
-        (_, fields), *_ = _records(line, self.separator)
-        is_rule = self.ask == "rules"
-        cut = 4 + int(fields[3]) if is_rule else len(fields)
-        parts = filter(None, (fields[1 + 3 * is_rule : cut], fields[cut:]))
-        return tuple(tuple(map(self.names.index, part)) for part in parts)
+            parts = [part.split() for part in line.partition(" (")[0].split(" => ")]
+        else:
+            fields = next(_records(line, self.separator))[1]
+            cut = 4 + int(fields[3]) if is_rule else len(fields)
+            parts = [fields[1 + 3 * is_rule : cut], fields[cut:]][: 1 + is_rule]
+        sides = [{names.index(i) if names else int(i) for i in part} for part in parts]
+        if len(sides) != 1 + is_rule or not all(sides) or (is_rule and and_(*sides)):
+            raise ValueError("neither a set nor a rule")
+        return tuple(tuple(sorted(side)) for side in sides)
 
     def draw(self, rest: str) -> str:
         """Looks at the figures of lines that are drawn at random."""
-        self.until = math.inf
+        self.until = inf
         lines = [line for line, _ in _records(rest, self.separator or "\0")]
         drawn = random.sample(lines, min(len(lines), _MOST_DRAWN))
         for line in drawn:
@@ -228,15 +230,13 @@ def _text(given: Given) -> str:
     return content.decode(errors="surrogateescape")
 
 
-def certify(
-    report: Given, baskets: Given, seconds: float = math.inf, **question: Any
-) -> str:
+def certify(report: Given, baskets: Given, seconds: float = inf, **asked: Any) -> str:
     """Says what was checked: all lines, or after so many seconds some that are drawn. Else raises `WrongReport`."""
-    shown, asked = _text(report), Question(**question)
-    is_known = asked.ask in ASKS and asked.form in FORMS and asked.sep in SEPARATORS
-    if not is_known or (asked.ask == "rules") != bool(asked.confidence):
-        raise ValueError(f"{asked} is not a question")
-    right = Report(_text(baskets).removeprefix("\ufeff"), asked)
+    shown, (ask, _, confidence, form, sep, *_) = _text(report), Question(**asked)
+    is_known = ask in ASKS and form in FORMS and sep in SEPARATORS
+    if not is_known or (ask == "rules") != bool(confidence):
+        raise ValueError(_QUESTION)
+    right = Report(_text(baskets).removeprefix("\ufeff"), Question(**asked))
     right.until, place, lines = time.monotonic() + seconds, 0, 0
     try:
         for line in map(right.text, right.sides()):

@@ -11,6 +11,10 @@ from typing import Any, Unpack
 
 import numpy as np
 import pandas as pd
+
+from ._extras import demand_package
+
+demand_package("matplotlib", "plot")
 from matplotlib.axes import Axes
 from matplotlib.lines import Line2D
 
@@ -127,6 +131,8 @@ def minimums(
             was made at a higher minimum, which it has as `frame.attrs["minimum"]`, a count.
         BasketError: as `basket_miner.sets` does.
     """
+    if not isinstance(minimums, Iterable):
+        raise DataError(f"minimums are several, as a list, not {minimums!r}")
     asked = sorted({exact_minimum(minimum) for minimum in minimums})
     if len({type(minimum) for minimum in asked}) != 1:
         raise DataError("minimums are counts alone or shares alone, and at least one")

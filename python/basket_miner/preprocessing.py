@@ -13,7 +13,7 @@ import numpy as np
 from ._baskets import Array
 from ._errors import DataError
 from ._lists import each
-from ._numbering import is_missing
+from ._numbering import in_order, is_missing
 
 
 class TransactionEncoder:
@@ -34,10 +34,7 @@ class TransactionEncoder:
             raise DataError(f"an item has a hash: {fault}") from fault
         if any(map(is_missing, found)):
             raise DataError("a transaction has a missing item")
-        try:
-            self.columns_ = sorted(found)
-        except TypeError:
-            self.columns_ = sorted(found, key=str)
+        self.columns_ = in_order(found)
         self.columns_mapping_ = {item: at for at, item in enumerate(self.columns_)}
         return self
 
@@ -65,7 +62,11 @@ class TransactionEncoder:
 
     def inverse_transform(self, array: Any) -> list[list[Any]]:
         """The transactions of a table, each by its columns."""
-        rows = array.tocsr().toarray() if hasattr(array, "tocsr") else np.asarray(array)
+        try:
+            is_sparse = hasattr(array, "tocsr")
+            rows = array.tocsr().toarray() if is_sparse else np.asarray(array)
+        except ValueError as fault:
+            raise DataError(f"the rows of a table are of one length: {fault}") from None
         if rows.ndim != 2 or rows.shape[1] != len(self._fitted()):
             raise DataError(
                 f"a table has a column for each of {len(self.columns_)} items"

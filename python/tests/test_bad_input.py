@@ -1,7 +1,6 @@
 """What is refused, with the exception's type and what it says."""
 
 import io
-import warnings
 from collections.abc import Callable, Iterator
 from pathlib import Path
 from typing import Any
@@ -78,6 +77,11 @@ def test_a_matrix_that_names_a_place_twice_is_refused() -> None:
     refused("name 'a' stands twice", scipy.sparse.eye(2), names=["a", "a"])
 
 
+@pytest.mark.parametrize("names", [{"a", "b"}, frozenset("ab"), "ab", 5])
+def test_names_of_columns_have_an_order(names: Any) -> None:
+    refused("names= are the labels .* in their order", scipy.sparse.eye(2), names=names)
+
+
 def test_a_frame_of_quantities_and_one_by_its_index_say_what_to_give() -> None:
     refused("is given as frame > 0", pd.DataFrame({"tea": [0, 2], "jam": [1, 1]}))
     refused("an index: give frame.reset_index", ROWS.set_index("receipt"), **LONG)
@@ -102,6 +106,12 @@ def test_words_of_the_work_are_refused_as_python_has_them(
     with pytest.raises(miner.UsageError, match=said) as caught:
         miner.sets([["tea"]], 1, **options)
     assert not hasattr(caught.value, "__notes__")
+
+
+def test_nothing_for_the_number_of_workers_is_its_default() -> None:
+    given: Any = {"workers": None}
+    assert len(miner.sets([["tea"]], 1, **given)) == 1
+    assert len(miner.count([["tea"]], [["tea"]], **given)) == 2
 
 
 def test_columns_that_are_missing_or_stand_twice_are_refused() -> None:
@@ -198,23 +208,6 @@ def test_what_is_no_iterable_of_baskets_is_refused(said: str, data: object) -> N
     refused(said, data)
 
 
-@pytest.mark.parametrize("kind", [tuple, list])
-def test_rows_of_an_id_and_an_item_bring_a_warning(kind: Callable[..., Any]) -> None:
-    rows = [*map(kind, [(1, "tea"), (1, "jam"), (2, "tea")])]
-    with pytest.warns(UserWarning, match=r"as \[1, 'tea'\], .* basket= and item="):
-        miner.sets(rows, 1)
-
-
-@pytest.mark.parametrize(
-    "baskets",
-    [[["tea", "jam"]], [["tea", "jam"], ["jam", "tea"]], [[0, 1], [1, 0]], [[0], [1]]],
-)
-def test_baskets_of_two_items_bring_none(baskets: Any) -> None:
-    with warnings.catch_warnings():
-        warnings.simplefilter("error")
-        assert len(miner.sets(baskets, 1)) > 1
-
-
 def test_items_without_a_hash_are_refused() -> None:
     rows = pd.DataFrame({"receipt": [1], "product": [["tea", "jam"]]})
     refused("'product' has values without a hash", rows, **LONG)
@@ -249,6 +242,7 @@ def test_keywords_that_do_not_fit_are_refused(said: str, options: Any) -> None:
         ("weighted= does not go", "shop.csv", {"form": "single", "weighted": True}),
         ("item= does not go with a path", "shop.dat", {"item": "product"}),
         ("zero byte", "shop\0.dat", {}),
+        ("can't have this character", "\ud800.dat", {}),
     ],
 )
 def test_words_of_a_path_that_do_not_fit_are_refused(
@@ -283,6 +277,8 @@ def test_a_home_folder_that_nobody_has_is_a_file_that_is_not_there() -> None:
         (lambda _: miner.sets("none.dat", 1), miner.FileError, "cannot open none.dat"),
         (lambda _: miner.sets([["a", "b"]], 1, limit=2), miner.TooManySets, "than 2"),
         (lambda _: miner.sets([["a"]], "1.5"), miner.UsageError, "value for --min"),
+        (lambda _: miner.sets([["a"]], "1\0"), miner.UsageError, "a word can't be"),
+        (lambda _: miner.sets([["a"]], "\ud800"), miner.UsageError, "a word can't be"),
         (lambda _: miner.sets([["a"]], 1, workers=65), miner.UsageError, "workers"),
     ],
 )

@@ -225,3 +225,43 @@ def test_values_of_a_column_of_objects_come_back_as_they_were_given(
     back = [item for itemset in found["itemsets"] for item in itemset]
     assert list(map(type, back)) == list(map(type, labels))
     assert list(map(repr, back)) == list(map(repr, labels))
+
+
+def test_a_basket_may_have_an_id_of_several_columns() -> None:
+    chance = random.Random(5)
+    stores, months = ["east", "west", 3], [1.5, 2.0]
+    shop: dict[tuple[Any, ...], list[str]] = {}
+    rows = [
+        (chance.choice(stores), chance.randint(1, 9), chance.choice(months), item)
+        for item in chance.choices(GOODS, k=150)
+    ]
+    for *key, item in rows:
+        shop.setdefault(tuple(key), []).append(item)
+    frame = pd.DataFrame(rows, columns=["store", "receipt", "month", "product"])
+    keys = ["store", "receipt", "month"]
+    known = brute.frequent([*shop.values()], LEAST)
+    found = miner.sets(frame, LEAST, basket=keys, item="product")
+    assert dict(pairs(found)) == dict(known)
+    weighed = frame.assign(times=2)
+    found = miner.sets(weighed, 2 * LEAST, basket=keys, item="product", weight="times")
+    assert dict(pairs(found)) == {itemset: 2 * count for itemset, count in known}
+    # One column in a list is that column.
+    one = miner.sets(frame, LEAST, basket=["receipt"], item="product")
+    assert one.equals(miner.sets(frame, LEAST, basket="receipt", item="product"))
+
+
+def test_gaps_in_an_id_of_several_columns_are_refused_or_dropped() -> None:
+    frame = pd.DataFrame(
+        {"s": ["a", "a", None], "r": [1, None, 1], "p": ["tea", "jam", "tea"]}
+    )
+    options: Any = {"basket": ["s", "r"], "item": "p"}
+    for said, given in (
+        ("'s' has missing values", frame),
+        ("'r' has missing values", frame.head(2)),
+        ("no column 's'", frame[["r", "p"]]),
+    ):
+        with pytest.raises(miner.DataError, match=said):
+            miner.sets(given, 1, **options)
+    assert pairs(miner.sets(frame, 1, missing="drop", **options)) == [({"tea"}, 1)]
+    with pytest.raises(miner.DataError, match="this list is empty"):
+        miner.sets(frame, 1, basket=[], item="p")

@@ -137,6 +137,21 @@ def test_after_the_given_time_lines_are_drawn_and_a_wrong_count_is_seen() -> Non
                 certify(one_higher(report, last), content, 0, **question)
 
 
+def test_a_drawn_line_is_compared_with_the_text_that_it_should_have() -> None:
+    rules = b"1 => 2 (7) 7/10 7/8\n"
+    rows: list[tuple[bytes, bytes, Question]] = [
+        (CLOSED, b"2 1 (7)", {"ask": "closed"}),
+        (CLOSED, b"1 1 2 (7)", {"ask": "closed"}),
+        (CLOSED, b" (15)", {"ask": "closed"}),
+        (CLOSED, b"1 => 2 (7) 7/10 7/8", {"ask": "closed"}),
+        (rules, b"1 => 1 (10) 1/1 3/2", {"ask": "rules", "confidence": "2/3"}),
+        (rules, b"1 2 (7)", {"ask": "rules", "confidence": "2/3"}),
+    ]
+    for report, line, question in rows:
+        with pytest.raises(WrongReport):
+            certify(report + line + b"\n", SHOP, 0, minimum="5", **question)
+
+
 def test_the_report_that_readme_shows_passes_and_other_questions_have_another() -> None:
     said = "all 5 lines are right, without a gap"
     assert certify(CLOSED, SHOP, ask="closed", minimum="1/3") == said
@@ -216,6 +231,48 @@ def test_the_command_says_what_it_checked_or_what_is_wrong(
     file.write_bytes(CLOSED.replace(b"12", b"13"))
     assert main(words) == 1
     assert capsys.readouterr().err == "line 2 should be '2 (12)\\n'\n"
+
+
+def test_the_command_ends_with_3_if_not_all_is_checked_whatever_line_is_missing(
+    tmp_path: Path, capsys: pytest.CaptureFixture[str]
+) -> None:
+    file = tmp_path / "report"
+    words = ["certify", str(file), str(SHOP), "closed", "--min", "1/3", "--seconds=0"]
+    lines = CLOSED.splitlines(keepends=True)
+    for lost in range(3, len(lines) + 1):
+        file.write_bytes(b"".join(lines[:lost] + lines[lost + 1 :]))
+        assert main(words) == 3
+        assert "were drawn and have right figures" in capsys.readouterr().out
+
+
+def test_a_bad_question_or_file_ends_with_2_and_is_told_in_words(
+    tmp_path: Path, capsys: pytest.CaptureFixture[str]
+) -> None:
+    report, baskets = tmp_path / "report", tmp_path / "baskets"
+    report.write_bytes(b"")
+    baskets.write_bytes(b"1,bread\n2\n")
+    single = ["sets", "--min=1", "--form=single"]
+    shares = "a share is written as 20% or 1/5"
+    rows = (
+        (["sets", "--min=0.2"], f"'0.2' is no minimum: {shares}"),
+        (["sets", "--min=120%"], f"'120%' is no minimum: {shares}"),
+        (
+            ["rules", "--min=1", "--conf=0.5"],
+            f"'0.5' is no confidence: {shares}",
+        ),
+        (["rules", "--min=1"], "rules alone have a confidence"),
+        (single, "record 2: fewer than two fields"),
+    )
+    for words, said in rows:
+        assert (
+            main(["certify", str(report), str(baskets), "--form=baskets", *words]) == 2
+        )
+        assert capsys.readouterr().err.endswith(f"{said}\n")
+    baskets.write_bytes(b"1,\xff\n")
+    assert main(["certify", str(report), str(baskets), *single]) == 2
+    assert capsys.readouterr().err == "record 1: field is not UTF-8\n"
+    assert main(["certify", str(report), "nowhere", *single]) == 2
+    assert capsys.readouterr().err == "nowhere: No such file or directory\n"
 
 
 def test_the_check_has_no_code_but_its_own_and_of_the_standard_library() -> None:

@@ -47,6 +47,20 @@ def test_ids_that_are_equal_are_one_basket_whatever_their_types(client: Client) 
     assert rows_of(cluster.sets(cut_up, 1, client=client, **COLUMNS)) == PAIR
 
 
+def test_a_basket_may_have_an_id_of_several_columns(client: Client) -> None:
+    chance = random.Random(3)
+    rows = [
+        (chance.choice(["east", "west"]), chance.randint(1, 9), chance.choice("abc"))
+        for _ in range(80)
+    ]
+    frame = pd.DataFrame(rows, columns=["store", "receipt", "product"])
+    options: Any = {"basket": ["store", "receipt"], "item": "product"}
+    wanted = rows_of(basket_miner.sets(frame, 2, **options))
+    cut_up = from_pandas(frame, npartitions=4, sort=False)
+    found = rows_of(cluster.sets(cut_up, 2, client=client, **options))
+    assert found == wanted and len(found) > 3
+
+
 def test_months_of_ids_of_two_types_are_put_together(client: Client) -> None:
     months = [
         pd.DataFrame({"receipt": np.arange(40), "product": "tea"}),
@@ -84,6 +98,20 @@ def test_labels_that_are_not_equal_to_their_copies_come_back(client: Client) -> 
         assert found["count"].tolist() == [2, 2, 1]
         sizes = [sorted(map(str, itemset)) for itemset in found["itemsets"]]
         assert sizes == [[str(gap)], ["tea"], [str(gap), "tea"]]
+
+
+def test_a_label_that_one_part_has_twice_has_the_number_of_the_first(
+    client: Client,
+) -> None:
+    # On their way to a worker the tuples of two baskets become two, which are not equal.
+    gap = ("a", np.nan)
+    shop: list[list[Any]] = [[gap, "tea"], [gap], ["tea", "milk"], [gap]]
+    bag = from_sequence(shop, npartitions=1)
+    found, wanted = cluster.sets(bag, 1, client=client), basket_miner.sets(shop, 1)
+    assert rows_of(found)[0][1] == 3
+    for frame in (found, wanted):
+        frame["itemsets"] = frame["itemsets"].map(lambda it: sorted(map(str, it)))
+    assert rows_of(found) == rows_of(wanted)
 
 
 @pytest.mark.parametrize(

@@ -4,6 +4,7 @@
 import contextlib
 import os
 import random
+import re
 import signal
 import threading
 import time
@@ -21,6 +22,8 @@ from basket_miner._program import find, run
 SHOP = Path(__file__).parents[2] / "examples/shop.dat"
 PARTS = 7
 SECONDS = 60
+# A run that counts sets which another found.
+COUNT = r"count .*--sets=/dev/fd/"
 
 
 def told(log: Path) -> list[tuple[int, str]]:
@@ -31,10 +34,10 @@ def told(log: Path) -> list[tuple[int, str]]:
 
 
 def kill_one(log: Path, step: str, number: int, killed: list[int]) -> None:
-    """Kills the worker process that begins the run of this number with these words."""
+    """Kills the worker process that begins the run of this number with words that begin so."""
     until = time.monotonic() + SECONDS
     while time.monotonic() < until and not killed:
-        begun = [process for process, words in told(log) if words.startswith(step)]
+        begun = [process for process, words in told(log) if re.match(step, words)]
         workers = [process for process in begun if process != os.getpid()]
         if len(workers) >= number:
             os.kill(workers[number - 1], signal.SIGKILL)
@@ -64,7 +67,7 @@ def losing(step: str, number: int, folder: Path) -> Iterator[Client]:
 
 
 # In the second pass, when the worker has sets of the first, and at the question to the sums.
-@pytest.mark.parametrize(("step", "number"), [("count --sets /", 5), ("rules", 1)])
+@pytest.mark.parametrize(("step", "number"), [(COUNT, 5), ("rules", 1)])
 def test_a_killed_worker_changes_no_byte(
     step: str, number: int, tmp_path: Path
 ) -> None:
@@ -86,7 +89,7 @@ def test_a_bag_of_sets_keeps_its_numbers_where_a_worker_is_killed(
     names = [f"item {number}" for number in range(12)]
     baskets = [set(source.sample(names, 6)) for _ in range(70)]
     bag = from_sequence(baskets, npartitions=PARTS)
-    with losing("count --sets /", 5, tmp_path) as client:
+    with losing(COUNT, 5, tmp_path) as client:
         found = cluster.sets(bag, "20%", client=client)
     wanted = brute.frequent([list(basket) for basket in baskets], 14)
     assert len(wanted) > 50

@@ -147,6 +147,12 @@ def test_no_rule_is_a_page_too(browser: webdriver.Chrome, tmp_path: Path) -> Non
     [
         ("not None", DataError, lambda found, _: explore(found, None)),  # type: ignore[arg-type]
         ("it is a folder", FileError, explore),
+        (
+            "name too long",
+            FileError,
+            lambda found, at: explore(found, at / ("x" * 300)),
+        ),
+        ("no zero byte", FileError, lambda found, at: explore(found, at / "a\0b")),
         ("no folder", FileError, lambda found, at: explore(found, at / "a/b.html")),
         ("not list", DataError, lambda _, at: explore([1], at / "rules.html")),
     ],

@@ -11,6 +11,7 @@ import pytest
 from selenium import webdriver
 from selenium.webdriver.common.by import By
 from selenium.webdriver.common.keys import Keys
+from selenium.webdriver.support.wait import WebDriverWait
 
 from basket_miner import explore, rules
 from browser import at, rows, until
@@ -85,6 +86,36 @@ def test_what_is_shown_is_saved_as_csv(
     assert {tuple(row[1:7]) for row in table[1:]} == {
         ("tea", "1", "1", "3", "3", "0.3333333333333333")
     }
+
+
+def test_names_that_a_spreadsheet_takes_for_formulas_are_text_in_csv(
+    browser: webdriver.Chrome, tmp_path: Path
+) -> None:
+    marks = "=+-@"
+    found = rules([[f"{mark}1" for mark in marks]], 1, 0.5)
+    browser.get(explore(found, tmp_path / "rules.html").as_uri())
+    text = browser.execute_async_script(
+        "csvOf(shown).then((blob) => blob.text()).then(arguments[0])"
+    )
+    table = [*csv.reader(io.StringIO(text.removeprefix("\ufeff")))]
+    sides = [side for row in table[1:] for side in row[:2]]
+    assert {side[:2] for side in sides} == {f"'{mark}" for mark in marks}
+    at(browser, "save-shown").click()
+    WebDriverWait(browser, 30).until(lambda _: "apostrophe" in at(browser, "done").text)
+
+
+def test_100_percent_and_a_lift_of_1_are_these_values_alone(
+    shop: webdriver.Chrome,
+) -> None:
+    script = "return arguments[0].map((value) => [percent(value), short(value)])"
+    found = shop.execute_script(script, [1, 2999 / 3000, 0.9997, 1.0004, 0.5])
+    assert found == [
+        ["100%", "1.00"],
+        ["99.97%", "0.9997"],
+        ["99.97%", "0.9997"],
+        ["100.04%", "1.0004"],
+        ["50.0%", "0.500"],
+    ]
 
 
 def test_a_phone_shows_the_lift_and_the_confidence(shop: webdriver.Chrome) -> None:

@@ -3,6 +3,7 @@
 import os
 import subprocess
 import sys
+import tempfile
 import threading
 from collections.abc import Callable
 from pathlib import Path
@@ -11,7 +12,8 @@ from typing import Any
 import pytest
 
 import basket_miner as miner
-from basket_miner import _calls, _program
+from basket_miner import _calls, _levels, _program
+from basket_miner.cluster import _passes
 
 SHOP = Path(__file__).parents[2] / "examples/shop.dat"
 # Of its three baskets two have a.
@@ -34,6 +36,26 @@ def test_a_named_pipe_is_read_once_and_gives_report_and_shares(tmp_path: Path) -
         writer.join(SECONDS)
         rows = found[["itemsets", "count", "support"]].to_numpy().tolist()
         assert rows == [[{"a"}, 2, 2 / 3]]
+
+
+def test_no_question_writes_a_temporary_file(
+    monkeypatch: pytest.MonkeyPatch, tmp_path: Path
+) -> None:
+    # A file that is written on a disk stays there if a signal ends Python.
+    monkeypatch.setattr(tempfile, "tempdir", "/nowhere")
+    assert miner.count([["a", "b"], ["a"]], [["a"]])["count"].tolist() == [2, 2]
+    records = tmp_path / "records"
+    records.write_bytes(RECORDS)
+    found = miner.count(records, [["a"], ["c"]], form="baskets")
+    assert found["count"].tolist() == [3, 2, 1]
+    monkeypatch.setattr(_levels, "_FEW", 2)
+    pairs = miner.sets(SHOP, 7, max_items=2).iloc[3:]
+    assert pairs["itemsets"].tolist() == [{1, 2}]
+    with subprocess.Popen(["printf", "1 2\n1\n"], stdout=subprocess.PIPE) as made:
+        assert made.stdout
+        found = miner.sets(f"/dev/fd/{made.stdout.fileno()}", 2)
+    assert found["count"].tolist() == [2]
+    assert _passes._counted(b"1 2\n1\n", "part 1", b"1\n", []) == b"(2)\n1 (2)\n"
 
 
 def printed(script: str, **options: Any) -> str:
@@ -78,6 +100,21 @@ except miner.FileError as fault:
     print(fault)
 """
     assert printed(script).startswith("cannot read /dev/stdin: ")
+
+
+def test_sets_are_counted_where_no_standard_stream_is_open(tmp_path: Path) -> None:
+    told = tmp_path / "told"
+    script = f"""
+import os
+from pathlib import Path
+for stream in range(3):
+    os.close(stream)
+found = miner.count([["a", "b"], ["a"]], [["a"], ["b"]])
+Path({str(told)!r}).write_text(str(found["count"].tolist()))
+os._exit(0)
+"""
+    printed(script)
+    assert told.read_text() == "[2, 2, 1]"
 
 
 def test_a_file_that_grows_between_the_two_runs_is_refused(

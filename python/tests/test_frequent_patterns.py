@@ -329,6 +329,10 @@ def test_rules_at_a_threshold_are_those_of_brute_force(metric: str) -> None:
             lambda: association_rules(FRAME, metric="cosine"),
         ),
         (
+            "return_metrics are names of measures, not 5",
+            lambda: association_rules(FRAME, return_metrics=5),  # type: ignore[arg-type]
+        ),
+        (
             "metric 'cosine' is none of",
             lambda: association_rules(FRAME, return_metrics=["cosine"]),
         ),

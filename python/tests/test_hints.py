@@ -108,6 +108,16 @@ def test_records_without_two_fields_and_counts_without_a_total_say_what_is_missi
     ]
 
 
+def test_a_file_in_another_encoding_says_how_to_read_it(tmp_path: Path) -> None:
+    path = tmp_path / "shop.csv"
+    path.write_bytes("r1,thé\n".encode("cp1252"))
+    _, said, notes = refused(miner.sets, path, 1, form="single")
+    assert said == "basket: record 1: field is not UTF-8"
+    assert [note.partition(":")[0] for note in notes] == [
+        "The file has another encoding, often Windows-1252"
+    ]
+
+
 def test_a_file_that_cannot_be_opened_or_read_says_where_to_look(
     tmp_path: Path,
 ) -> None:

@@ -109,3 +109,18 @@ else:
     assert False
 """
     subprocess.run([sys.executable, "-c", code], check=True, cwd=PACKAGE)
+
+
+@pytest.mark.parametrize(
+    ("package", "name"), [("distributed", "cluster"), ("matplotlib", "plot")]
+)
+def test_a_module_whose_package_is_not_here_says_what_brings_it(
+    package: str, name: str
+) -> None:
+    for code in (f"from basket_miner import {name}", f"import basket_miner.{name}"):
+        code = f"import sys; sys.modules[{package!r}] = None\n{code}"
+        words = [sys.executable, "-c", code]
+        ended = subprocess.run(words, cwd=PACKAGE, stderr=subprocess.PIPE, text=True)
+        last = ended.stderr.splitlines()[-1]
+        assert last.startswith(f"ModuleNotFoundError: no package {package!r} is here")
+        assert f"basket-miner[{name}]" in last

@@ -11,7 +11,13 @@ import pandas as pd
 import pytest
 
 from basket_miner import DataError, UsageError, baskets, plot, rules, sets
-from basket_miner._minimum import confidence_word, minimum_of, word_of
+from basket_miner._minimum import (
+    confidence_word,
+    exact_minimum,
+    least_count,
+    minimum_of,
+    word_of,
+)
 
 
 WEIGHED = pd.DataFrame({"r": range(3), "p": [*"abc"], "w": [4 * 10**9, 123, 55]})
@@ -47,7 +53,8 @@ def test_an_int_is_a_count_and_a_fraction_a_share() -> None:
 
 
 def test_zero_and_one_are_shares_as_a_confidence() -> None:
-    assert (confidence_word(0), confidence_word(1)) == ("0/1", "1/1")
+    wholes: list[Any] = [0, 1, "0", "1"]
+    assert [*map(confidence_word, wholes)] == ["0/1", "1/1"] * 2
 
 
 @pytest.mark.parametrize(
@@ -136,18 +143,45 @@ def test_a_confidence_of_many_digits_is_met_by_what_is_not_below_it() -> None:
         assert {*rules(shop, 1, share)["confidence"]} == {1 / 3, 1.0}
 
 
-def test_a_computed_float_is_the_fraction_that_it_rounds() -> None:
+def least(minimum: Any, total: int) -> int:
+    return least_count(exact_minimum(minimum), total)
+
+
+def test_a_computed_share_is_met_by_the_count_that_it_was_computed_of() -> None:
     chance = random.Random(7)
-    for most in (10, 1000, 10**6, 2**26):
-        for _ in range(300):
+    for most in (10, 1000, 10**6, 2**26, 2**40):
+        for _ in range(3000):
             total = chance.randint(1, most)
-            share = Fraction(chance.randint(0, total), total)
-            wanted = f"{share.numerator}/{share.denominator}"
-            assert minimum_word(share.numerator / share.denominator) == wanted
-    steps = [minimum_word(float(step)) for step in np.arange(0.01, 0.1, 0.01)]
-    assert [Fraction(step) for step in steps] == [
-        Fraction(n, 100) for n in range(1, 10)
-    ]
+            count = chance.randint(1, total)
+            assert least(count / total, total) == count
+            assert least(Decimal(count) / total, total) == count
+    steps = [least(float(step), 100) for step in np.arange(0.01, 0.1, 0.01)]
+    assert steps == [*range(1, 10)]
+    heavy = WEIGHED.assign(w=[69_999_996, 3, 2])
+    found = sets(heavy, 3 / 70_000_001, basket="r", item="p", weight="w")
+    assert found["count"].tolist() == [69_999_996, 3]
+
+
+def test_a_typed_share_is_exact_however_many_baskets_there_are() -> None:
+    chance = random.Random(7)
+    for digits in range(1, 12):
+        for _ in range(300):
+            total, part = chance.randint(2**26, 2**40), chance.randint(
+                1, 10**digits
+            )
+            # Rounded upwards, in whole numbers.
+            wanted = -(-part * total // 10**digits)
+            for text in (f"{part}e-{digits}", f"{part}/{10**digits}"):
+                assert least(text, total) == wanted
+            assert least(float(f"{part}e-{digits}"), total) == wanted
+            assert least(Decimal(part).scaleb(-digits), total) == wanted
+
+
+def test_a_computed_confidence_is_met_by_the_rule_that_has_it() -> None:
+    # Of 70,000,001 baskets with a three have b.
+    shop = pd.DataFrame({"r": [1, 2, 2], "p": ["a", "a", "b"], "w": [69_999_998, 3, 3]})
+    found = rules(shop, 1, 3 / 70_000_001, basket="r", item="p", weight="w")
+    assert {*found["confidence"]} == {3 / 70_000_001, 1.0}
 
 
 def test_a_decimal_is_a_share() -> None:
@@ -155,4 +189,3 @@ def test_a_decimal_is_a_share() -> None:
         minimum_word(Decimal("0.005")) == confidence_word(Decimal("0.005")) == "1/200"
     )
     assert minimum_word(Decimal(1)) == "1/1"
-    assert minimum_word(Decimal(1) / Decimal(3)) == "1/3"

@@ -5,6 +5,7 @@ import subprocess
 import sys
 from fractions import Fraction
 from pathlib import Path
+from typing import Any
 
 import matplotlib
 import numpy as np
@@ -181,6 +182,12 @@ def test_frames_and_minimums_that_cannot_be_drawn_are_refused() -> None:
         plot.strongest(RULES.drop(columns="lift"))
     with pytest.raises(DataError, match="at least 1"):
         plot.strongest(RULES, most=0)
+    figure: Any = matplotlib.pyplot.figure()
+    with pytest.raises(DataError, match="axes are those of matplotlib, not Figure"):
+        plot.rules(RULES, figure)
+    for none in (None, 5):
+        with pytest.raises(DataError, match=f"minimums are several, .* not {none}"):
+            plot.minimums(RULES, none)  # type: ignore[arg-type]
     frame = sets(map(list, BASKETS), "25%")
     for minimum in (2, 0.2):
         with pytest.raises(DataError, match="in 3 baskets or more"):

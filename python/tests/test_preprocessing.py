@@ -83,6 +83,7 @@ def test_items_stand_once_in_ascending_order_or_that_of_their_texts() -> None:
         ("a missing item", lambda new: new.fit([["tea", np.nan]])),
         ("iterable of items, not 'tea'", lambda new: new.fit(["tea"])),
         ("an item has a hash", lambda new: new.fit([[["tea"]]])),
+        ("of one length", lambda new: new.fit(DATASET).inverse_transform([[1], []])),
         ("each of 1 items", lambda new: new.fit([["tea"]]).inverse_transform([[1, 0]])),
     ],
 )

@@ -26,6 +26,7 @@ from basket_miner import (
     TooManySets,
     UsageError,
     __version__,
+    _ending,
     _program,
     count,
     sets,
@@ -67,6 +68,26 @@ def test_the_first_of_four_places_is_taken(
     assert found == [True] * 4
     with pytest.raises(ProgramMissing, match="make wheel"):
         _program.find()
+
+
+@pytest.mark.parametrize("first", [".", ""])
+def test_a_program_in_the_current_folder_is_none_on_the_path(
+    monkeypatch: pytest.MonkeyPatch, tmp_path: Path, first: str
+) -> None:
+    own, real = tmp_path / "own", script(tmp_path / "p/basket", "")
+    for name in ("basket", "setpriv"):
+        script(own / name, f"touch {tmp_path}/ran")
+    monkeypatch.setattr(_program, "_PACKAGE", tmp_path)
+    monkeypatch.setenv("PATH", f"{first}:{real.parent}:/bin:/usr/bin")
+    monkeypatch.delenv("BASKET", raising=False)
+    monkeypatch.chdir(own)
+    assert _program.find() == real
+    _program._guard.__wrapped__()
+    assert not (tmp_path / "ran").exists()
+    monkeypatch.setenv("BASKET", "basket")
+    assert _program.find() == real
+    monkeypatch.setenv("BASKET", "./basket")
+    assert _program.find() == Path("./basket")
 
 
 def test_a_wrong_name_of_the_program_is_told(monkeypatch: pytest.MonkeyPatch) -> None:
@@ -229,6 +250,14 @@ def test_a_task_that_is_cancelled_ends_its_program(
         # It waits for the thread, which waits for the program.
         asyncio.run(given_up())
     assert not is_running(told_by(tmp_path / "id"))
+
+
+def test_names_of_ended_questions_are_forgotten_in_time() -> None:
+    before = len(_ending._ENDED)
+    for number in range(5000):
+        _ending.end(f"question {number}")
+    assert "question 4999" in _ending._ENDED
+    assert len(_ending._ENDED) < before + 5000
 
 
 @pytest.fixture

@@ -124,6 +124,20 @@ def test_all_forms_of_baskets_get_the_same_offers() -> None:
         pd.testing.assert_frame_equal(found, wanted)
 
 
+def test_offers_to_baskets_of_several_columns_have_their_values() -> None:
+    shop = pd.DataFrame(
+        {"store": ["a", "b", "b"], "r": [1, 1, 1], "p": ["tea", "tea", "milk"]}
+    )
+    found = recommend(SHOP, shop, 1, basket=["store", "r"], item="p")
+    # Who has tea gets milk; who has both gets butter, of the rule of tea and milk.
+    assert found[["basket", "item"]].to_numpy().tolist() == [
+        [("a", 1), "milk"],
+        [("b", 1), "butter"],
+    ]
+    with pytest.raises(DataError, match="'store' and 'r' and 'p' have missing values"):
+        recommend(SHOP, shop.replace("a", None), basket=["store", "r"], item="p")
+
+
 @pytest.mark.parametrize("labels", [["x", "y"], [("x", 1), ("y", 2)], [7, 7]], ids=str)
 def test_offers_to_a_series_have_the_labels_of_its_index(labels: list[Any]) -> None:
     index = pd.Index(labels, tupleize_cols=labels[0] == ("x", 1))
@@ -169,6 +183,24 @@ def test_no_rule_and_no_basket_make_no_offer() -> None:
     for found, shop in ((SHOP.head(0), [["tea"]]), (SHOP, none), (SHOP, [["figs"]])):
         offers = recommend(found, shop)
         assert list(offers.columns) == COLUMNS and offers.empty
+
+
+def test_items_of_another_type_than_the_rules_have_are_refused() -> None:
+    learnt = rules([["101", "102"], ["102"]], 1, 0.1)
+    till = pd.DataFrame({"r": [1], "p": [101]})
+    said = "the rules have str, as '102', the baskets int, as 101"
+    with pytest.raises(DataError, match=said):
+        recommend(learnt, till, basket="r", item="p")
+    wide = pd.DataFrame({101: [True], 102: [False]})
+    for given in (till.assign(r=1.5), wide, [[101], []], [[101, 5.0]]):
+        columns: Any = {"basket": "r", "item": "p"} if "p" in given else {}
+        with pytest.raises(DataError, match="the rules have str"):
+            recommend(learnt, given, **columns)
+    with pytest.raises(DataError, match="the rules have int, as 2, the baskets str"):
+        recommend(rules([[1, 2]], 1, 0.1), [["1"]])
+    # Here an item may be in a rule, or some are.
+    assert recommend(rules([[1, 2]], 1, 0.1), [[np.int64(7)], [2.5]]).empty
+    assert recommend(learnt, [["103"]]).empty and len(recommend(learnt, [["101", 5]]))
 
 
 @pytest.mark.parametrize(

@@ -4,11 +4,12 @@ import os
 import subprocess
 import sys
 import zipfile
-from importlib import metadata
+from importlib import import_module, metadata
 from pathlib import Path
 
 import pytest
 
+import basket_miner
 from basket_miner import FileError, __version__, _program, page
 
 ROOT = Path(__file__).parents[2]
@@ -77,9 +78,37 @@ def test_a_wheel_has_the_program_and_needs_nothing_of_the_repository(
     assert said == "<title>basket</title>\n"
 
 
+def test_a_wheel_brings_the_command_which_is_the_program(
+    wheel: Path, tmp_path: Path
+) -> None:
+    python = fresh(tmp_path / "fresh")
+    output_of(python, *PIP, wheel, folder=tmp_path)
+    command = python.with_name("basket")
+    assert output_of(command, "--version", folder=tmp_path) == f"basket {__version__}\n"
+    shop = tmp_path / "shop.dat"
+    shop.write_text("1 2\n1\n")
+    assert output_of(command, "sets", "--min=2", shop, folder=tmp_path) == "1 (2)\n"
+    words = [str(command), "sets", "--min=2", "/nowhere"]
+    ended = subprocess.run(words, capture_output=True, text=True, check=False)
+    assert ended.returncode == 4
+    assert ended.stderr.startswith("basket: cannot open /nowhere: ")
+    # Packages take a second to be imported, and the command needs none.
+    imported = "import sys; sys.argv[1:] = ['help']; import os; os.execv = print"
+    script = f"{imported}; exec(open({str(command)!r}).read()); print('pandas' in sys.modules)"
+    said = output_of(python, "-c", script, folder=tmp_path).splitlines()
+    assert said[0].endswith("basket_miner/bin/basket ['basket', 'help']")
+    assert said[1] == "False"
+
+
 def test_sources_have_no_page_and_say_who_has() -> None:
     with pytest.raises(FileError, match="make wheel"):
         page()
+
+
+def test_no_folder_hides_the_call_that_says_where_the_page_lies() -> None:
+    with pytest.raises(ModuleNotFoundError):
+        import_module("basket_miner.page")
+    assert basket_miner.page is page
 
 
 def test_the_tag_of_a_wheel_is_that_of_the_oldest_c_library(wheel: Path) -> None:
@@ -105,9 +134,12 @@ def test_pip_installs_the_package_beside_a_program(tmp_path: Path) -> None:
     program = str(_program.find().resolve())
     said = output_of(python, "-c", script, folder=tmp_path, program=program)
     assert said.splitlines() == [program, "[1.0]", __version__, "True", "sets"]
+    # A command without a program would hide another that is on the path.
+    assert not python.with_name("basket").exists()
 
 
 def test_the_package_has_the_version_of_the_program(wheel: Path) -> None:
     (found,) = metadata.distributions(name="basket-miner", path=[str(wheel)])
-    assert f"basket {found.version}" == _program.run(["--version"]).decode().strip()
-    assert found.version == __version__
+    assert f"basket {__version__}" == _program.run(["--version"]).decode().strip()
+    # An installer writes 1.2.0-dev as 1.2.0.dev0.
+    assert found.version.replace(".dev0", "-dev") == __version__

@@ -1,5 +1,6 @@
 """Advice at a terminal, and that nothing of it is there without one."""
 
+import gzip
 import os
 import pty
 import subprocess
@@ -79,6 +80,38 @@ class Advice(unittest.TestCase):
                 [*SETS, "--delimiter", ";"],
                 "--sep says what separates fields: comma, semicolon, tab or pipe",
             ),
+            *(
+                (
+                    [*SETS, option, "2"],
+                    "the report has all that meet --min: choose among its lines",
+                )
+                for option in ("--top", "--lift", "--max-len")
+            ),
+            (
+                [*SETS, "--threads", "2"],
+                "--workers says how many threads share the work",
+            ),
+            ([*SETS, "--algorithm", "eclat"], "--miner names the algorithm"),
+            (
+                [*SETS, "--form", "csv"],
+                "CSV is --form baskets, with a basket in each record, or --form single, "
+                "with an item in each",
+            ),
+            *(
+                (
+                    [option, "2", "sets", SHOP],
+                    "the command comes first: basket sets --min 2 FILE",
+                )
+                for option in ("--min", "--conf", "--workers")
+            ),
+            (
+                [],
+                "`basket help` explains these commands, and `basket look FILE` says what a file is",
+            ),
+            (
+                ["help", "sets", "extra"],
+                "`basket help` takes one command: basket help sets",
+            ),
             ([*SETS[:2], "20", "%", "a.dat"], "a percentage is one word, as 20%"),
             (
                 [*SETS, "a.dat", "b.dat"],
@@ -106,6 +139,41 @@ class Advice(unittest.TestCase):
             said_at_terminal(SETS, b"1 -2\n")[1:],
             ["hint: standard input has `-` there"],
         )
+
+    def test_what_is_no_text_of_utf_8_gets_no_remedy_for_another_encoding(self) -> None:
+        zipped, wide = gzip.compress(b"1,milk\n"), "1,milk\n".encode("utf-16")
+        name = "hint: standard input is no plain text:"
+        for given, kind in (
+            (zipped, "compressed? try `zcat FILE | basket ..`"),
+            (wide, "UTF-16? try `iconv -f UTF-16 -t UTF-8 FILE | basket ..`"),
+        ):
+            with self.subTest(kind=kind):
+                self.assertEqual(said_at_terminal(SETS, given)[1:], [f"{name} {kind}"])
+                said = said_at_terminal([*SETS, "--form", "single"], given)
+                self.assertEqual(
+                    said[1:],
+                    [
+                        "hint: in standard input; it has to be UTF-8: `basket look` "
+                        "says what it is, and how to change it"
+                    ],
+                )
+
+    def test_a_fault_without_a_remedy_gets_no_empty_hint(self) -> None:
+        heavy = b"4294967295x 1\n" * 257
+        for given in (b"4294967296\n", heavy):
+            self.assertEqual(len(said_at_terminal(SETS, given)), 1)
+
+    def test_help_that_cannot_be_written_gets_the_reason_of_the_system(self) -> None:
+        above, below = pty.openpty()
+        with open("/dev/full", "wb") as full:
+            ended = subprocess.run(
+                [PROGRAM, "--help"], stdout=full, stderr=below, check=False
+            )
+        os.close(below)
+        said = os.read(above, 65536).decode()
+        os.close(above)
+        reason = "hint: standard output: No space left on device (os error 28)\r\n"
+        self.assertEqual((said, ended.returncode), (reason, 4))
 
     def test_a_file_with_an_odd_name_is_quoted_in_the_command_that_looks_at_it(
         self,

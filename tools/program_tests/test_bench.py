@@ -3,7 +3,7 @@
 import sys
 import unittest
 
-from .program import ROOT
+from .program import ROOT, run
 
 sys.path.insert(0, str(ROOT / "bench"))
 
@@ -44,6 +44,13 @@ class Bench(unittest.TestCase):
         self.assertEqual(said[0], "2 commands compared, 1 dearer by more than 3%")
         self.assertRegex(said[1], r"some: `items --min 1`: 100.0 to 103.1 .*, \+3.1%$")
 
+    def test_help_says_which_miner_suits_which_data_as_the_tables_do(self) -> None:
+        tables = (ROOT / "bench/RESULTS.md").read_text(encoding="utf-8")
+        said = run(["--help"]).out.decode()
+        for miner, text in which.rule(which.questions(tables)).items():
+            with self.subTest(miner=miner):
+                self.assertIn(f"  {miner:11} {text}\n", f"{said}\n")
+
     def test_miners_are_named_for_what_they_are_quick_at(self) -> None:
         few, many = asked(9, 9, 2, 3, 3, 1, 3), asked(9, 50_000, 9, 0.8, 0.8, 1, 2)
         long = asked(2_000_000, 50_000, 9, 8, 8, 7, 5)
@@ -51,9 +58,9 @@ class Bench(unittest.TestCase):
         self.assertEqual(
             [*rule.values()],
             [
-                "the default: for few frequent sets, and with the least memory",
-                "for many frequent sets",
-                "if eclat-bits takes a second or more: often faster over very many baskets",
+                "the default: for up to some 25,000 frequent sets, and then with the least memory",
+                "for more frequent sets",
+                "worth one try if eclat-bits takes over a second; often faster over very many baskets",
                 "as eclat-bits, by difference lists; seldom faster",
                 "as eclat-bits, by lists of basket numbers; seldom faster",
             ],

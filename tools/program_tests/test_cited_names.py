@@ -17,7 +17,7 @@ OTHER_NAMES = set(
 OTHER_NAMES |= set(
     "Appends Consumes SeqCst atomic_table bytes_eq drop filter flat_map fold heap indexmap is_utf8 itoa libc list_all "
     "list_any malloc map o os position_or_len pthread_create r rattle_realloc row_text slice_cmp smallvec starts_with "
-    "sum_by thiserror unsafe".split()
+    "sum_by thiserror unsafe Wp antt either rattle".split()
 )
 
 DEFINED_IN_CODE = (

@@ -12,7 +12,7 @@ from package import lost_links
 
 from .program import ROOT, run, run_script
 
-COMMANDS = ("items", "sets", "closed", "maximal", "rules", "count", "look")
+COMMANDS = ("items", "sets", "closed", "maximal", "rules", "count", "look", "pairs")
 DOCUMENTS = ("README.md", "docs/FAQ.md", "man/basket.1")
 COMPLETIONS = (
     "completions/basket.bash",
@@ -91,7 +91,11 @@ class Documents(unittest.TestCase):
             Path(folder, "examples").symlink_to(ROOT / "examples")
             ended = run_script(script, Path(folder))
             at_once = run_script(whole, Path(folder))
+            cut = "split -n l/8 examples/shop.dat part.\n"
+            eighths = re.sub(r"\A.*\n", cut, script).replace("part1 part2", "part.*")
+            in_eight = run_script(eighths, Path(folder))
         self.assertEqual((ended.out.decode(), ended.said), (shown_lines, ""))
+        self.assertEqual(in_eight, ended)
         self.assertEqual(at_once.out.decode(), shown_lines)
 
     def test_the_theorem_that_is_quoted_stands_in_the_source(self) -> None:
@@ -144,6 +148,9 @@ class Documents(unittest.TestCase):
         said = run(["--help"]).out.decode()
         rule = re.findall(r"(?m)^  ((?:apriori|eclat|fpgrowth)\S* .*)$", said)
         self.assertEqual(len(rule), 5)
+        few = re.search(r"some [\d,]+", rule[0])
+        assert few
+        self.assertIn(f"Few sets, up to {few[0]}: `apriori`", text_of("docs/FAQ.md"))
         for name in ("README.md", "docs/GUIDE.md", "docs/CLI.md"):
             lines = [line.strip() for line in text_of(name).splitlines()]
             with self.subTest(name=name):
@@ -221,15 +228,25 @@ class Documents(unittest.TestCase):
         with contextlib.chdir(ROOT):
             self.assertEqual(lost_links(), [])
 
+    def test_the_folders_of_theory_that_a_page_lists_are_those_that_are_there(
+        self,
+    ) -> None:
+        page = text_of("docs/ARCHITECTURE.md")
+        told = page.partition("## The theory of itemsets\n")[2].partition("\n## ")[0]
+        crates = re.findall(r"(?m)^\| `(\w+)` \|", told) + ["basket_sets"]
+        there = [path.parts[-3] for path in ROOT.glob("crates/*/proofs/theory")]
+        self.assertEqual(sorted(crates), sorted(there))
+
     def test_the_version_is_the_same_everywhere(self) -> None:
         version = run(["--version"]).out.decode().removeprefix("basket ").strip()
-        self.assertRegex(version, r"^\d+\.\d+\.\d+$")
+        self.assertRegex(version, r"^\d+\.\d+\.\d+(-dev)?$")
         self.assertIn(f'"basket {version}"', text_of("man/basket.1"))
         self.assertIn(f"\nversion: {version}\n", text_of("CITATION.cff"))
-        self.assertRegex(
-            text_of("CHANGELOG.md"),
-            rf"\A# [^#]*(## Unreleased\n[^#]*)?## {re.escape(version)}, \d{{4}}-\d\d-\d\d\n",
-        )
+        self.assertIn(f'\nversion = "{version}"\n', text_of("python/pyproject.toml"))
+        # The version between releases has no day.
+        last = f"{re.escape(version)}, \\d{{4}}-\\d\\d-\\d\\d"
+        head = "Unreleased" if version.endswith("-dev") else last
+        self.assertRegex(text_of("CHANGELOG.md"), rf"\A# [^#]*## {head}\n")
 
     def test_the_manual_page_is_laid_out_without_a_warning(self) -> None:
         words = ["groff", "-man", "-Tutf8", "-ww", "-z", str(ROOT / "man/basket.1")]

@@ -1,10 +1,14 @@
 """What the tools say where something failed."""
 
 import contextlib
+import io
+import itertools
 import tempfile
 import unittest
 from pathlib import Path
 
+import axioms
+import edits
 from edits import TRIED, Edit
 from package import links_of
 from prove import Report
@@ -55,6 +59,36 @@ class Tools(unittest.TestCase):
             ],
         )
 
+    def test_axioms_are_written_down_by_name_and_counted_by_library(self) -> None:
+        listed = (
+            "axioms libc: 2 reached of the 3 declared\n  libc::access\n"
+            "  libc::heap::rattle_alloc   reached\n  libc::read   reached\n"
+            "axioms os: 1 reached of the 1 declared\n  os::c::open   reached\n"
+        )
+        names = axioms.REACHED.findall(listed)
+        self.assertEqual(
+            names, ["libc::heap::rattle_alloc", "libc::read", "os::c::open"]
+        )
+        with tempfile.TemporaryDirectory() as folder, contextlib.chdir(folder):
+            self.assertEqual(axioms.counted(), "")
+            axioms.RECORD.parent.mkdir()
+            axioms.RECORD.write_text("\n".join(names), encoding="utf-8")
+            self.assertEqual(axioms.counted(), "2 of `libc`, 1 of `os`")
+
+    def test_a_word_of_a_verdict_that_the_page_does_not_have_is_told(self) -> None:
+        report = Report()
+        for line in (
+            "== app\n",
+            "axioms libc: libc::read, libc::write (2 of the 9 declared)\n",
+            "logic=proved functions=8 axioms=2 partial=yes native=nat sum=dac8\n",
+            "rt: app proved\n",
+        ):
+            report.take(line)
+        page = "2 functions of `libc`, `native=nat` and `sum=dac8`"
+        self.assertEqual(report.untold("app", page), "app rests on partial=yes")
+        self.assertEqual(report.untold("app", f"{page}, `partial=yes`"), "")
+        self.assertEqual(report.untold("lib", page), "")
+
     def test_links_are_those_outside_code_and_to_files_alone(self) -> None:
         with tempfile.TemporaryDirectory() as folder:
             page = Path(folder, "page.md")
@@ -85,6 +119,31 @@ class Tools(unittest.TestCase):
                 edit.write_text(lines, encoding="utf-8")
                 with self.subTest(text=text):
                     self.assertEqual(Edit("one", edit).fault(), wanted)
+
+    def test_an_edit_is_stale_after_a_change_of_code_and_fails_where_the_statement_is(
+        self,
+    ) -> None:
+        edit = "file: src/lib.rt\nold: let a = 1;\nnew: let a = 0;\n"
+        for crate, before in itertools.product(
+            ("basket", "mine_fp"), ("// Why.\n", "let b = 2;\n")
+        ):
+            with tempfile.TemporaryDirectory() as folder, contextlib.chdir(folder):
+                source = Path("crates", crate, "src/lib.rt")
+                source.parent.mkdir(parents=True)
+                Path("crates.txt").write_text(f"{crate}:\n", encoding="utf-8")
+                place = Path("crates", crate, "must-fail/one.edit")
+                place.parent.mkdir()
+                place.write_text(edit, encoding="utf-8")
+                source.write_text("let a = 1;\n", encoding="utf-8")
+                (one,) = edits.edits()
+                edits.RECORD.write_text(" ".join([one.name, *one.sums()]) + "\n")
+                source.write_text(f"{before}let a = 1;\n", encoding="utf-8")
+                is_stale = not before.startswith("//")
+                bad = int(is_stale and crate == "basket")
+                with self.subTest(crate=crate, before=before):
+                    with contextlib.redirect_stdout(io.StringIO()) as said:
+                        self.assertEqual(edits.looked_at(), (1 - bad, bad))
+                    self.assertEqual("another text" in said.getvalue(), is_stale)
 
     def test_a_refusal_that_shows_nothing_of_a_contract_is_not_taken(self) -> None:
         rows = {

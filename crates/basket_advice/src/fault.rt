@@ -14,8 +14,10 @@ pub fn input_advice(
     match fault {
         ReadFault::Byte { byte, .. } => byte_advice(alloc, byte, place),
         _ => {
-            let (remedy, header) = (remedy(fault), header_remedy(fault, place.layout));
-            format!(in alloc; "in {name}{remedy}{header}")
+            match (remedy(fault), header_remedy(fault, place.layout)) {
+                ("", "") => Ok(String::new(alloc)),
+                (remedy, header) => format!(in alloc; "in {name}{remedy}{header}"),
+            }
         }
     }
 }
@@ -23,8 +25,13 @@ pub fn input_advice(
 /// What to do about a fault.
 fn remedy(fault: ReadFault) -> &'static str {
     match fault {
+        // Which encoding it is, or whether it is compressed, this fault doesn't say.
         ReadFault::NotText { .. } => {
-            "; save the file as UTF-8, or change it by `iconv -f WINDOWS-1252 -t UTF-8`"
+            "; it has to be UTF-8: `basket look` says what it is, and how to change it"
+        }
+        ReadFault::TooLong => {
+            "; cut it (`split -n l/8 FILE part.` does for lines), count the parts and add up \
+(`man basket`, PARTS)"
         }
         ReadFault::ShortRecord { .. } => {
             "; --form single takes a basket's id and an item's name in each record, \
@@ -58,12 +65,24 @@ fn header_remedy(fault: ReadFault, layout: Layout) -> &'static str {
 /// Advice on a byte that is not of the form.
 fn byte_advice(alloc: Global, byte: u8, place: Place<'_>) -> Result<String, AllocError> {
     let name = place.name();
+    if let Some(kind) = kind_by_mark(byte) {
+        return format!(in alloc; "{name} is no plain text: {kind}");
+    }
     let names = names_remedy(byte, place.layout.form);
     if byte.is_ascii_graphic() {
         let letter = char::from(byte);
         format!(in alloc; "{name} has `{letter}` there{names}")
     } else {
         format!(in alloc; "{name} is no text of numbers{names}")
+    }
+}
+
+/// What a file is that has a byte first which no text of UTF-8 has.
+fn kind_by_mark(byte: u8) -> Option<&'static str> {
+    match byte {
+        0x1F => Some("compressed? try `zcat FILE | basket ..`"),
+        0xFE | 0xFF => Some("UTF-16? try `iconv -f UTF-16 -t UTF-8 FILE | basket ..`"),
+        _ => None,
     }
 }
 

@@ -5,6 +5,7 @@
 //! let advice = match ending {
 //!     Ending::Refused(PlanFault::Usage(text)) => words_advice(rt.alloc(), text.as_str(), words),
 //!     Ending::Ran(invocation, ran) => run_advice(rt.alloc(), invocation, *ran, told),
+//!     Ending::Unanswered(_) => unwritten_advice(rt.alloc(), told),
 //!     _ => return,
 //! };
 //! ```
@@ -17,5 +18,5 @@ mod place;
 mod run;
 mod words;
 
-pub use run::{Told, run_advice};
+pub use run::{Told, run_advice, unwritten_advice};
 pub use words::words_advice;

@@ -31,6 +31,13 @@ pub fn run_advice(
     }
 }
 
+/// Lines of advice on help or the version, which could not be written.
+pub fn unwritten_advice(alloc: Global, told: Told) -> Result<String, AllocError> {
+    let mut hints = Hints::new(alloc);
+    hints.add(reason(alloc, "standard output", told.code)?.as_str())?;
+    Ok(hints.into_text())
+}
+
 /// Advice on a report that was written.
 fn report_advice(
     alloc: Global,

@@ -14,6 +14,14 @@ or count the parts and add up (`man basket`, PARTS)";
 const ALL_SETS: &str =
     "`count` counts every set of --sets, so it takes no --min, --miner or --limit";
 
+const COMMAND_FIRST: &str = "the command comes first: basket sets --min 2 FILE";
+
+const NO_COMMAND: &str =
+    "`basket help` explains these commands, and `basket look FILE` says what a file is";
+
+const FORMS: &str =
+    "CSV is --form baskets, with a basket in each record, or --form single, with an item in each";
+
 const MOST_SHARE: &str = "a share is at most 100%";
 
 /// A line of advice on words that were refused with a text, for standard error. There may be none.
@@ -28,6 +36,7 @@ pub fn words_advice(alloc: Global, text: &str, words: &[&str]) -> Result<String,
         }
         _ => {
             hints.add(number_advice(text))?;
+            hints.add(command_advice(text))?;
             hints.add(unexpected(text, words))?;
         }
     }
@@ -45,6 +54,19 @@ fn number_advice(text: &str) -> &'static str {
         "--pieces takes a number from 1 to 65536"
     } else if before.ends_with("--limit <L>") {
         "--limit takes a number from 1 to 4294967295"
+    } else {
+        ""
+    }
+}
+
+/// Advice on a command that is missing, and on words that are not those of a command.
+fn command_advice(text: &str) -> &'static str {
+    if text.starts_with("error: 'basket' requires a subcommand") {
+        NO_COMMAND
+    } else if text.starts_with("error: unrecognized subcommand 'help'") {
+        "`basket help` takes one command: basket help sets"
+    } else if text.starts_with("basket: bad value for --form") {
+        FORMS
     } else {
         ""
     }
@@ -137,6 +159,11 @@ fn unexpected(text: &str, words: &[&str]) -> &'static str {
         Some((_, rest)) => rest.split('\'').next().unwrap_or(""),
         None => return "",
     };
+    if let [first, ..] = words
+        && first.starts_with('-')
+    {
+        return COMMAND_FIRST;
+    }
     match option_advice(word) {
         "" if !word.starts_with('-') => input_advice(words),
         "" => match before(word, words) {
@@ -158,6 +185,11 @@ fn option_advice(option: &str) -> &'static str {
         "--confidence" | "--min-confidence" => "--conf is the least confidence",
         "--delimiter" | "--separator" => {
             "--sep says what separates fields: comma, semicolon, tab or pipe"
+        }
+        "--algorithm" => "--miner names the algorithm",
+        "--threads" | "--jobs" => "--workers says how many threads share the work",
+        "--lift" | "--min-lift" | "--top" | "--max-len" | "--maxlen" => {
+            "the report has all that meet --min: choose among its lines"
         }
         "-o" | "--output" => "the report goes to standard output: basket .. > FILE",
         _ => "",

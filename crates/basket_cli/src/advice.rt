@@ -1,6 +1,6 @@
 //! Lines of advice on standard error if it is a terminal.
 use basket::PlanFault;
-use basket_advice::{Told, run_advice, words_advice};
+use basket_advice::{Told, run_advice, unwritten_advice, words_advice};
 use basket_main::Ending;
 use std::io::IsTerminal;
 
@@ -12,6 +12,7 @@ pub fn advise(rt: &HostRuntime, ending: &Ending, words: &[&str], told: Told) {
     let advice = match ending {
         Ending::Refused(PlanFault::Usage(text)) => words_advice(rt.alloc(), text.as_str(), words),
         Ending::Ran(invocation, ran) => run_advice(rt.alloc(), invocation, *ran, told),
+        Ending::Unanswered(_) => unwritten_advice(rt.alloc(), told),
         _ => return,
     };
     // If memory is out or standard error takes nothing, nobody misses it.

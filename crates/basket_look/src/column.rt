@@ -1,199 +1,158 @@
-use crate::lines::is_number;
-use crate::said::Said;
-
-/// How many values of a column are shown.
-const SHOWN: usize = 3;
-
-const BASKET_WORDS: &str = "receipt basket order invoice transaction ticket bill session cart \
-member customer beleg rechnung";
-
-const ITEM_WORDS: &str = "product item article artikel produkt description sku name";
-
-/// What says yes or no.
-const MARKS: [&str; 13] = [
-    "0", "1", "", "0.0", "1.0", "True", "False", "TRUE", "FALSE", "true", "false", "t", "f",
-];
+//! A column of a table, and what it determines.
+use crate::value::{is_day, is_measure, is_number};
+use basket_pairs::{day_of, is_null};
+use indexmap::IndexSet;
+use std::alloc::{AllocError, Global};
+use std::hash::{BuildHasherDefault, FoldHasher};
 
 /// The values of a column, below its header.
 #[derive(Drop)]
 pub struct Column<'a> {
-    /// Its place, counted from 1.
-    number: usize,
-    header: &'a str,
-    /// The values that differ, in order.
-    different: Vec<&'a str>,
-    /// The first of these, as many as there are.
-    first: [&'a str; SHOWN],
-    len: usize,
-    numbers: usize,
-    /// Values that begin with a digit and are no whole numbers, as dates and prices.
-    measures: usize,
-    /// Values that are equal to the one before.
-    repeats: usize,
+    /// Counted from 1.
+    pub number: usize,
+    pub header: &'a str,
+    /// Each value once, in the order of their first records.
+    pub values: IndexSet<&'a str, BuildHasherDefault<FoldHasher>>,
+    /// The index of each record's value.
+    pub codes: Vec<u32>,
+    pub counts: Counts,
+}
+
+/// How many values of a column are of which kind. A value that comes again counts again.
+#[derive(Clone, Copy, Default)]
+pub struct Counts {
+    pub blanks: usize,
+    /// Digits alone.
+    pub numbers: usize,
+    /// Prices, dates, times and the like.
+    pub measures: usize,
+    /// Dates, with a time or without.
+    pub days: usize,
+    /// Dates with a time.
+    pub times: usize,
+    /// Times of the day alone.
+    pub hours: usize,
+    pub negatives: usize,
+    pub nulls: usize,
+    /// Values that are not equal to the one before.
+    pub runs: usize,
 }
 
 impl<'a> Column<'a> {
-    pub fn new(place: usize, header: &'a str, mut values: Vec<&'a str>) -> Self {
-        let len = values.len();
-        let first = first_different(&values);
-        let (numbers, measures) = numbers_and_measures(&values);
-        values.dedup();
-        let repeats = len.saturating_sub(values.len());
-        values.sort_unstable();
-        values.dedup();
+    pub fn new(alloc: Global, number: usize, header: &'a str) -> Self {
         Column {
-            number: place.saturating_add(1),
+            number,
             header,
-            different: values,
-            first,
-            len,
-            numbers,
-            measures,
-            repeats,
+            values: IndexSet::with_hasher(alloc, BuildHasherDefault::new()),
+            codes: Vec::new(alloc),
+            counts: Counts::default(),
         }
     }
 
-    /// The first values that differ.
-    fn shown(&self) -> &[&'a str] {
-        let count = self.different.len().min(SHOWN);
-        &self.first[..count]
+    /// Adds the value of the next record.
+    pub fn push(&mut self, value: &'a str) -> Result<(), AllocError> {
+        let (index, _) = self.values.insert_full(value)?;
+        let code = u32::try_from(index).unwrap_or(u32::MAX);
+        if self.codes.last() != Some(&code) {
+            self.counts.runs = self.counts.runs.saturating_add(1);
+        }
+        self.counts.add(value);
+        self.codes.push(code)?;
+        Ok(())
     }
 
-    /// Says its header, how many values differ, and some of them.
-    pub fn say(&self, said: &mut Said) {
-        let (number, count) = (self.number, self.different.len());
-        write!(said, "  column {number}");
-        if !self.header.is_empty() {
-            said.push_str(" ");
-            said.show(self.header);
-        }
-        write!(said, ": {count} different,");
-        for value in self.shown() {
-            said.push_str(" ");
-            said.show(value);
-            said.push_str(",");
-        }
-        said.push_str(" ..\n");
+    pub fn len(&self) -> usize {
+        self.codes.len()
     }
 
-    /// Whether one of the first values of another column is here too.
-    pub fn has_value_of(&self, other: &Column<'_>) -> bool {
-        for value in other.shown() {
-            if self.different.contains(value) {
-                return true;
-            }
-        }
-        false
+    /// How many values differ.
+    pub fn different(&self) -> usize {
+        self.values.len()
     }
 
-    /// Whether the values are mostly whole numbers.
+    pub fn has(&self, value: &str) -> bool {
+        self.values.contains(&value)
+    }
+
+    /// Whether so many values are more than half of those that are not blank.
+    fn are_most(&self, count: usize) -> bool {
+        count > self.len().saturating_sub(self.counts.blanks) / 2
+    }
+
     pub fn is_of_numbers(&self) -> bool {
-        self.numbers > self.len / 2
+        self.are_most(self.counts.numbers)
     }
 
-    /// Whether the values are mostly dates, prices and the like.
-    pub fn has_measures(&self) -> bool {
-        self.measures > self.len / 2
+    pub fn is_of_measures(&self) -> bool {
+        self.are_most(self.counts.measures)
     }
 
-    /// Whether the values are mostly ones that come again.
-    pub fn has_repeats(&self) -> bool {
-        self.different.len() <= self.len / 2
+    pub fn is_of_days(&self) -> bool {
+        self.counts.days > self.len() / 10 * 9
+    }
+
+    pub fn has_times(&self) -> bool {
+        self.are_most(self.counts.times)
+    }
+
+    pub fn is_of_times_of_day(&self) -> bool {
+        self.are_most(self.counts.hours)
+    }
+
+    pub fn is_blank(&self) -> bool {
+        self.counts.blanks > self.len() / 50 * 49
     }
 
     /// Whether nearly no value comes twice.
     pub fn is_unique(&self) -> bool {
-        self.different.len() >= self.len - self.len / 20
+        self.different() >= self.len().saturating_sub(self.len() / 33)
     }
 
-    /// Whether each value says yes or no.
-    pub fn is_of_marks(&self) -> bool {
-        for value in &self.different {
-            if !MARKS.contains(value) {
-                return false;
-            }
-        }
-        self.different.len() <= 2
+    /// Whether more than a quarter of the records have the value of the record before.
+    pub fn has_neighbours(&self) -> bool {
+        self.len().saturating_sub(self.counts.runs) > self.len() / 4
     }
 
-    /// How well the values would do as the ids of baskets.
-    pub fn basket_score(&self) -> u32 {
-        let mut score: u32 = 10;
-        if has_word(self.header, BASKET_WORDS) {
-            score += 4;
+    /// The codes of the days in it, without their times.
+    pub fn day_codes(&self, alloc: Global) -> Result<Vec<u32>, AllocError> {
+        let mut days: IndexSet<&str, BuildHasherDefault<FoldHasher>> = IndexSet::with_hasher(
+            alloc,
+            BuildHasherDefault::new(),
+        );
+        let mut day_of_code = Vec::new(alloc);
+        for value in self.values.iter() {
+            let (index, _) = days.insert_full(day_of(*value))?;
+            day_of_code.push(u32::try_from(index).unwrap_or(u32::MAX))?;
         }
-        if self.different.len() < self.len && self.different.len() > self.len / 100 {
-            score += 2;
+        let mut codes = Vec::new(alloc);
+        for code in &self.codes {
+            codes.push(day_of_code.get(*code as usize).copied().unwrap_or(0))?;
         }
-        if self.repeats > self.len / 4 {
-            score += 1;
-        }
-        if self.is_of_numbers() {
-            score += 1;
-        }
-        score.saturating_sub(self.penalty())
-    }
-
-    /// How well the values would do as items.
-    pub fn item_score(&self) -> u32 {
-        let mut score: u32 = 10;
-        if has_word(self.header, ITEM_WORDS) {
-            score += 4;
-        }
-        if !self.is_of_numbers() {
-            score += 2;
-        }
-        if self.has_repeats() {
-            score += 1;
-        }
-        score.saturating_sub(self.penalty())
-    }
-
-    /// What speaks against both.
-    fn penalty(&self) -> u32 {
-        let is_poor = self.different.len() <= 1 || self.is_unique() || self.has_measures();
-        if is_poor { 4 } else { 0 }
+        Ok(codes)
     }
 }
 
-fn first_different<'a>(values: &[&'a str]) -> [&'a str; SHOWN] {
-    let mut first = [""; SHOWN];
-    let mut len = 0;
-    for value in values {
-        if len < SHOWN && !first[..len].contains(value) {
-            first[len] = *value;
-            len += 1;
-        }
+impl Counts {
+    fn add(&mut self, value: &str) {
+        let is_number = is_number(value);
+        let is_day = !is_number && is_day(value);
+        let is_measure = is_day || !is_number && is_measure(value);
+        count_if(&mut self.blanks, value.is_empty());
+        count_if(&mut self.numbers, is_number);
+        count_if(&mut self.measures, is_measure);
+        count_if(&mut self.days, is_day);
+        count_if(&mut self.times, is_day && value.contains(':'));
+        count_if(
+            &mut self.hours,
+            !is_day && is_measure && value.contains(':'),
+        );
+        count_if(&mut self.negatives, is_measure && value.starts_with('-'));
+        count_if(&mut self.nulls, is_null(value));
     }
-    first
 }
 
-/// How many values are whole numbers, and how many others begin with a digit.
-fn numbers_and_measures(values: &[&str]) -> (usize, usize) {
-    let (mut numbers, mut others): (usize, usize) = (0, 0);
-    for value in values {
-        if is_number(value) {
-            numbers = numbers.saturating_add(1);
-        } else if begins_with_digit(value) {
-            others = others.saturating_add(1);
-        }
+fn count_if(count: &mut usize, is_so: bool) {
+    if is_so {
+        *count = count.saturating_add(1);
     }
-    (numbers, others)
-}
-
-/// Whether a value is a whole number, a date, a price or the like.
-pub fn begins_with_digit(value: &str) -> bool {
-    matches!(value.as_bytes(), [b'0'..=b'9', ..])
-}
-
-/// Whether a header has one of these words in it, in letters of any case.
-fn has_word(header: &str, words: &str) -> bool {
-    for word in words.split(' ') {
-        for part in header.as_bytes().windows(word.len().max(1)) {
-            if part.eq_ignore_ascii_case(word.as_bytes()) {
-                return true;
-            }
-        }
-    }
-    false
 }

@@ -1,39 +1,65 @@
+//! The commands that mine a file.
+use crate::reading::{Form, Reading};
 use crate::said::Said;
+use basket_pairs::Fields;
 use std::alloc::{AllocError, Global};
 
-/// Says the programs that change a text, but those that are empty, with a pipe behind each. The
-/// first reads the input. What is left of the input is for the next program.
-pub fn say_pipe<'a>(said: &mut Said, programs: &[&str], input: &'a str) -> &'a str {
-    said.push_str("\n  ");
-    let mut input = input;
-    for program in programs {
-        if !program.is_empty() {
-            write!(said, "{program}{input} | ");
-            input = "";
+/// The questions that are shown, with their options.
+pub const QUESTIONS: [(&str, &str); 2] = [("sets", ""), ("rules", " --conf 1/2")];
+
+/// Says the command that asks a question of a file, or of standard input.
+pub fn say_command(
+    alloc: Global,
+    said: &mut Said,
+    reading: &Reading,
+    question: (&str, &str),
+    minimum: &str,
+    name: Option<&str>,
+) -> Result<(), AllocError> {
+    let (command, more) = question;
+    let file = match name {
+        Some(name) => format!(in alloc; " {}", shell_word(alloc, name)?.as_str())?,
+        None => String::new(alloc),
+    };
+    if reading.form == Form::Pairs {
+        said.push_str("basket pairs");
+        for word in &reading.recipe.words(alloc)? {
+            said.push_str(" ");
+            said.push_str(word.as_str());
         }
+        said.push_str(file.as_str());
+        said.push_str(" | ");
     }
-    input
+    write!(said, "basket {command} --min {minimum}{more}");
+    for word in &options(alloc, reading)? {
+        said.push_str(" ");
+        said.push_str(*word);
+    }
+    if reading.form != Form::Pairs {
+        said.push_str(file.as_str());
+    }
+    Ok(())
 }
 
-/// Says how `basket` is called. Each option is empty or has a blank before it.
-pub fn say_basket(said: &mut Said, options: &[&str; 4], input: &str) {
-    let [form, separator, header, weight] = *options;
-    let name = input.strip_prefix(" <").unwrap_or("");
-    write!(
-        said,
-        "basket sets --min 10%{form}{separator}{header}{weight}{name}\n"
-    );
-}
-
-/// How a shell is told that a program reads a file.
-pub fn input_from(alloc: Global, file: Option<&str>) -> Result<String, AllocError> {
-    match file {
-        Some(name) => {
-            let word = shell_word(alloc, name)?;
-            format!(in alloc; " < {word}")
-        }
-        None => Ok(String::new(alloc)),
+/// The options by which the program reads a file, or its pairs.
+pub fn options(alloc: Global, reading: &Reading) -> Result<Vec<&'static str>, AllocError> {
+    let mut words = Vec::new(alloc);
+    for word in reading.form.options() {
+        words.push(*word)?;
     }
+    if !matches!(reading.form, Form::Fimi | Form::Counts | Form::Pairs) {
+        match &reading.recipe.fields {
+            Fields::Separated(b',') => (),
+            fields => {
+                words.push("--sep")?;
+                words.push(fields.word().unwrap_or("comma"))?;
+            }
+        }
+        if reading.recipe.has_header {
+            words.push("--header")?;
+        }
+    }
+    Ok(words)
 }
 
 /// The name of a file, as a word of a shell's command line.

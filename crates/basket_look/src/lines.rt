@@ -1,3 +1,4 @@
+//! Lines, what ends them, and what those of numbers say.
 use std::alloc::{AllocError, Global};
 
 /// The lines of a text that are not blank, whatever ends them.
@@ -12,7 +13,7 @@ pub fn lines(alloc: Global, text: &str) -> Result<Vec<&str>, AllocError> {
 }
 
 /// What ends the lines of a text.
-#[derive(Clone, Copy)]
+#[derive(Clone, Copy, PartialEq, Eq)]
 pub enum LineEnds {
     Feeds,
     /// A carriage return and a line feed.
@@ -30,15 +31,6 @@ impl LineEnds {
             true if feeds == 0 => LineEnds::Returns,
             true if pairs == feeds => LineEnds::Pairs,
             true => LineEnds::Mixed,
-        }
-    }
-
-    /// The program that makes line feeds of them, if they aren't.
-    pub fn filter(self) -> &'static str {
-        match self {
-            LineEnds::Feeds => "",
-            LineEnds::Returns => "tr '\\r' '\\n'",
-            LineEnds::Pairs | LineEnds::Mixed => "tr -d '\\r'",
         }
     }
 
@@ -147,14 +139,4 @@ impl<'a> NumberLines<'a> {
     pub fn are_counts(&self) -> bool {
         self.counted > 0 && self.others == 0 && self.weighted == 0 && self.baskets == 0
     }
-}
-
-/// Whether each line has two numbers with a tab between them.
-pub fn are_pairs(lines: &[&str]) -> bool {
-    for line in lines {
-        if line.trim().split('\t').count() != 2 {
-            return false;
-        }
-    }
-    true
 }

@@ -1,3 +1,4 @@
+//! What is said of a file.
 use std::alloc::{AllocError, Global};
 use std::fmt::Display;
 
@@ -45,6 +46,63 @@ impl Said {
         if part.chars().count() > MOST_LETTERS {
             self.push_str("..");
         }
+    }
+
+    /// Adds what was said elsewhere.
+    pub fn push_said(&mut self, other: &Said) {
+        self.push_str(other.text.as_str());
+        self.is_out_of_memory = self.is_out_of_memory || other.is_out_of_memory;
+    }
+
+    /// Adds the lines of another, each behind these words.
+    pub fn push_lines(&mut self, words: &str, other: &Said) {
+        for line in other.text.as_str().lines() {
+            self.push_str(words);
+            self.push_str(line);
+            self.push_str("\n");
+        }
+        self.is_out_of_memory = self.is_out_of_memory || other.is_out_of_memory;
+    }
+
+    pub fn is_empty(&self) -> bool {
+        self.text.is_empty()
+    }
+
+    /// Adds a comma before all but the first of several.
+    pub fn push_comma(&mut self, place: usize) {
+        if place > 0 {
+            self.push_str(",");
+        }
+    }
+
+    /// Adds a text as a string of JSON.
+    pub fn quote(&mut self, text: &str) {
+        self.push_str("\"");
+        for letter in text.chars() {
+            match letter {
+                '"' => self.push_str("\\\""),
+                '\\' => self.push_str("\\\\"),
+                letter if letter.is_control() => {
+                    let code = u32::from(letter);
+                    write!(self, "\\u{code:04x}");
+                }
+                letter => {
+                    if self.text.push(letter).is_err() {
+                        self.is_out_of_memory = true;
+                    }
+                }
+            }
+        }
+        self.push_str("\"");
+    }
+
+    /// Adds the lines of another as strings of JSON.
+    pub fn quote_lines(&mut self, other: &Said) {
+        for (place, line) in other.text.as_str().lines().enumerate() {
+            self.push_comma(place);
+            self.quote(line);
+        }
+        self.is_out_of_memory = self.is_out_of_memory || other.is_out_of_memory;
     }
 
     /// All that was said.

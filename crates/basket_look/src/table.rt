@@ -1,168 +1,159 @@
-use crate::column::{Column, begins_with_digit};
-use csv::{ReaderBuilder, StringRecord};
+//! The records of a text as a table: its header, its columns.
+use crate::column::Column;
+use crate::matrix::{is_header_of_marks, mark_columns};
+use crate::titles::{are_most, cell, titles, usual, without_totals};
+use crate::value::{Word, is_measure, is_number};
+use basket_pairs::{Fields, Records};
+use csv::StringRecord;
 use std::alloc::{AllocError, Global};
 
-/// No header has more names.
-const MOST_NAMES: usize = 60;
+/// How many columns are compared with one another.
+const MOST_COLUMNS: usize = 60;
 
-/// How many columns are looked at.
-const MOST_COLUMNS: usize = 200;
-
-/// The records of a CSV text.
+/// What the records of a text are.
 #[derive(Drop)]
-pub struct Table {
-    alloc: Global,
-    records: Vec<StringRecord>,
-    /// How many fields most records have, without empty ones at the end.
+pub struct Table<'a> {
+    pub alloc: Global,
+    pub fields: Fields,
+    /// Records above the header or the first basket, as titles are.
+    pub skip: usize,
+    pub header: Option<&'a StringRecord>,
+    /// The records below these, without those of totals.
+    pub body: &'a [StringRecord],
+    /// Records of totals at the end.
+    pub totals: usize,
+    /// How many fields most records have.
     pub width: usize,
-    pub has_header: bool,
+    /// Whether nearly all records have as many fields, be they blank.
+    pub is_even: bool,
+    /// Its first columns.
+    pub columns: Vec<Column<'a>>,
 }
 
-impl Table {
-    pub fn read(alloc: Global, text: &str, separator: u8) -> Result<Self, AllocError> {
-        let records = records_of(alloc, text, separator)?;
-        let width = median_len(alloc, &records)?;
-        let mut table = Table {
-            alloc,
-            records,
-            width,
-            has_header: false,
-        };
-        table.has_header = table.may_have_header() && table.has_evidence()?;
-        Ok(table)
-    }
-
-    pub fn len(&self) -> usize {
-        self.records.len()
-    }
-
-    /// Whether nearly all records have as many fields.
-    pub fn is_even(&self) -> bool {
-        let mut others: usize = 0;
-        for record in &self.records {
-            if filled_len(record) != self.width {
-                others = others.saturating_add(1);
-            }
-        }
-        self.width > 1 && others <= self.len() / 10
-    }
-
-    pub fn columns(&self) -> Result<Vec<Column<'_>>, AllocError> {
-        let mut columns = Vec::new(self.alloc);
-        for place in 0..self.width.min(MOST_COLUMNS) {
-            columns.push(self.column(place)?)?;
-        }
-        Ok(columns)
-    }
-
-    /// The values of a column, without its header.
-    fn column(&self, place: usize) -> Result<Column<'_>, AllocError> {
-        match self.records.split_first() {
-            Some((first, rest)) if self.has_header => {
-                let header = first.get(place).unwrap_or("").trim();
-                column_below(self.alloc, place, header, rest)
-            }
-            _ => column_below(self.alloc, place, "", &self.records),
-        }
-    }
-
-    /// Whether the first record has names alone, none of which comes again.
-    fn may_have_header(&self) -> bool {
-        match self.records.split_first() {
-            Some((first, rest)) if first.len() <= MOST_NAMES && rest.len() > 1 => {
-                are_new_names(first, rest)
-            }
-            _ => false,
-        }
-    }
-
-    /// Whether values below the first record are numbers or come again, in one column at least.
-    fn has_evidence(&self) -> Result<bool, AllocError> {
-        for place in 0..self.width {
-            let column = self.column(place)?;
-            if column.has_measures() || column.is_of_numbers() || column.has_repeats() {
-                return Ok(true);
-            }
-        }
-        Ok(false)
-    }
-}
-
-fn records_of(alloc: Global, text: &str, separator: u8) -> Result<Vec<StringRecord>, AllocError> {
-    let reader = ReaderBuilder::new()
-        .delimiter(separator)
-        .has_headers(false)
-        .flexible(true)
-        .from_reader(alloc, text.as_bytes());
+/// All records of a text.
+pub fn records_of(
+    alloc: Global,
+    text: &str,
+    fields: &Fields,
+) -> Result<Vec<StringRecord>, AllocError> {
+    let mut reader = Records::new(alloc, text, fields);
     let mut records = Vec::new(alloc);
-    for record in reader.into_records() {
-        add_record(&mut records, record)?;
+    for _ in 0..usize::MAX {
+        let mut record = StringRecord::new(alloc);
+        if !reader.read(&mut record)? {
+            break;
+        }
+        records.push(record)?;
     }
     Ok(records)
 }
 
-fn add_record(
-    records: &mut Vec<StringRecord>,
-    record: Result<StringRecord, csv::Error>,
-) -> Result<(), AllocError> {
-    match record {
-        Ok(record) => Ok(records.push(record)?),
-        Err(_) => Err(AllocError),
-    }
-}
-
-fn column_below<'a>(
-    alloc: Global,
-    place: usize,
-    header: &'a str,
-    records: &'a [StringRecord],
-) -> Result<Column<'a>, AllocError> {
-    let mut values = Vec::new(alloc);
-    for record in records {
-        if let Some(value) = record.get(place) {
-            values.push(value.trim())?;
+impl<'a> Table<'a> {
+    pub fn of(
+        alloc: Global,
+        fields: Fields,
+        records: &'a [StringRecord],
+    ) -> Result<Self, AllocError> {
+        let width = usual(alloc, records, StringRecord::len)?;
+        let skip = titles(alloc, records, width)?;
+        let below = records.get(skip..).unwrap_or(&[]);
+        let (below, totals) = without_totals(below);
+        let is_even = width > 1 && are_most(below, 10, |record| record.len() == width);
+        let (first, rest) = below.split_first().unzip();
+        let rest = rest.unwrap_or(&[]);
+        let mut table = Table {
+            alloc,
+            fields,
+            skip,
+            header: first,
+            body: rest,
+            totals,
+            width,
+            is_even,
+            columns: Vec::new(alloc),
+        };
+        table.add_columns()?;
+        if !table.has_header()? {
+            table.header = None;
+            table.body = below;
+            table.add_columns()?;
         }
+        Ok(table)
     }
-    Ok(Column::new(place, header, values))
-}
 
-fn median_len(alloc: Global, records: &[StringRecord]) -> Result<usize, AllocError> {
-    let mut lens = Vec::new(alloc);
-    for record in records {
-        lens.push(filled_len(record))?;
-    }
-    lens.sort_unstable();
-    Ok(lens.get(lens.len() / 2).copied().unwrap_or(0))
-}
-
-/// How many fields a record has, without empty ones at its end.
-fn filled_len(record: &StringRecord) -> usize {
-    let mut len = 0;
-    for (place, field) in record.iter().enumerate() {
-        if !field.trim().is_empty() {
-            len = place.saturating_add(1);
+    /// Reads the columns below the header.
+    fn add_columns(&mut self) -> Result<(), AllocError> {
+        let mut columns = Vec::new(self.alloc);
+        for place in 0..self.width.min(MOST_COLUMNS) {
+            let header = self.header.map_or("", |record| cell(record, place));
+            let mut column = Column::new(self.alloc, place.saturating_add(1), header);
+            for record in self.body {
+                column.push(cell(record, place))?;
+            }
+            columns.push(column)?;
         }
+        self.columns = columns;
+        Ok(())
     }
-    len
-}
 
-/// Whether no name begins with a digit or comes again in these records.
-fn are_new_names(names: &StringRecord, records: &[StringRecord]) -> bool {
-    for name in names.iter() {
-        if begins_with_digit(name) || has_value(records, name) {
-            return false;
+    /// Whether the records are lists of names, ragged or padded.
+    fn is_list(&self) -> bool {
+        let is_padded = match self.columns.last() {
+            Some(last) => last.counts.blanks > self.body.len() / 3,
+            None => false,
+        };
+        !self.is_even || is_padded && self.width > 2
+    }
+
+    /// Whether the record that was taken for a header is one.
+    fn has_header(&self) -> Result<bool, AllocError> {
+        let Some(header) = self.header else {
+            return Ok(false);
+        };
+        if self.body.is_empty() {
+            return Ok(false);
         }
+        let marks = mark_columns(self.alloc, self.body, self.width)?;
+        if is_header_of_marks(header, &marks) {
+            return Ok(true);
+        }
+        let has_words = header.iter().any(|name| {
+            let name = name.trim();
+            Word::Basket.is_in(name) || Word::Item.is_in(name)
+        });
+        Ok(self.has_new_names(header) && (has_words || !self.is_list() && self.has_evidence()))
     }
-    true
-}
 
-fn has_value(records: &[StringRecord], value: &str) -> bool {
-    for record in records {
-        for other in record.iter() {
-            if !value.is_empty() && other == value {
-                return true;
+    /// Whether none of these names comes again, and they are mostly no numbers.
+    fn has_new_names(&self, header: &StringRecord) -> bool {
+        let (mut names, mut numbers): (usize, usize) = (0, 0);
+        for name in header.iter() {
+            let name = name.trim();
+            if name.is_empty() {
+                continue;
+            }
+            names = names.saturating_add(1);
+            if is_measure(name) {
+                return false;
+            }
+            if is_number(name) {
+                numbers = numbers.saturating_add(1);
+            }
+            if self.columns.iter().any(|column| column.has(name)) {
+                return false;
             }
         }
+        names > numbers.saturating_mul(2)
     }
-    false
+
+    /// Whether the values of a column below are numbers, dates or the like, or come again.
+    fn has_evidence(&self) -> bool {
+        self.columns.iter().any(|column| {
+            !column.header.is_empty()
+                && !is_number(column.header)
+                && (column.is_of_numbers()
+                    || column.is_of_measures()
+                    || column.different() <= column.len() / 2)
+        })
+    }
 }

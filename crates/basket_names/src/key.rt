@@ -11,10 +11,11 @@ const WHOLE: u32 = 16;
 /// Replaces the length of a longer name.
 pub const LONG: u32 = 17;
 
-/// Odd factors of the hash of a key, with as many ones as zeros.
-const FRONT_FACTOR: u64 = 0x9e37_79b9_7f4a_7c15;
+/// What the halves of a key are mixed with before they are multiplied, so that neither is 0 for a
+/// short name. About half of the bits are ones.
+const FRONT_MASK: u64 = 0x9e37_79b9_7f4a_7c15;
 
-const BACK_FACTOR: u64 = 0xd1b5_4a32_d192_ed03;
+const BACK_MASK: u64 = 0xd1b5_4a32_d192_ed03;
 
 /// The hash of a name of any length.
 fn hash_of(name: &[u8]) -> u64 {
@@ -96,14 +97,15 @@ impl Key {
         }
     }
 
-    /// A hash of the name, whose upper bits depend on all others. It has no secret: names that are
-    /// chosen to have one hash push one another out of their bucket, and are then looked up in the
-    /// map like names that aren't kept.
+    /// A hash of the name, each half of which depends on all bytes of a short name: it is both halves
+    /// of a product, folded. It has no secret: names that are chosen to have one hash push one another
+    /// out of their bucket, and are then looked up in the map like names that aren't kept.
     #[inline(always)]
     pub fn hash(&self, name: &[u8]) -> u64 {
         if self.is_whole() {
-            let front = self.front.wrapping_mul(FRONT_FACTOR);
-            front.wrapping_add(self.back.wrapping_mul(BACK_FACTOR))
+            let front = self.front ^ FRONT_MASK;
+            let (low, high) = front.carrying_mul(self.back ^ BACK_MASK, 0);
+            low ^ high
         } else {
             hash_of(name)
         }

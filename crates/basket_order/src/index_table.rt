@@ -20,7 +20,7 @@ const OTHER_MULTIPLIER: u64 = 0xD1B5_4A32_D192_ED03;
 
 /// The indexes of elements, each in the first free slot from that of its hash on. The hash has no key: an
 /// element that finds no free slot nearby isn't kept, and has to be searched for in the list.
-#[derive(Debug, Drop)]
+#[derive(Drop)]
 pub struct IndexTable {
     slots: Vec<u32>,
 }

@@ -5,7 +5,7 @@ ghost use Rattle.std.specs.Prelude.{◌≡◌, ◌≤◌, ◌<◌, ◌+◌, IfSo
 /// (Bentley and Yao 1976). The steps away from a given index double, towards greater elements or towards
 /// lesser ones; once a lesser and a greater element are known, the indexes between them are halved. The
 /// caller compares the elements.
-#[derive(Debug, Drop)]
+#[derive(Drop)]
 pub struct NearSearch {
     near: usize,
     start: usize,

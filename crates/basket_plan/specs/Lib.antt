@@ -3,3 +3,4 @@ pub mod Status
 pub mod Options
 pub mod Values
 pub mod Command
+pub mod Spelling

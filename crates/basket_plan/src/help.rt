@@ -1,7 +1,7 @@
 //! The texts of help, and the version.
 
 /// The version of the program, which packages and the manual page take over.
-pub const VERSION: &str = "1.1.0";
+pub const VERSION: &str = "1.2.0-dev";
 
 /// The help of the command of a name, and for any other name that of the command line.
 pub fn of(name: &str) -> &'static str {
@@ -66,9 +66,9 @@ In CSV, spaces and tabs at the ends of a field don't count, nor do empty names. 
 report is CSV as well.
 
 The report is the same for every miner. Time and memory differ:
-  apriori     the default: for few frequent sets, and with the least memory
-  eclat-bits  for many frequent sets
-  fpgrowth    if eclat-bits takes a second or more: seldom faster over very many baskets
+  apriori     the default: for up to some 25,000 frequent sets
+  eclat-bits  for more frequent sets
+  fpgrowth    worth one try if eclat-bits takes over a second; seldom faster over very many baskets
   eclat-diff  as eclat-bits, by difference lists; seldom faster
   eclat       as eclat-bits, by lists of basket numbers; seldom faster";
 

@@ -12,6 +12,7 @@ mod command;
 mod count_plan;
 mod help;
 mod invocation;
+pub mod laws;
 mod layout;
 mod options;
 mod plan;

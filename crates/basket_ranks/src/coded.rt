@@ -8,7 +8,6 @@ ghost use Rattle.basket_ranks.specs.Codes.{IsCoding, coding_of, decoded, merged_
 use crate::codes::Codes;
 use basket_sets::{Database, Itemset, Minimum, Weighted, count_items, merged};
 use std::alloc::{AllocError, Global};
-use std::fmt::{self, Debug, Formatter};
 use std::marker::Model;
 use std::snapshot::Snapshot;
 
@@ -33,16 +32,6 @@ impl Model for CodedItems {
 
     ghost invariant = { λ coded. IsCoding (record { items = coded.items.items; minimum = coded.minimum; baskets = coded.baskets.value.items })
         × (coded.total ≡ total_of coded.baskets.value.items) };
-}
-
-impl Debug for CodedItems {
-    fn fmt<W: fmt::Write>(&self, f: &mut Formatter<W>) -> fmt::Result {
-        f.debug_struct("CodedItems")
-            .field("items", &self.items)
-            .field("minimum", &self.minimum)
-            .field("total", &self.total)
-            .finish()
-    }
 }
 
 impl CodedItems {
@@ -92,7 +81,7 @@ impl CodedItems {
 
 /// The baskets of a database as ranks of their frequent items, one for each basket, which is
 /// empty if it has no frequent item.
-#[derive(Debug, Drop)]
+#[derive(Drop)]
 pub struct Coded {
     known: CodedItems,
     baskets: Vec<Weighted>,

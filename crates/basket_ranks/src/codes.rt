@@ -16,7 +16,7 @@ use std::marker::Model;
 use std::thread::{self, Threads};
 
 /// The frequent items by rank: by falling support, those of one support by rising number.
-#[derive(Debug, Drop)]
+#[derive(Drop)]
 pub struct Codes {
     items: Vec<u32>,
     ranks: RankTable,

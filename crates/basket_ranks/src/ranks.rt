@@ -74,7 +74,7 @@ fn frequent_entries(
 }
 
 /// The rank of each frequent item: in a table for small numbers, else in a map.
-#[derive(Debug, Drop)]
+#[derive(Drop)]
 pub struct RankTable {
     /// At each number below its length, the rank of that item.
     slots: Vec<Option<u32>>,

@@ -10,7 +10,7 @@ use crate::span::Span;
 pub const BASKETS_AHEAD: usize = 16;
 
 /// Baskets of ranks below `count`: each is a part of a list of ranks.
-#[derive(Clone, Copy, Debug)]
+#[derive(Clone, Copy)]
 pub struct Baskets<'a> {
     pub count: u32,
     pub ranks: &'a [u32],

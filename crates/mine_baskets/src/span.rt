@@ -7,7 +7,7 @@ ghost use Rattle.mine_baskets.specs.Span.{IsWithin, span_front};
 use std::alloc::AllocError;
 
 /// A part of a list of ranks, from `start` up to `end`, which is a basket, and its weight.
-#[derive(Clone, Copy, Debug, PartialEq, Eq)]
+#[derive(Clone, Copy, PartialEq, Eq)]
 pub struct Span {
     pub start: u32,
     pub end: u32,

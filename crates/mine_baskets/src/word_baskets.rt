@@ -15,7 +15,7 @@ use std::marker::Model;
 
 /// Baskets of up to 64 ranks, each as the bits of a word. The words are in order, equal ones
 /// merged.
-#[derive(Debug, Drop)]
+#[derive(Drop)]
 pub struct WordBaskets {
     count: u32,
     words: Vec<Word>,

@@ -13,7 +13,7 @@ pub const WORD_RANKS: usize = 64;
 
 /// A basket of up to 64 ranks: the bits of its ranks, rank 0 the highest, so that in the order of
 /// the words baskets with a common prefix are neighbours.
-#[derive(Clone, Copy, Debug, PartialEq, Eq, PartialOrd, Ord)]
+#[derive(Clone, Copy, PartialEq, Eq, PartialOrd, Ord)]
 pub struct Word {
     pub bits: u64,
     pub weight: u64,

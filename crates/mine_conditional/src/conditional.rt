@@ -14,7 +14,7 @@ use std::alloc::{AllocError, Global};
 /// The baskets that have a rank, kept to the ranks below it that are frequent together with it, by
 /// a least support (Han, Pei and Yin 2000): words if at most 64 are kept, else lists. The ranks
 /// that are kept are numbered anew, from 0 on, so that the baskets are baskets of ranks again.
-#[derive(Debug, Drop)]
+#[derive(Drop)]
 pub enum Conditional {
     Lists(ListBaskets),
     Words(WordBaskets),

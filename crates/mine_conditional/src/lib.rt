@@ -2,9 +2,9 @@
 //!
 //! ```
 //! let numbers = &mut scratch.numbers;
-//! let conditional = self
+//! let conditional = base
 //!     .paths
-//!     .below(alloc, numbers, number, self.least, &ranks)?;
+//!     .below(alloc, numbers, number, base.least, &ranks)?;
 //! let paths = Paths::of(alloc, conditional)?;
 //! ```
 //!

@@ -19,7 +19,6 @@ use std::alloc::{AllocError, Global};
 use std::marker::Model;
 
 /// A local number for each rank, used again from rank to rank, and by databases of fewer ranks.
-#[derive(Debug)]
 pub struct LocalNumbers {
     /// An empty slot for each rank.
     of: Vec<Option<u32>>,

@@ -18,7 +18,6 @@ use std::marker::Model;
 
 /// Baskets from which the classes of ranks are mined: those of a conditional database as words if
 /// there are at most 64 ranks, else by the runs of each rank. Below words all is words.
-#[derive(Debug)]
 pub struct Paths {
     form: PathsForm,
 }
@@ -29,7 +28,7 @@ impl Drop for Paths {
     }
 }
 
-#[derive(Debug, Drop)]
+#[derive(Drop)]
 pub enum PathsForm {
     Runs(Runs),
     Words(WordBaskets),

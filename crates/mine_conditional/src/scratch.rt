@@ -7,7 +7,6 @@ use mine_pairs::Sums;
 use std::alloc::{AllocError, Global};
 
 /// A local number and a sum for each rank, used again from rank to rank, and by databases of fewer ranks.
-#[derive(Debug)]
 pub struct ClassScratch {
     pub sums: Sums,
     pub numbers: LocalNumbers,

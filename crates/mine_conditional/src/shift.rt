@@ -19,7 +19,7 @@ const INLINE_SHIFTS: usize = 8;
 pub type Shifts = SmallVec<Shift, { INLINE_SHIFTS }>;
 
 /// How far the bits of some kept ranks are from those of their local numbers, and a mask of these.
-#[derive(Clone, Copy, Debug, Default)]
+#[derive(Clone, Copy, Default)]
 pub struct Shift {
     by: u32,
     mask: u64,

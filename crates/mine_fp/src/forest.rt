@@ -7,7 +7,8 @@ ghost use Rattle.mine_classes.specs.Mined.{MinesClass, class_size};
 ghost use Rattle.mine_conditional.specs.ClassScratch.{IsScratchOf};
 ghost use Rattle.mine_fp.specs.Trees.{class_trees};
 
-use crate::pattern_base::{PatternBase, Trees};
+use crate::pattern_base::PatternBase;
+use crate::trees::Trees;
 use basket_core::{Coded, CodedItems, CountedSets};
 use mine_baskets::ListBaskets;
 use mine_conditional::{ClassScratch, Paths};
@@ -19,7 +20,7 @@ use std::marker::Model;
 
 /// All coded baskets in order. A prefix that neighbours share is one branch of their prefix tree,
 /// and each run of a rank is a node of it (Han, Pei and Yin 2000).
-#[derive(Debug, Drop)]
+#[derive(Drop)]
 pub struct Forest<'a> {
     all: PatternBase<'a>,
     /// The empty list of itemsets, which knows the items.
@@ -122,7 +123,7 @@ pub fn fp_class_with<T: Tally>(
         return Ok((none, 0));
     }
     let mut trees = Trees::none();
-    let below = all.below(alloc, rank, scratch, &mut trees)?;
+    let below = trees.below(alloc, all, rank, scratch)?;
     let class = Class {
         rank,
         support,

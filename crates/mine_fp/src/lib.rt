@@ -10,6 +10,7 @@
 mod forest;
 mod pattern_base;
 mod tree;
+mod trees;
 pub mod worked;
 
 pub use forest::{Forest, fp_class, fp_class_with};

@@ -12,7 +12,7 @@ use std::marker::Model;
 
 /// A node: where its path begins in the list of ranks, the length of its path, and the weight of the
 /// paths that go through it.
-#[derive(Clone, Copy, Debug)]
+#[derive(Clone, Copy)]
 struct Node {
     start: usize,
     depth: usize,
@@ -21,7 +21,7 @@ struct Node {
 
 /// The prefix tree of weighted paths (Han, Pei and Yin 2000). Paths with a common prefix share
 /// nodes.
-#[derive(Debug, Drop)]
+#[derive(Drop)]
 pub struct FpTree {
     /// The paths that made nodes, one after the other. The path of a node is a slice of this list:
     /// a copy for each node would take the square of a path's length.

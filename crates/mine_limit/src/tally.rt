@@ -31,7 +31,7 @@ pub trait Tally {
 }
 
 /// The tally of one miner alone, which is over once more sets than its limit were reported.
-#[derive(Debug, Drop)]
+#[derive(Drop)]
 pub struct Limit {
     limit: u32,
     told: u64,

@@ -11,7 +11,7 @@ use std::marker::Model;
 
 /// A list of ranks, with room after them that stays when it is cleared, so that a rank is written
 /// with no test of the room.
-#[derive(Debug, Drop)]
+#[derive(Drop)]
 pub struct RankList {
     /// The ranks, and whatever was written into the room after them.
     ranks: Vec<u32>,

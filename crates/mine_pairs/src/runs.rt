@@ -18,7 +18,6 @@ use std::marker::Model;
 /// occurrence of the rank after some others: the ranks before it are its path, and its weight is
 /// that of the neighbours that share the path and the rank. If baskets with a common prefix are
 /// neighbours, a run is a node of their prefix tree (Han, Pei and Yin 2000).
-#[derive(Debug)]
 pub struct Runs {
     count: u32,
     ranks: Vec<u32>,

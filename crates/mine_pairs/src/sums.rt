@@ -13,7 +13,6 @@ use std::alloc::{AllocError, Global};
 use std::marker::Model;
 
 /// A sum for each rank, used again from rank to rank, and by databases of fewer ranks.
-#[derive(Debug)]
 pub struct Sums {
     /// A sum of 0 for each rank.
     sums: Vec<u64>,

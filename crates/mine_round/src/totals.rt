@@ -4,7 +4,7 @@ use crate::seat::RoundSeat;
 use thiserror::Error;
 
 /// What the seats of a round did together.
-#[derive(Debug, Drop)]
+#[derive(Drop)]
 pub struct Totals {
     /// How many pieces were claimed: those with the numbers below.
     pub claimed: u32,

@@ -12,7 +12,7 @@ use smallvec::SmallVec;
 use std::alloc::{AllocError, Global};
 
 /// A row with a bit for each tid, which is one if the tid is in its cover.
-#[derive(Debug, Drop)]
+#[derive(Drop)]
 pub struct BitRow {
     words: RowWords,
     count: u64,

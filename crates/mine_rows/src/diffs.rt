@@ -10,7 +10,7 @@ use crate::weights::Weights;
 use std::alloc::{AllocError, Global};
 
 /// A row that lists the tids that its cover lacks of its parent's (Zaki and Gouda 2003).
-#[derive(Debug, Drop)]
+#[derive(Drop)]
 pub struct DiffList {
     missing: Vec<u32>,
     count: u64,

@@ -12,7 +12,7 @@ use std::alloc::{AllocError, Global};
 
 /// The weight of each tid that is marked, and 0 for the others. For rows of bits no tid is marked, and
 /// the weights of all are there bit by bit.
-#[derive(Debug, Drop)]
+#[derive(Drop)]
 pub struct Marks {
     pub weights: Vec<u64>,
     pub planes: Vec<Plane>,

@@ -7,7 +7,7 @@ use crate::bits::and_count;
 use crate::row_words::RowWords;
 
 /// The tids whose weights have a bit, as a row of bits.
-#[derive(Debug, Drop)]
+#[derive(Drop)]
 pub struct Plane {
     pub bit: u32,
     pub words: RowWords,

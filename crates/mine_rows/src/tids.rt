@@ -12,7 +12,7 @@ use std::alloc::{AllocError, Global};
 const LEAST_TIDS: usize = 16;
 
 /// A row that lists the tids of its cover (Zaki 2000).
-#[derive(Debug, Drop)]
+#[derive(Drop)]
 pub struct TidList {
     tids: Vec<u32>,
     count: u64,

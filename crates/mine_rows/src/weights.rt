@@ -21,7 +21,7 @@ fn all_are_ones(weights: &[u64]) -> bool
 }
 
 /// The weight of each tid.
-#[derive(Debug, Drop)]
+#[derive(Drop)]
 pub struct Weights {
     weights: Vec<u64>,
     are_ones: bool,

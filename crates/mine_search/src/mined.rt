@@ -9,7 +9,7 @@ use mine_limit::{MineFault, Tally};
 use std::alloc::{AllocError, Global};
 
 /// The sets that were found, and the steps that they took.
-#[derive(Debug, Drop)]
+#[derive(Drop)]
 pub struct Mined<S> {
     pub sets: CountedSets,
     pub steps: S,

@@ -19,7 +19,6 @@ const BLOCK_WORDS: usize = 32_768;
 
 /// Sets whose supports are counted in blocks of baskets. It is made once, and any number of blocks may be counted at
 /// once.
-#[derive(Debug)]
 pub struct RowCounter<'a> {
     sets: &'a Extensions,
     used: UsedItems,

@@ -14,7 +14,6 @@ use std::marker::Model;
 
 /// Sets, each as all of its items except the last, which are its prefix, and the last. Sets in a row that share their
 /// prefix have it once.
-#[derive(Debug)]
 pub struct Extensions {
     prefixes: Vec<Itemset>,
     /// For each prefix the items that extend it.

@@ -14,7 +14,6 @@ const MOST_HINTS: usize = 65_536;
 const FEW_ITEMS: usize = 4_096;
 
 /// The items that some sets have. An item's number is its index among them.
-#[derive(Debug)]
 pub struct UsedItems {
     items: Itemset,
     /// For each item how many used ones are below it, as far as hints go. Hints are compared with what

@@ -20,7 +20,7 @@ pub struct Sibling<R> {
 }
 
 /// How many joins were made. Only calls that make them add to it.
-#[derive(Debug, Drop)]
+#[derive(Drop)]
 pub struct Joins {
     number: u64,
 }

@@ -12,7 +12,6 @@ use std::alloc::{AllocError, Global};
 use std::marker::Model;
 
 /// Coded baskets with the runs of each rank, and the least support that meets their minimum.
-#[derive(Debug)]
 pub struct Vertical<'a> {
     coded: &'a CodedItems,
     least: u64,

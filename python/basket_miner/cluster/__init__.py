@@ -35,6 +35,10 @@ from fractions import Fraction
 from typing import Any, Unpack
 
 import pandas as pd
+
+from .._extras import demand_package
+
+demand_package("distributed", "cluster")
 from distributed import Client
 
 from .._baskets import Baskets

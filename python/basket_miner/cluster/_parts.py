@@ -17,7 +17,8 @@ from distributed import Client, Future
 from .._baskets import Labels
 from .._data import SEPARATOR_WORDS, read
 from .._errors import DataError
-from .._frames import place_of
+from .._files import refuse_foreign_file
+from .._frames import columns_of_key, place_of
 from .._keywords import Layout, PartLayout, changed, filled
 from ._labels import Numbering, joined, unpacked
 from ._tasks import awaited, tree
@@ -134,6 +135,7 @@ def _files(names: list[Any], layout: Layout) -> Parts:
         is_plain = os.path.isfile(file) or os.path.isdir(file)
         if os.path.exists(file) and not is_plain:
             raise DataError(f"{file} is no file that can be read several times")
+        refuse_foreign_file(file, file)
     return Parts(files, words=read_so[0].words, separator=read_so[0].separator)
 
 
@@ -206,13 +208,15 @@ def _columns(layout: Layout) -> list[Hashable]:
     if layout["basket"] is None or layout["item"] is None:
         raise DataError("a frame with a row for each item needs both basket= and item=")
     weight = [] if layout["weight"] is None else [layout["weight"]]
-    return [layout["basket"], layout["item"], *weight]
+    return [*columns_of_key(layout["basket"]), layout["item"], *weight]
 
 
 def _all_labels(parts: list[Future], client: Client, waiting: _Waiting) -> bytes:
     """All of the labels of parts, packed, by first appearance over the parts in their order."""
     submit = partial(client.submit, pure=False)
-    content: bytes = waiting.result(tree(submit, joined, parts))
+    # One part may have a label twice too, where it has copies of one that is not equal to them.
+    one = parts if len(parts) > 1 else [submit(joined, *parts)]
+    content: bytes = waiting.result(tree(submit, joined, one))
     return content
 
 

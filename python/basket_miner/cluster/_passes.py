@@ -7,7 +7,6 @@ program; the engine moves the bytes between the tasks.
 """
 
 import os
-import tempfile
 from collections.abc import Callable, Sequence
 from dataclasses import dataclass
 from fractions import Fraction
@@ -85,10 +84,12 @@ def _total(counts: bytes) -> int:
     return int(counts.partition(b"\n")[0].strip(b"()"))
 
 
-def _named(part: bytes | Path, name: str, words: list[str]) -> bytes:
+def _named(
+    part: bytes | Path, name: str, words: list[str], asked: bytes | None = None
+) -> bytes:
     """Runs the program over a part, and tells which part it refuses."""
     try:
-        return run(words, part)
+        return run(words, part, sets=asked)
     except BasketError as error:
         where = f"{name}, {part}" if isinstance(part, Path) else name
         raise type(error)(f"{error} ({where})") from None
@@ -117,10 +118,7 @@ def _counted(
     part: bytes | Path, name: str, asked: bytes, words: Sequence[str]
 ) -> bytes:
     """The counts of the asked sets in a part."""
-    with tempfile.NamedTemporaryFile(prefix="basket-sets-") as file:
-        file.write(asked)
-        file.flush()
-        return _named(part, name, ["count", "--sets", file.name, *words])
+    return _named(part, name, ["count", *words], asked)
 
 
 def _added(words: Sequence[str], *counts: bytes) -> bytes:

@@ -6,7 +6,7 @@ from typing import Any, Protocol
 import pandas as pd
 from distributed import Client
 
-from .._keywords import Form, Miner, Missing
+from .._keywords import Form, Key, Miner, Missing
 from .._minimum import Confidence, Minimum
 from ._parts import Parts
 
@@ -19,7 +19,7 @@ class PrepareCall(Protocol):
         parts: Any,
         *,
         client: Client | None = ...,
-        basket: Hashable | None = ...,
+        basket: Key | None = ...,
         item: Hashable | None = ...,
         weight: Hashable | None = ...,
         missing: Missing = ...,
@@ -42,7 +42,7 @@ class SetsCall(Protocol):
         minimum: Minimum,
         *,
         client: Client | None = ...,
-        basket: Hashable | None = ...,
+        basket: Key | None = ...,
         item: Hashable | None = ...,
         weight: Hashable | None = ...,
         missing: Missing = ...,
@@ -70,7 +70,7 @@ class RulesCall(Protocol):
         confidence: Confidence,
         *,
         client: Client | None = ...,
-        basket: Hashable | None = ...,
+        basket: Key | None = ...,
         item: Hashable | None = ...,
         weight: Hashable | None = ...,
         missing: Missing = ...,
