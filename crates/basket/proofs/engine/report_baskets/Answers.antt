@@ -39,7 +39,7 @@ returns g c =
     let no_items : question.ask ≢ Items = λ is. c.in_default.not-Items (c.ask-ask.ensures ∙ is) in
     let wording : wording_of c.style_of-style.result ≡ wording_with question.layout.separator c.args.names.now = c.style_of-style.ensures ∙ ap (λ (l : Layout). wording_with l.separator c.args.names.now) c.layout.ensures in
     let within = subst (λ l. length l ≤ question.limit) c.in_ok-frequent.ensures.sets c.in_ok-frequent.ensures.within in
-    let made = c.in_ok-of_frequent.ensures.baskets c.in_default.not-Items database question.minimum (record { sets = c.in_ok-frequent.ensures.sets; total = c.in_ok-frequent.ensures.total }) in
+    let made = c.in_ok-made.ensures.baskets c.in_default.not-Items database question.minimum (record { sets = c.in_ok-frequent.ensures.sets; total = c.in_ok-frequent.ensures.total }) in
     let text = made ∙ (λ i. text_of (wording i) (c.ask-ask.ensures i) database question.minimum) in
     record {
       work = ap Some c.in_ok-frequent.ensures.work ∙ mined question.ask (work_of c.args.plan.now.miner database question.minimum) no_items;
