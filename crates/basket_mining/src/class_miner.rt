@@ -13,7 +13,7 @@ use std::alloc::Global;
 use std::marker::PhantomData;
 
 /// Eclat over rows of one type (Zaki 2000; Zaki and Gouda 2003).
-#[derive(Debug, Drop)]
+#[derive(Drop)]
 pub struct EclatMiner<'a, R> {
     pub vertical: Vertical<'a>,
     pub rows: PhantomData<R>,
@@ -38,7 +38,7 @@ impl<R: Row> ClassMiner for EclatMiner<'_, R> {
 }
 
 /// FP-growth (Han, Pei and Yin 2000).
-#[derive(Debug, Drop)]
+#[derive(Drop)]
 pub struct FpGrowthMiner<'a>(pub Forest<'a>);
 
 impl ClassMiner for FpGrowthMiner<'_> {

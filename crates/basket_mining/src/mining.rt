@@ -142,7 +142,10 @@ fn mine_coded<R: Threads + Sync, G: Gate + Sync>(
 }
 
 /// How the work of each phase is cut.
-pub fn cutting(plan: &Plan) -> Cutting {
+pub fn cutting(plan: &Plan) -> Cutting
+    ensures workers { result.workers ≡ plan.now.workers }
+    ensures pieces { result.pieces ≡ plan.now.pieces }
+{
     Cutting::new(plan.workers(), plan.pieces())
 }
 

@@ -21,7 +21,7 @@ use std::random::RandomSource;
 use std::thread::Threads;
 
 /// What an input says, and for CSV the names of its items.
-#[derive(Debug, Drop)]
+#[derive(Drop)]
 pub enum Contents {
     Baskets(Database, Option<Names>),
     /// Sets with their counts.

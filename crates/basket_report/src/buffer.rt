@@ -17,7 +17,7 @@ use std::marker::Model;
 pub const LONGEST: usize = 1_024;
 
 /// The lines of the sets from one index up to another, at the beginning of a room.
-#[derive(Debug, Drop)]
+#[derive(Drop)]
 pub struct LineBuffer {
     counts: CountTexts,
     room: Vec<u8>,

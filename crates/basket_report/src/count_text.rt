@@ -15,7 +15,7 @@ const SCRATCH: usize = 1 + MOST_DIGITS + COUNT_TEXT_ROOM;
 
 /// A count, and its text in parentheses followed by a line feed, at the beginning of a room. The
 /// length is that of the text without the line feed.
-#[derive(Clone, Copy, Debug)]
+#[derive(Clone, Copy)]
 pub struct CountText {
     pub count: u64,
     pub length: usize,

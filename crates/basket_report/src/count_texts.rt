@@ -11,7 +11,7 @@ const MOST_SLOTS: usize = 4_096;
 
 /// Texts of counts. The low bits of a count are a slot, which has the text of the count that was
 /// written there last.
-#[derive(Debug, Drop)]
+#[derive(Drop)]
 pub struct CountTexts {
     slots: Vec<CountText>,
 }

@@ -13,7 +13,7 @@ pub const ITEM_TEXT_ROOM: usize = 16;
 const SCRATCH: usize = MOST_DIGITS + ITEM_TEXT_ROOM;
 
 /// An item, and its text followed by a space, at the beginning of a room.
-#[derive(Debug, Drop)]
+#[derive(Drop)]
 pub struct ItemText {
     pub item: u32,
     pub length: usize,

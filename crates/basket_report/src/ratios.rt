@@ -22,7 +22,7 @@ const SCRATCH: usize = 2 * ROOM;
 
 /// A numerator and a denominator, and the text of their fraction in lowest terms, at the beginning
 /// of a room.
-#[derive(Clone, Copy, Debug)]
+#[derive(Clone, Copy)]
 struct Written {
     numerator: u64,
     denominator: u64,
@@ -64,7 +64,7 @@ impl Written {
 
 /// Texts of fractions. The hash of the two numbers is a slot, which has the text of the fraction that
 /// was written there last.
-#[derive(Debug, Drop)]
+#[derive(Drop)]
 pub struct Ratios {
     slots: Vec<Written>,
 }

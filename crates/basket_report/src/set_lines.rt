@@ -20,7 +20,6 @@ use std::thread::{self, Threads};
 
 /// What it takes to write the lines of sets, with a buffer for each worker. Once it is made no
 /// memory is needed, so a report is written to its end unless the writer fails.
-#[derive(Debug)]
 pub struct SetLines {
     texts: Texts,
     buffers: Vec<LineBuffer>,

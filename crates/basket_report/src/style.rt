@@ -1,7 +1,7 @@
 use basket_names::Names;
 
 /// How a report writes items.
-#[derive(Clone, Copy, Debug)]
+#[derive(Clone, Copy)]
 pub enum Style<'a> {
     /// By their numbers, a line for each set or rule.
     Numbers,

@@ -14,7 +14,6 @@ use std::alloc::{AllocError, Global};
 
 /// What a thread keeps from union to union while it makes the rules of a list: a table of the indexes of
 /// its sets, which threads share, and room that is used again. No rule depends on it.
-#[derive(Debug)]
 pub struct SetIndex<'a> {
     pub(crate) table: &'a IndexTable,
     /// The items of the set that was looked at last, if it is kept as a word.

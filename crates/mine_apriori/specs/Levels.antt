@@ -27,6 +27,10 @@ pub record Search : Type 0 where
   pub limit : ℕ
   pub size : ℕ
 
+-- the supports of the sets that are asked
+abbrev pub wanted : Search → List ℕ
+wanted search = map (support_of search.coding.baskets) (asked_of search.coding search.size)
+
 -- there are more frequent sets than the limit
 abbrev pub AreTooMany : Coding → ℕ → Type 0
 AreTooMany coding limit = limit < length (frequent_of_coding coding)

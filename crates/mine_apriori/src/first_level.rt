@@ -4,6 +4,7 @@ ghost use Rattle.mine_limit.specs.declared.fault.MineFault.TheVariants.{TooMany}
 ghost use Rattle.basket_ranks.specs.Codes.{IsCoding};
 ghost use Rattle.mine_supports.specs.Extensions.{AreGrouped, sets_of};
 ghost use Rattle.mine_apriori.specs.Levels.{AreFound, AreTooMany, level_of};
+ghost use Rattle.mine_pairs.specs.Pairs.{ArePairs, lists_of};
 
 use crate::joiner::{Alone, Joiner};
 use crate::levels::{KnownLevels, Levels};
@@ -73,9 +74,16 @@ impl<'a> FirstLevel<'a> {
         })
     }
 
-    /// The search that has found the frequent items and pairs.
-    pub fn with_pairs<J: Joiner>(self, alloc: Global, joiner: &J) -> Result<Levels<'a>, MineFault>
+    /// The search that has found the frequent items and pairs. For each rank the pairs are the
+    /// ranks below it that are frequent together with it, each with the support of the pair.
+    pub fn with_pairs<J: Joiner>(
+        self,
+        alloc: Global,
+        pairs: &[Vec<(u32, u64)>],
+        joiner: &J,
+    ) -> Result<Levels<'a>, MineFault>
         requires ready { J.is_ready joiner.now }
+        requires pairs { ArePairs self.coding (lists_of pairs.now) }
         ensures ok { IfOk result (λ levels. levels ≡ record { coding = self.entry.coding; limit = self.entry.limit; size = 2 }) }
         ensures too_many { (most : ℕ) → result ≡ Err (TooMany most) → (most ≡ self.entry.limit) × AreTooMany self.entry.coding self.entry.limit }
     {
@@ -85,8 +93,7 @@ impl<'a> FirstLevel<'a> {
             mut found,
         } = self;
         let counted = pair_count(found.len() as u32) as u64;
-        let lists = joiner.pairs(alloc, coded)?;
-        let pairs = sorted_pairs(alloc, coded, &lists)?;
+        let pairs = sorted_pairs(alloc, coded, pairs)?;
         let (sets, counts) = pair_sets(alloc, &pairs)?;
         let level = joiner.add_frequent(alloc, coded, &sets, &counts, &mut found)?;
         let known = KnownLevels {

@@ -1,4 +1,4 @@
-//! What counts the sets of a level, finds the frequent ones and joins them.
+//! What finds the frequent sets of a level and joins them.
 ghost use Rattle.std.specs.Prelude.{◌≡◌, ◌++◌, ⊤, All, IfOk, OnOk, filter, map};
 ghost use Rattle.basket_ranks.specs.Codes.{IsCoding};
 ghost use Rattle.basket_sets.specs.Frequent.{is_frequent};
@@ -7,36 +7,18 @@ ghost use Rattle.basket_sets.specs.Order.{IsInReportOrder};
 ghost use Rattle.basket_sets.specs.Support.{support_of};
 ghost use Rattle.mine_apriori.specs.Candidates.{candidates_of};
 ghost use Rattle.mine_apriori.specs.Levels.{decoded_sets};
-ghost use Rattle.mine_pairs.specs.Pairs.{ArePairs, lists_of};
 ghost use Rattle.mine_supports.specs.Extensions.{AreGrouped, kept, sets_of};
 
 use crate::frequent::add_frequent;
 use crate::join::candidates;
 use basket_core::{Coded, CountedSets};
-use mine_pairs::frequent_pairs;
-use mine_supports::{Extensions, count_extensions};
+use mine_supports::Extensions;
 use std::alloc::{AllocError, Global};
 
-/// What counts the sets of a level, finds the frequent ones and joins them.
+/// What finds the frequent sets of a level and joins them.
 pub trait Joiner {
     // Whether threads may share it, where it has threads.
     ghost is_ready: { Self → Type 0 };
-
-    /// The frequent pairs: for each rank the ranks below it that are frequent together with it, each
-    /// with the support of the pair.
-    fn pairs(&self, alloc: Global, coded: &Coded) -> Result<Vec<Vec<(u32, u64)>>, AllocError>
-        requires ready { is_ready self.now }
-        ensures { IfOk result (λ lists. ArePairs coded.now (lists_of lists.items)) };
-
-    /// The support of each set.
-    fn counts(
-        &self,
-        alloc: Global,
-        coded: &Coded,
-        sets: &Extensions,
-    ) -> Result<Vec<u64>, AllocError>
-        requires ready { is_ready self.now }
-        ensures { IfOk result (λ counts. counts.items ≡ map (support_of coded.now.baskets) (sets_of sets.now)) };
 
     /// Adds those of the sets that are frequent to those found, as items and with their supports.
     /// Returns them as ranks.
@@ -71,19 +53,6 @@ pub struct Alone;
 
 impl Joiner for Alone {
     ghost is_ready = { λ _. ⊤ };
-
-    fn pairs(&self, alloc: Global, coded: &Coded) -> Result<Vec<Vec<(u32, u64)>>, AllocError> {
-        frequent_pairs(alloc, coded)
-    }
-
-    fn counts(
-        &self,
-        alloc: Global,
-        coded: &Coded,
-        sets: &Extensions,
-    ) -> Result<Vec<u64>, AllocError> {
-        count_extensions(alloc, coded.baskets(), sets)
-    }
 
     fn add_frequent(
         &self,

@@ -6,14 +6,15 @@ ghost use Rattle.basket_core.specs.Listing.{listing_of};
 ghost use Rattle.basket_sets.specs.Support.{items_of};
 ghost use Rattle.mine_supports.specs.Extensions.{AreGrouped, sets_of};
 ghost use Rattle.mine_supports.specs.Sizes.{IsRegular};
-ghost use Rattle.mine_apriori.specs.Levels.{AreFound, AreTooMany, asked_of, level_of};
+ghost use Rattle.mine_apriori.specs.Levels.{AreFound, AreTooMany, asked_of, level_of, wanted};
 ghost use Rattle.mine_apriori.specs.Work.{candidate_count, candidates_of_size, candidates_up_to};
 
 use crate::first_level::{FirstLevel, frequent_ranks};
 use crate::joiner::{Alone, Joiner};
 use basket_core::{Coded, CountedSets, Frequent};
 use mine_limit::MineFault;
-use mine_supports::Extensions;
+use mine_pairs::frequent_pairs;
+use mine_supports::{Extensions, count_extensions};
 use std::alloc::Global;
 use std::marker::Model;
 use std::thread::Threads;
@@ -63,21 +64,16 @@ impl<'a> Levels<'a> {
 
     /// The search at its end, which asks for nothing more.
     #[tactic(auto, using(crate::proofs::LevelsLemmas::asks_more))]
-    pub fn searched<J: Joiner>(
-        alloc: Global,
-        coded: &'a Coded,
-        limit: u32,
-        joiner: &J,
-    ) -> Result<Self, MineFault>
-        requires ready { J.is_ready joiner.now }
+    pub fn searched(alloc: Global, coded: &'a Coded, limit: u32) -> Result<Self, MineFault>
         ensures search { IfOk result (λ levels. (levels.coding ≡ coded.now) × (levels.limit ≡ limit)) }
         ensures done { IfOk result (λ levels. asked_of levels.coding levels.size ≡ []) }
         ensures too_many { (most : ℕ) → result ≡ Err (TooMany most) → (most ≡ limit) × AreTooMany coded.now limit }
     {
         let first = FirstLevel::of(alloc, coded, limit)?;
-        let mut levels = first.with_pairs(alloc, joiner)?;
+        let mut levels = first.with_pairs(alloc, &frequent_pairs(alloc, coded)?, &Alone)?;
         while !levels.asked().is_empty() {
-            levels = levels.next(alloc, joiner)?;
+            let counts = count_extensions(alloc, coded.baskets(), levels.asked())?;
+            levels = levels.answer(alloc, &counts, &Alone)?;
         }
         Ok(levels)
     }
@@ -103,10 +99,16 @@ impl<'a> Levels<'a> {
         self.counted
     }
 
-    /// The search after one more level, whose sets the joiner counts.
+    /// The search that goes on with the supports of what is asked for, in order.
     #[tactic(auto, using(crate::proofs::LevelsLemmas::asked_rise, crate::proofs::LevelsLemmas::asked_few))]
-    pub fn next<J: Joiner>(self, alloc: Global, joiner: &J) -> Result<Self, MineFault>
+    pub fn answer<J: Joiner>(
+        self,
+        alloc: Global,
+        counts: &[u64],
+        joiner: &J,
+    ) -> Result<Self, MineFault>
         requires ready { J.is_ready joiner.now }
+        requires counts { counts.now ≡ wanted self }
         ensures next { asked_of self.entry.coding self.entry.size ≢ [] → IfOk result (λ levels. levels ≡ record { coding = self.entry.coding; limit = self.entry.limit; size = self.entry.size + 1 }) }
         ensures done { asked_of self.entry.coding self.entry.size ≡ [] → IfOk result (λ levels. levels ≡ self.entry) }
         ensures too_many { (most : ℕ) → result ≡ Err (TooMany most) → (most ≡ self.entry.limit) × AreTooMany self.entry.coding self.entry.limit }
@@ -122,8 +124,7 @@ impl<'a> Levels<'a> {
             asked,
             counted,
         } = self;
-        let counts = joiner.counts(alloc, coded, &asked)?;
-        let level = joiner.add_frequent(alloc, coded, &asked, &counts, &mut found)?;
+        let level = joiner.add_frequent(alloc, coded, &asked, counts, &mut found)?;
         let known = KnownLevels {
             coded,
             size: size + 1,
@@ -225,7 +226,7 @@ pub fn apriori(alloc: Global, coded: &Coded, limit: u32) -> Result<(Frequent, u6
     ensures within { IfOk result (λ mined. length mined.0.sets ≤ limit) }
     ensures too_many { (most : ℕ) → result ≡ Err (TooMany most) → (most ≡ limit) × AreTooMany coded.now limit }
 {
-    let levels = Levels::searched(alloc, coded, limit, &Alone)?;
+    let levels = Levels::searched(alloc, coded, limit)?;
     let candidates = levels.counted();
     Ok((levels.finish(alloc)?, candidates))
 }

@@ -16,7 +16,7 @@ const SAMPLE: usize = 4_096;
 const TRIES: u32 = 64;
 
 /// What takes the time in a range of ranks.
-#[derive(Clone, Copy, Debug)]
+#[derive(Clone, Copy)]
 pub enum Cost {
     /// Its ranks in the baskets: a step each.
     Occurrences,
@@ -26,7 +26,7 @@ pub enum Cost {
 }
 
 /// How many steps a rank takes in a sample.
-#[derive(Clone, Copy, Debug)]
+#[derive(Clone, Copy)]
 struct RankSteps {
     /// Those in its range.
     own: u64,

@@ -2,7 +2,7 @@
 ghost use Rattle.std.specs.Prelude.{◌≡◌, ◌≤◌};
 
 /// How many workers do a phase, 1 to 64, and in how many pieces, 1 to 65,536.
-#[derive(Clone, Copy, Debug)]
+#[derive(Clone, Copy)]
 pub struct Cutting {
     pub workers: u32,
     pub pieces: u32,

@@ -7,7 +7,7 @@ pub trait Gate {
 }
 
 /// The gate that each worker passes at once.
-#[derive(Clone, Copy, Debug)]
+#[derive(Clone, Copy)]
 pub struct Open;
 
 impl Gate for Open {

@@ -16,7 +16,7 @@ use Rattle.mine_apriori.proofs.first_level.FirstLevel.with_pairs.Goals.{In_ok-le
 
 pub pair_sets-requires : goal.pair_sets-requires
 pair_sets-requires g c =
-    let ranks = ap (map (λ (pair : Pair). pair.ranks)) c.deref-2.ensures.value ∙ c.in_ok-pairs.ensures.ranks in
+    let ranks = ap (map (λ (pair : Pair). pair.ranks)) c.deref.ensures.value ∙ c.in_ok-pairs.ensures.ranks in
     record {
       two = subst (AreOfSize 2) (sym ranks) (level_sized c.self.inside.coded.now 2);
       in_order = subst IsInReportOrder (sym ranks) (level_in_order c.self.inside.coded.now 2);
@@ -24,7 +24,7 @@ pair_sets-requires g c =
 
 -- the sets are the second level
 level_is : (g : Over) (c : In_ok-sets g) → sets_of c.in_ok-sets.sets ≡ level_of c.self.inside.coded.now 2
-level_is g c = c.in_ok-sets.ensures.sets ∙ ap (map (λ (pair : Pair). pair.ranks)) c.deref-2.ensures.value ∙ c.in_ok-pairs.ensures.ranks
+level_is g c = c.in_ok-sets.ensures.sets ∙ ap (map (λ (pair : Pair). pair.ranks)) c.deref.ensures.value ∙ c.in_ok-pairs.ensures.ranks
 
 pub add_frequent-requires-clause-rising : goal.add_frequent-requires-clause-rising
 add_frequent-requires-clause-rising g c = subst (All IsRising) (sym (level_is g (goal.at.add_frequent-requires-clause-rising g c).In_ok-sets)) (level_rises c.self.inside.coded.now 2)

@@ -1,9 +1,9 @@
 use Rattle.std.proofs.Common.{filter, ap, ◌∙◌}
 use Rattle.basket_sets.specs.Frequent.{is_frequent}
 use Rattle.mine_apriori.proofs.LevelsLemmas.{AreNext, are_next, next_level}
-use Rattle.mine_apriori.proofs.levels.Levels.next.Given.{Over}
-use Rattle.mine_apriori.proofs.levels.Levels.next.Goals as goal
-use Rattle.mine_apriori.proofs.levels.Levels.next.Goals.{In_ok-level}
+use Rattle.mine_apriori.proofs.levels.Levels.answer.Given.{Over}
+use Rattle.mine_apriori.proofs.levels.Levels.answer.Goals as goal
+use Rattle.mine_apriori.proofs.levels.Levels.answer.Goals.{In_ok-level}
 
 -- the sets of one rank more are found
 next : (g : Over) (c : In_ok-level g) → AreNext c.self.inside.coded.now c.self.inside.size c.add_frequent.new.found c.in_ok-level.level
