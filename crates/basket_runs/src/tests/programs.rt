@@ -1,5 +1,6 @@
 //! Programs over memory: which inputs are opened, what goes to which stream, and the status.
-ghost use Rattle.std.specs.Prelude.{◌≡◌, ◌-◌, codes, false, map, IfOk, None, Some, if◌then◌else◌, vec_capacity, vec_len};
+ghost use Rattle.std.specs.Prelude.{◌≡◌, ◌≤◌, ◌<◌, ◌+◌, ◌-◌, ◌++◌, [], ◌∷◌, codes, false, map, IfOk, None, Some, if◌then◌else◌, vec_capacity, vec_len};
+ghost use Rattle.basket_main.specs.Log.{Opening, refusal_of};
 ghost use Rattle.std.specs.Option.{option_map_or};
 ghost use Rattle.std.specs.Str.{bytes_eq};
 
@@ -35,6 +36,30 @@ impl<'a> Shelf<'a> {
     }
 }
 
+/// Why nothing was found, if nothing was.
+fn refusal(found: &io::Result<SliceSource<'_>>) -> Option<ErrorKind>
+    ensures { result ≡ refusal_of found.now }
+{
+    match found {
+        Ok(_) => None,
+        Err(error) => Some(error.kind()),
+    }
+}
+
+/// Logs what was to be opened, and why it was not, if it was not.
+fn note(
+    log: &mut Vec<(Snapshot<Origin>, Option<ErrorKind>)>,
+    origin: &Origin,
+    refusal: Option<ErrorKind>,
+)
+    requires { vec_len log.old < vec_capacity log.old }
+    ensures entries { map {B = Opening} (λ entry. (entry.0.value, entry.1)) log.new.items ≡ map {B = Opening} (λ entry. (entry.0.value, entry.1)) log.old.items ++ (origin.now, refusal) ∷ [] }
+    ensures capacity { vec_capacity log.old ≤ vec_capacity log.new }
+    ensures len { vec_len log.new ≡ vec_len log.old + 1 }
+{
+    let _ = log.push((Snapshot::of(origin), refusal));
+}
+
 impl<'a> Inputs for Shelf<'a> {
     type Input = SliceSource<'a>;
 
@@ -50,11 +75,7 @@ impl<'a> Inputs for Shelf<'a> {
         let name = origin.path().unwrap_or("standard input");
         let _ = write!(self.opened, "{name};");
         let found = self.find(origin);
-        let refusal = match &found {
-            Ok(_) => None,
-            Err(error) => Some(error.kind()),
-        };
-        let _ = self.log.push((Snapshot::of(origin), refusal));
+        note(&mut self.log, origin, refusal(&found));
         found
     }
 
