@@ -1,3 +1,4 @@
 mod ResultLemmas
 mod ItemLemmas
 mod CountLemmas
+mod WorkLemmas

@@ -1,2 +1,3 @@
 pub mod Engine
 pub mod Count
+pub mod Work

@@ -2,13 +2,15 @@ ghost use Rattle.std.specs.Prelude.{◌≡◌, ◌≢◌, ◌↔◌, true, false
 ghost use Rattle.mine_limit.specs.declared.fault.MineFault.{MineFault as MiningFault};
 ghost use Rattle.basket_read.specs.declared.fault.ReadFault.{ReadFault as InputFault};
 ghost use Rattle.basket.specs.Engine.{IsContentsFault, IsReportFault, MakesReport, WritesReport, WritesPrefix};
+ghost use Rattle.basket.specs.Work.{IsWorkFor, work_asked, work_for};
+ghost use Rattle.basket_mining.specs.Mining.{work_of};
 ghost use Rattle.basket_outcome.specs.Prepared.{prepared_text};
 ghost use Rattle.basket_outcome.specs.Outcome.{report_of_baskets, outcome_for};
 
 use crate::items::{report_items, report_named_items};
 use crate::workers::plan_for;
 use basket_core::{Database, Sink, Source};
-use basket_mining::{cutting, mine_in_place};
+use basket_mining::{Work, cutting, mine_in_place};
 use basket_names::Names;
 use basket_outcome::{Contents, PreparedReport, RunFault, listing, report_listing, style_of};
 use basket_plan::{Ask, Form, Plan};
@@ -21,7 +23,8 @@ use std::random::RandomSource;
 use std::thread::Threads;
 
 /// Reads the input to its end and writes the report that the plan asks for. Once its first byte is
-/// written nothing but the writer can fail, and a flush ends the run.
+/// written nothing but the writer can fail, and a flush ends the run. What is returned is how much
+/// the plan's miner did, if anything was mined: items are only counted, and counted sets are known.
 ///
 /// `Input` has a fault of the bytes or of reading them, `Mine` says that there are more sets than
 /// the plan's limit, and `Write` that the writer failed. Out of memory is a fault in the first two.
@@ -32,7 +35,7 @@ pub fn run<R: RandomSource + Threads + Sync, S: Source, W: Sink>(
     plan: &Plan,
     reader: &mut S,
     writer: &mut W,
-) -> Result<(), RunFault>
+) -> Result<Option<Work>, RunFault>
     requires reader { S.has_failed reader.old ≡ false }
     requires open { S.at_end reader.old ≡ false }
     requires writer { W.has_failed writer.old ≡ false }
@@ -43,6 +46,9 @@ pub fn run<R: RandomSource + Threads + Sync, S: Source, W: Sink>(
     ensures whole { result ≡ Err RunFault.Write → W.ends_in_flush writer.new ≡ true → WritesReport (S.left reader.old) plan.now.question (W.taken writer.old) (W.taken writer.new) }
     ensures flushed { OnOk result (W.ends_in_flush writer.new ≡ true) }
 
+    // What was done for it.
+    ensures work { IfOk result (IsWorkFor plan.now.miner plan.now.question (S.left reader.old)) }
+
     // Of any reader and writer, files too.
     ensures nothing { IfErr result (λ fault. fault ≢ RunFault.Write → writer.new ≡ writer.old) }
     ensures ended { OnOk result (S.at_end reader.new ≡ true) }
@@ -52,25 +58,26 @@ pub fn run<R: RandomSource + Threads + Sync, S: Source, W: Sink>(
     ensures reader_failed { S.has_failed reader.new ≡ true → (fault : InputFault) × (result ≡ Err (RunFault.Input fault)) }
     ensures write { (result ≡ Err RunFault.Write) ↔ (W.has_failed writer.new ≡ true) }
 {
-    let made = match reported(rt, alloc, plan, reader) {
+    let (made, work) = match reported(rt, alloc, plan, reader) {
         Ok(made) => made,
         Err(fault) => return Err(fault),
     };
     made.write(rt, writer)?;
-    Ok(())
+    Ok(work)
 }
 
-/// The report that the plan asks for over an input, which is read to its end. Items of a FIMI input
-/// and of CSV baskets are counted while it is read.
+/// The report that the plan asks for over an input, which is read to its end, and how much was mined
+/// for it. Items of a FIMI input and of CSV baskets are counted while it is read.
 pub fn reported<R: RandomSource + Threads + Sync, S: Source>(
     rt: &R,
     alloc: Global,
     plan: &Plan,
     reader: &mut S,
-) -> Result<PreparedReport, RunFault>
+) -> Result<(PreparedReport, Option<Work>), RunFault>
     requires working { S.has_failed reader.old ≡ false }
     requires open { S.at_end reader.old ≡ false }
     ensures made { MakesReport plan.now.question (S.left reader.old) (S.left reader.new) (S.has_failed reader.new) result }
+    ensures work { IfOk result (λ made. IsWorkFor plan.now.miner plan.now.question (S.left reader.old) made.1) }
     ensures ended { OnOk result (S.at_end reader.new ≡ true) }
 {
     match (plan.ask(), plan.layout().form) {
@@ -80,17 +87,18 @@ pub fn reported<R: RandomSource + Threads + Sync, S: Source>(
     }
 }
 
-/// The report that the plan asks for, made from all that the input says.
-#[tactic(auto, using(crate::proofs::ResultLemmas::after_any))]
+/// The same, made from all that the input says.
+#[tactic(auto, using(crate::proofs::ResultLemmas::after_any, crate::proofs::WorkLemmas::work_in))]
 fn report_input<R: RandomSource + Threads + Sync, S: Source>(
     rt: &R,
     alloc: Global,
     plan: &Plan,
     reader: &mut S,
-) -> Result<PreparedReport, RunFault>
+) -> Result<(PreparedReport, Option<Work>), RunFault>
     requires working { S.has_failed reader.old ≡ false }
     requires open { S.at_end reader.old ≡ false }
     ensures made { MakesReport plan.now.question (S.left reader.old) (S.left reader.new) (S.has_failed reader.new) result }
+    ensures work { IfOk result (λ made. IsWorkFor plan.now.miner plan.now.question (S.left reader.old) made.1) }
     ensures ended { OnOk result (S.at_end reader.new ≡ true) }
 {
     let names = Names::none(alloc);
@@ -106,8 +114,9 @@ fn report_contents<R: Threads + Sync>(
     alloc: Global,
     contents: Contents,
     plan: &Plan,
-) -> Result<PreparedReport, RunFault>
-    ensures ok { IfOk result (λ made. outcome_for contents plan.now.question ≡ Ok (prepared_text made)) }
+) -> Result<(PreparedReport, Option<Work>), RunFault>
+    ensures ok { IfOk result (λ made. outcome_for contents plan.now.question ≡ Ok (prepared_text made.0)) }
+    ensures work { IfOk result (λ made. made.1 ≡ work_for plan.now.miner plan.now.question contents) }
     ensures err { IfErr result (IsContentsFault (outcome_for contents plan.now.question)) }
 {
     match contents {
@@ -116,7 +125,7 @@ fn report_contents<R: Threads + Sync>(
             Ok(report_baskets(rt, alloc, database, &names, &plan)?)
         }
         Contents::Counts(combined, names) => match listing(alloc, plan, &combined) {
-            Ok(frequent) => Ok(report_listing(rt, alloc, frequent, &names, plan)?),
+            Ok(frequent) => Ok((report_listing(rt, alloc, frequent, &names, plan)?, None)),
             Err(fault) => Err(RunFault::Input(fault)),
         },
     }
@@ -129,8 +138,9 @@ fn report_baskets<R: Threads + Sync>(
     database: Database,
     names: &Option<Names>,
     plan: &Plan,
-) -> Result<PreparedReport, MineFault>
-    ensures ok { IfOk result (λ made. report_of_baskets database names.now plan.now.question ≡ Ok (prepared_text made)) }
+) -> Result<(PreparedReport, Option<Work>), MineFault>
+    ensures ok { IfOk result (λ made. report_of_baskets database names.now plan.now.question ≡ Ok (prepared_text made.0)) }
+    ensures work { IfOk result (λ made. made.1 ≡ work_asked plan.now.question.ask (work_of plan.now.miner database plan.now.question.minimum)) }
     ensures err { (fault : MiningFault) → result ≡ Err fault → fault ≢ MineFault.Memory → report_of_baskets database names.now plan.now.question ≡ Err fault }
 {
     let style = style_of(names, plan.layout().separator);
@@ -140,9 +150,10 @@ fn report_baskets<R: Threads + Sync>(
         let minimum = plan.minimum();
         let total = database.total();
         let text = items_report(alloc, &counts, minimum, total, style)?;
-        return Ok(PreparedReport::Text(text));
+        return Ok((PreparedReport::Text(text), None));
     }
-    let (frequent, _) = mine_in_place(rt, alloc, database, plan, &Open)?;
+    let (frequent, work) = mine_in_place(rt, alloc, database, plan, &Open)?;
     let workers = plan.workers();
-    Ok(PreparedReport::of_frequent(rt, alloc, frequent, ask, style, workers)?)
+    let made = PreparedReport::of_frequent(rt, alloc, frequent, ask, style, workers)?;
+    Ok((made, Some(work)))
 }

@@ -6,11 +6,12 @@ ghost use Rattle.basket_report.specs.Style.{wording_of};
 ghost use Rattle.basket_sets.specs.declared.weighted.Weighted.{Weighted as Basket};
 ghost use Rattle.basket_sets.specs.Frequent.{frequent_items_of};
 ghost use Rattle.basket.specs.Engine.{MakesReport};
+ghost use Rattle.basket.specs.Work.{IsWorkFor};
 
 use crate::workers::plan_for;
 use basket_core::{Source, add_counts};
 use basket_csv::{Dialect, count_baskets};
-use basket_mining::cutting;
+use basket_mining::{Work, cutting};
 use basket_names::Names;
 use basket_outcome::{PreparedReport, RunFault};
 use basket_plan::{Ask, Form, Plan};
@@ -23,17 +24,19 @@ use std::random::RandomSource;
 use std::thread::Threads;
 
 /// The report of the frequent items of a FIMI input, which are counted while it is read.
+#[tactic(auto, using(std::proofs::lemmas::Grind::common_steps, crate::proofs::WorkLemmas::none_for_items))]
 pub fn report_items<R: Threads + Sync, S: Source>(
     rt: &R,
     alloc: Global,
     plan: &Plan,
     reader: &mut S,
-) -> Result<PreparedReport, RunFault>
+) -> Result<(PreparedReport, Option<Work>), RunFault>
     requires reader { S.has_failed reader.old ≡ false }
     requires open { S.at_end reader.old ≡ false }
     requires items { plan.now.question.ask ≡ Ask.Items }
     requires lines { plan.now.question.layout.form ≡ Form.Fimi }
     ensures made { MakesReport plan.now.question (S.left reader.old) (S.left reader.new) (S.has_failed reader.new) result }
+    ensures work { IfOk result (λ made. IsWorkFor plan.now.miner plan.now.question (S.left reader.old) made.1) }
     ensures ended { OnOk result (S.at_end reader.new ≡ true) }
 {
     let counts = match count_fimi_shared(rt, alloc, reader, plan.workers()) {
@@ -41,24 +44,26 @@ pub fn report_items<R: Threads + Sync, S: Source>(
         Err(fault) => return Err(RunFault::Input(fault)),
     };
     match report_counts(rt, alloc, &counts, plan, Style::Numbers) {
-        Ok(report) => Ok(PreparedReport::Text(report)),
+        Ok(report) => Ok((PreparedReport::Text(report), None)),
         Err(AllocError) => Err(RunFault::Mine(MineFault::Memory)),
     }
 }
 
 /// The report of the frequent items of CSV records that are baskets, which are counted while they
 /// are read.
+#[tactic(auto, using(std::proofs::lemmas::Grind::common_steps, crate::proofs::WorkLemmas::none_for_items))]
 pub fn report_named_items<R: RandomSource + Threads + Sync, S: Source>(
     rt: &R,
     alloc: Global,
     plan: &Plan,
     reader: &mut S,
-) -> Result<PreparedReport, RunFault>
+) -> Result<(PreparedReport, Option<Work>), RunFault>
     requires reader { S.has_failed reader.old ≡ false }
     requires open { S.at_end reader.old ≡ false }
     requires items { plan.now.question.ask ≡ Ask.Items }
     requires records { plan.now.question.layout.form ≡ Form.Baskets }
     ensures made { MakesReport plan.now.question (S.left reader.old) (S.left reader.new) (S.has_failed reader.new) result }
+    ensures work { IfOk result (λ made. IsWorkFor plan.now.miner plan.now.question (S.left reader.old) made.1) }
     ensures ended { OnOk result (S.at_end reader.new ≡ true) }
 {
     let layout = plan.layout();
@@ -86,7 +91,7 @@ pub fn report_named_items<R: RandomSource + Threads + Sync, S: Source>(
         separator,
     };
     match report_counts(rt, alloc, &counts, plan, style) {
-        Ok(report) => Ok(PreparedReport::Text(report)),
+        Ok(report) => Ok((PreparedReport::Text(report), None)),
         Err(AllocError) => Err(RunFault::Mine(MineFault::Memory)),
     }
 }

@@ -21,7 +21,9 @@ pub use basket_plan::{
     plan_status,
 };
 pub use basket_read::ReadFault;
-pub use basket_stream::{MemSink, MemSource, Sink, SliceSource, Source, StdSink, StdSource};
+pub use basket_stream::{
+    Failed, MemSink, MemSource, Sink, SliceSource, Source, StdSink, StdSource,
+};
 pub use count::run_count;
 pub use engine::run;
 pub use memory::report;

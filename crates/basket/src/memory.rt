@@ -23,7 +23,7 @@ pub fn report<R: RandomSource + Threads + Sync>(
     ensures err { IfErr result (IsOutcomeFault (outcome bytes.now plan.now.question)) }
 {
     let made = match reported(rt, alloc, plan, &mut SliceSource::new(bytes)) {
-        Ok(made) => made,
+        Ok((made, _)) => made,
         Err(fault) => return Err(fault),
     };
     Ok(made.into_text(rt, alloc)?)

@@ -41,6 +41,8 @@ impl<'a> Inputs for SystemInputs<'a> {
 
     ghost opened = { λ _. None };
 
+    ghost room = { λ _. 2 };
+
     fn open(&mut self, origin: &Origin) -> io::Result<StdSource<Kept<'a, Opened>>> {
         let opened = open(self.rt, origin.path())?;
         Ok(StdSource::new(Kept::new(opened, self.code)))
@@ -59,6 +61,8 @@ pub struct StandardError<'a> {
 
 impl ErrorStream for StandardError<'_> {
     ghost explained = { λ _. None };
+
+    ghost room = { λ _. 1 };
 
     fn explain(&mut self, ending: &Ending) {
         // If standard error takes nothing, the status still tells the fault.

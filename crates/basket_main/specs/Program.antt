@@ -55,13 +55,13 @@ abbrev pub WritesSome : (Origin → Option (List ℕ)) → Task → Origin → O
 WritesSome bytes (Report plan) input before after = WritesPrefix (bytes input) plan.question before after
 WritesSome bytes (Count plan sets) input before after = WritesCountsPrefix plan.layout (bytes sets) (bytes input) before after
 
--- the text of help if that was asked for, or the report of what was run, then flushed; a prefix of these if the output failed, and all of a report if only the flush failed; else nothing
+-- the text of help if that was asked for, or the report of what was run, then flushed; a prefix of these if the output failed, and all of it if only the flush failed; else nothing
 abbrev pub Writes : (Origin → Option (List ℕ)) → Ending → Bool → Option (List ℕ) → Option (List ℕ) → Type 0
 Writes bytes (Ran invocation (Ok x)) flushed before after = WritesAll bytes invocation.task invocation.input before after × (flushed ≡ true)
 Writes bytes (Ran invocation (Err Write)) flushed before after =
     WritesSome bytes invocation.task invocation.input before after × (flushed ≡ true → WritesAll bytes invocation.task invocation.input before after)
-Writes bytes (Refused (Help text)) flushed before after = Appends before after (string_bytes text)
-Writes bytes (Unanswered text) flushed before after = TakesPrefix before after (string_bytes text)
+Writes bytes (Refused (Help text)) flushed before after = Appends before after (string_bytes text) × (flushed ≡ true)
+Writes bytes (Unanswered text) flushed before after = TakesPrefix before after (string_bytes text) × (flushed ≡ true → Appends before after (string_bytes text))
 Writes bytes _ flushed before after = Keeps before after
 
 -- nothing was asked of the output
@@ -71,6 +71,18 @@ is_silent (Ran invocation (Err Write)) = false
 is_silent (Refused (Help text)) = false
 is_silent (Unanswered text) = false
 is_silent _ = true
+
+-- ---- the ends of the inputs
+
+-- the readers of a task are at their ends; `at_end` says so of a reader of the input, and `sets_at_end` of one of the sets
+abbrev pub AreAtEnd : {S L : Type 0} → (S → Bool) → (L → Bool) → Task → Type 0
+AreAtEnd {S} {L} at_end sets_at_end (Report plan) = (reader : S) × (at_end reader ≡ true)
+AreAtEnd {S} {L} at_end sets_at_end (Count plan sets) = (lists : L) × (reader : S) × (sets_at_end lists ≡ true) × (at_end reader ≡ true)
+
+-- what was run without a fault read all of its inputs
+abbrev pub HasRead : {S L : Type 0} → (S → Bool) → (L → Bool) → Ending → Type 0
+HasRead at_end sets_at_end (Ran invocation (Ok x)) = AreAtEnd at_end sets_at_end invocation.task
+HasRead at_end sets_at_end _ = ⊤
 
 -- ---- the fault of a run
 

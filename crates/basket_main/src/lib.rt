@@ -11,6 +11,7 @@
 //! ```
 #![tactic(auto)]
 
+mod answer;
 mod ending;
 mod program;
 mod streams;

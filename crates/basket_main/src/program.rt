@@ -1,15 +1,15 @@
-ghost use Rattle.std.specs.Prelude.{◌≡◌, false, true, List, map, Option, Some, ℕ};
+ghost use Rattle.std.specs.Prelude.{◌≡◌, ◌≤◌, false, true, List, map, Option, Some, ℕ};
 ghost use Rattle.basket_main.specs.Ending.{explanation_of, is_cut_off};
 ghost use Rattle.basket_main.specs.Log.{Grows};
-ghost use Rattle.basket_main.specs.Program.{Follows, HasFault, IsRefusal, Writes, is_silent};
+ghost use Rattle.basket_main.specs.Program.{Follows, HasFault, HasRead, IsRefusal, Writes, is_silent};
 ghost use Rattle.basket_plan.specs.Command.{invocation_of_words};
 
+use crate::answer::answer;
 use crate::ending::Ending;
 use crate::streams::{ErrorStream, Inputs};
 use basket::{
     CountPlan, Invocation, Origin, Plan, PlanFault, Sink, Task, invocation_of, run, run_count,
 };
-use basket_report::write_bytes;
 use std::alloc::Global;
 use std::random::RandomSource;
 use std::thread::Threads;
@@ -24,11 +24,14 @@ pub fn perform<R: RandomSource + Threads + Sync, I: Inputs, W: Sink, E: ErrorStr
     output: &mut W,
     errors: &mut E,
 ) -> Ending
-    requires { W.has_failed output.old ≡ false }
+    requires output { W.has_failed output.old ≡ false }
+    requires inputs { 2 ≤ I.room inputs.old }
+    requires errors { 1 ≤ E.room errors.old }
     ensures asked { Follows (map (λ word. word.now) words.now) result (I.opened inputs.old) (I.opened inputs.new) }
     ensures written { Writes (I.bytes inputs.old) result (W.ends_in_flush output.new) (W.taken output.old) (W.taken output.new) }
     ensures untouched { is_silent result ≡ true → output.new ≡ output.old }
     ensures failed { W.has_failed output.new ≡ is_cut_off result }
+    ensures ended { HasRead I.Input.at_end I.Sets.at_end result }
     ensures fault { HasFault I.Input.left I.Input.has_failed I.Sets.has_failed (I.bytes inputs.old) result }
     ensures explained { Grows (E.explained errors.old) (E.explained errors.new) (explanation_of result) }
 {
@@ -40,7 +43,8 @@ pub fn perform<R: RandomSource + Threads + Sync, I: Inputs, W: Sink, E: ErrorStr
 /// Ends a program whose words ask for nothing that can be run: writes help or the version to the
 /// output if it was asked for, else says why.
 pub fn refuse<W: Sink, E: ErrorStream>(fault: PlanFault, output: &mut W, errors: &mut E) -> Ending
-    requires { W.has_failed output.old ≡ false }
+    requires output { W.has_failed output.old ≡ false }
+    requires errors { 1 ≤ E.room errors.old }
     ensures refused { IsRefusal fault result }
     ensures written { (bytes : Option (List ℕ) → Option (List ℕ)) → Writes bytes result (W.ends_in_flush output.new) (W.taken output.old) (W.taken output.new) }
     ensures untouched { is_silent result ≡ true → output.new ≡ output.old }
@@ -54,6 +58,7 @@ pub fn refuse<W: Sink, E: ErrorStream>(fault: PlanFault, output: &mut W, errors:
 
 /// Says on standard error why the program ends, if there is something to say.
 fn explain<E: ErrorStream>(ending: &Ending, errors: &mut E)
+    requires { 1 ≤ E.room errors.old }
     ensures { Grows (E.explained errors.old) (E.explained errors.new) (explanation_of ending.now) }
 {
     if ending.is_explained() {
@@ -69,34 +74,18 @@ fn obey<R: RandomSource + Threads + Sync, I: Inputs, W: Sink>(
     inputs: &mut I,
     output: &mut W,
 ) -> Ending
-    requires { W.has_failed output.old ≡ false }
+    requires output { W.has_failed output.old ≡ false }
+    requires inputs { 2 ≤ I.room inputs.old }
     ensures asked { Follows (map (λ word. word.now) words.now) result (I.opened inputs.old) (I.opened inputs.new) }
     ensures written { Writes (I.bytes inputs.old) result (W.ends_in_flush output.new) (W.taken output.old) (W.taken output.new) }
     ensures untouched { is_silent result ≡ true → output.new ≡ output.old }
     ensures failed { W.has_failed output.new ≡ is_cut_off result }
+    ensures ended { HasRead I.Input.at_end I.Sets.at_end result }
     ensures fault { HasFault I.Input.left I.Input.has_failed I.Sets.has_failed (I.bytes inputs.old) result }
 {
     match invocation_of(alloc, words) {
         Ok(invocation) => carry_out(rt, alloc, invocation, inputs, output),
         Err(fault) => answer(fault, output),
-    }
-}
-
-/// Writes help or the version, if the fault is that it was asked for.
-fn answer<W: Sink>(fault: PlanFault, output: &mut W) -> Ending
-    requires { W.has_failed output.old ≡ false }
-    ensures refused { IsRefusal fault result }
-    ensures written { (bytes : Option (List ℕ) → Option (List ℕ)) → Writes bytes result (W.ends_in_flush output.new) (W.taken output.old) (W.taken output.new) }
-    ensures untouched { is_silent result ≡ true → output.new ≡ output.old }
-    ensures failed { W.has_failed output.new ≡ is_cut_off result }
-{
-    match fault {
-        PlanFault::Help(text) => match write_bytes(output, text.as_bytes()) {
-            Ok(()) => Ending::Refused(PlanFault::Help(text)),
-            Err(_) => Ending::Unanswered(text),
-        },
-        PlanFault::Usage(text) => Ending::Refused(PlanFault::Usage(text)),
-        PlanFault::Memory => Ending::Refused(PlanFault::Memory),
     }
 }
 
@@ -108,11 +97,13 @@ fn carry_out<R: RandomSource + Threads + Sync, I: Inputs, W: Sink>(
     inputs: &mut I,
     output: &mut W,
 ) -> Ending
-    requires { W.has_failed output.old ≡ false }
+    requires output { W.has_failed output.old ≡ false }
+    requires inputs { 2 ≤ I.room inputs.old }
     ensures asked { (words : List (List ℕ)) → invocation_of_words words ≡ Some invocation → Follows words result (I.opened inputs.old) (I.opened inputs.new) }
     ensures written { Writes (I.bytes inputs.old) result (W.ends_in_flush output.new) (W.taken output.old) (W.taken output.new) }
     ensures untouched { is_silent result ≡ true → output.new ≡ output.old }
     ensures failed { W.has_failed output.new ≡ is_cut_off result }
+    ensures ended { HasRead I.Input.at_end I.Sets.at_end result }
     ensures fault { HasFault I.Input.left I.Input.has_failed I.Sets.has_failed (I.bytes inputs.old) result }
 {
     let Invocation { task, input } = invocation;
@@ -134,11 +125,13 @@ fn report<R: RandomSource + Threads + Sync, I: Inputs, W: Sink>(
     inputs: &mut I,
     output: &mut W,
 ) -> Ending
-    requires { W.has_failed output.old ≡ false }
+    requires output { W.has_failed output.old ≡ false }
+    requires inputs { 1 ≤ I.room inputs.old }
     ensures asked { (words : List (List ℕ)) → invocation_of_words words ≡ Some (record { task = Task.Report plan; input = input }) → Follows words result (I.opened inputs.old) (I.opened inputs.new) }
     ensures written { Writes (I.bytes inputs.old) result (W.ends_in_flush output.new) (W.taken output.old) (W.taken output.new) }
     ensures untouched { is_silent result ≡ true → output.new ≡ output.old }
     ensures failed { W.has_failed output.new ≡ is_cut_off result }
+    ensures ended { HasRead I.Input.at_end I.Sets.at_end result }
     ensures fault { HasFault I.Input.left I.Input.has_failed I.Sets.has_failed (I.bytes inputs.old) result }
 {
     let mut reader = match inputs.open(&input) {
@@ -147,7 +140,11 @@ fn report<R: RandomSource + Threads + Sync, I: Inputs, W: Sink>(
     };
     let ran = run(rt, alloc, &plan, &mut reader, output);
     let task = Task::Report(plan);
-    Ending::Ran(Invocation { task, input }, ran)
+    let invocation = Invocation { task, input };
+    match ran {
+        Ok(_) => Ending::Ran(invocation, Ok(())),
+        Err(fault) => Ending::Ran(invocation, Err(fault)),
+    }
 }
 
 /// What is to be counted: how, and where the sets and the input come from.
@@ -166,11 +163,13 @@ fn count<R: RandomSource + Threads + Sync, I: Inputs, W: Sink>(
     inputs: &mut I,
     output: &mut W,
 ) -> Ending
-    requires { W.has_failed output.old ≡ false }
+    requires output { W.has_failed output.old ≡ false }
+    requires inputs { 2 ≤ I.room inputs.old }
     ensures asked { (words : List (List ℕ)) → invocation_of_words words ≡ Some (record { task = Task.Count counting.plan counting.sets; input = counting.input }) → Follows words result (I.opened inputs.old) (I.opened inputs.new) }
     ensures written { Writes (I.bytes inputs.old) result (W.ends_in_flush output.new) (W.taken output.old) (W.taken output.new) }
     ensures untouched { is_silent result ≡ true → output.new ≡ output.old }
     ensures failed { W.has_failed output.new ≡ is_cut_off result }
+    ensures ended { HasRead I.Input.at_end I.Sets.at_end result }
     ensures fault { HasFault I.Input.left I.Input.has_failed I.Sets.has_failed (I.bytes inputs.old) result }
 {
     let Counting { plan, sets, input } = counting;

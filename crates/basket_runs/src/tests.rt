@@ -88,6 +88,9 @@ fn run_words<'a, R: Threads + Sync>(
     let Task::Report(plan) = task else {
         return Err(Fail::new("the words ask for no report"));
     };
-    let end = run(&NoRandomBytes(rt), alloc, &plan, &mut reader, &mut writer);
+    let end = match run(&NoRandomBytes(rt), alloc, &plan, &mut reader, &mut writer) {
+        Ok(_) => Ok(()),
+        Err(fault) => Err(fault),
+    };
     ran(end, writer.into_bytes())
 }

@@ -1,19 +1,63 @@
 //! Programs over memory: which inputs are opened, what goes to which stream, and the status.
-ghost use Rattle.std.specs.Prelude.{◌≡◌, codes, false, None, Some, if◌then◌else◌};
+ghost use Rattle.std.specs.Prelude.{◌≡◌, ◌≤◌, ◌<◌, ◌+◌, ◌-◌, ◌++◌, [], ◌∷◌, codes, false, map, IfOk, None, Some, if◌then◌else◌, vec_capacity, vec_len};
+ghost use Rattle.basket_main.specs.Log.{Opening, refusal_of};
 ghost use Rattle.std.specs.Option.{option_map_or};
 ghost use Rattle.std.specs.Str.{bytes_eq};
 
 use super::*;
 use basket::{Origin, SliceSource};
 use basket_main::{Ending, ErrorStream, Inputs, perform};
+use std::io::ErrorKind;
+use std::snapshot::Snapshot;
 
-/// Standard input and two files with these bytes, and the names of what was opened.
+/// Standard input and two files with these bytes, the names of what was opened, and for clauses
+/// what was opened and why it was not.
 #[derive(Drop)]
 struct Shelf<'a> {
     standard: &'a [u8],
     baskets: &'a [u8],
     sets: &'a [u8],
     opened: String,
+    log: Vec<(Snapshot<Origin>, Option<ErrorKind>)>,
+}
+
+impl<'a> Shelf<'a> {
+    fn find(&self, origin: &Origin) -> io::Result<SliceSource<'a>>
+        ensures open { IfOk result (λ found. ⟦<SliceSource<'a> as Source>⟧.at_end found ≡ false) }
+        ensures left { IfOk result (λ found. ⟦<SliceSource<'a> as Source>⟧.left found ≡ ⟦<Shelf<'a> as Inputs>⟧.bytes self.now origin.now) }
+    {
+        match origin.path() {
+            None => Ok(SliceSource::new(self.standard)),
+            Some("sets") => Ok(SliceSource::new(self.sets)),
+            Some("baskets") => Ok(SliceSource::new(self.baskets)),
+            Some("too large") => Err(io::Error::from(ErrorKind::OutOfMemory)),
+            Some(_) => Err(io::Error::new(ErrorKind::NotFound, "no such file")),
+        }
+    }
+}
+
+/// Why nothing was found, if nothing was.
+fn refusal(found: &io::Result<SliceSource<'_>>) -> Option<ErrorKind>
+    ensures { result ≡ refusal_of found.now }
+{
+    match found {
+        Ok(_) => None,
+        Err(error) => Some(error.kind()),
+    }
+}
+
+/// Logs what was to be opened, and why it was not, if it was not.
+fn note(
+    log: &mut Vec<(Snapshot<Origin>, Option<ErrorKind>)>,
+    origin: &Origin,
+    refusal: Option<ErrorKind>,
+)
+    requires { vec_len log.old < vec_capacity log.old }
+    ensures entries { map {B = Opening} (λ entry. (entry.0.value, entry.1)) log.new.items ≡ map {B = Opening} (λ entry. (entry.0.value, entry.1)) log.old.items ++ (origin.now, refusal) ∷ [] }
+    ensures capacity { vec_capacity log.old ≤ vec_capacity log.new }
+    ensures len { vec_len log.new ≡ vec_len log.old + 1 }
+{
+    let _ = log.push((Snapshot::of(origin), refusal));
 }
 
 impl<'a> Inputs for Shelf<'a> {
@@ -23,18 +67,16 @@ impl<'a> Inputs for Shelf<'a> {
 
     ghost bytes = { λ s origin. Some (option_map_or (λ path. if bytes_eq path (codes "sets") then s.sets.now else s.baskets.now) origin s.standard.now) };
 
-    ghost opened = { λ _. None };
+    ghost opened = { λ s. Some (map (λ entry. (entry.0.value, entry.1)) s.log.items) };
+
+    ghost room = { λ s. vec_capacity s.log - vec_len s.log };
 
     fn open(&mut self, origin: &Origin) -> io::Result<SliceSource<'a>> {
         let name = origin.path().unwrap_or("standard input");
         let _ = write!(self.opened, "{name};");
-        match origin.path() {
-            None => Ok(SliceSource::new(self.standard)),
-            Some("sets") => Ok(SliceSource::new(self.sets)),
-            Some("baskets") => Ok(SliceSource::new(self.baskets)),
-            Some("too large") => Err(io::Error::from(io::ErrorKind::OutOfMemory)),
-            Some(_) => Err(io::Error::new(io::ErrorKind::NotFound, "no such file")),
-        }
+        let found = self.find(origin);
+        note(&mut self.log, origin, refusal(&found));
+        found
     }
 
     fn open_sets(&mut self, origin: &Origin) -> io::Result<SliceSource<'a>> {
@@ -42,15 +84,21 @@ impl<'a> Inputs for Shelf<'a> {
     }
 }
 
-/// Standard error.
+/// Standard error, and for clauses the endings that were explained.
 #[derive(Drop)]
-struct Said(String);
+struct Said {
+    text: String,
+    log: Vec<Snapshot<Ending>>,
+}
 
 impl ErrorStream for Said {
-    ghost explained = { λ _. None };
+    ghost explained = { λ s. Some (map (λ ending. ending.value) s.log.items) };
+
+    ghost room = { λ s. vec_capacity s.log - vec_len s.log };
 
     fn explain(&mut self, ending: &Ending) {
-        let _ = write!(self.0, "{ending}");
+        let _ = write!(self.text, "{ending}");
+        let _ = self.log.push(Snapshot::of(ending));
     }
 }
 
@@ -69,9 +117,13 @@ fn performed<R: Threads + Sync>(
         baskets: NINE_BASKETS,
         sets: b"2 1\n9\n",
         opened: String::new(alloc),
+        log: Vec::with_capacity(alloc, 2)?,
     };
     let mut output = MemSink::new(alloc, room, room, false)?;
-    let mut errors = Said(String::new(alloc));
+    let mut errors = Said {
+        text: String::new(alloc),
+        log: Vec::with_capacity(alloc, 1)?,
+    };
     let ending = perform(
         &NoRandomBytes(rt),
         alloc,
@@ -83,7 +135,7 @@ fn performed<R: Threads + Sync>(
     Ok((
         inputs.opened,
         output.into_bytes(),
-        errors.0,
+        errors.text,
         ending.status(),
     ))
 }

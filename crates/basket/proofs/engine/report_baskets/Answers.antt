@@ -1,4 +1,4 @@
-use Rattle.std.proofs.Common.{◌≡◌, ◌≢◌, ◌≤◌, ◌∙◌, Ok, ap, length, subst, sym}
+use Rattle.std.proofs.Common.{◌≡◌, ◌≢◌, ◌≤◌, ◌∙◌, Ok, Some, ap, length, subst, sym}
 use Rattle.basket_report.specs.Items.{items_met}
 use Rattle.basket_report.specs.Report.{report_of}
 use Rattle.basket_report.specs.Style.{wording_of}
@@ -8,7 +8,10 @@ use Rattle.basket_plan.specs.declared.layout.Layout.{Layout}
 use Rattle.basket_plan.specs.declared.plan.Ask.TheVariants.{Items}
 use Rattle.basket_outcome.specs.Contents.{wording_with}
 use Rattle.basket_outcome.specs.Outcome.{text_of}
+use Rattle.basket_mining.specs.Mining.{work_of}
+use Rattle.basket.specs.Work.{work_asked}
 use Rattle.basket.proofs.ResultLemmas.{few_enough}
+use Rattle.basket.proofs.WorkLemmas.{mined}
 use Rattle.basket.proofs.engine.report_baskets.Goals as goal
 
 pub returns-in-Items-clause-ok : goal.returns-in-Items-clause-ok
@@ -23,6 +26,12 @@ returns-in-Items-clause-ok g c =
     ∙ ap (report_of (wording_with question.layout.separator c.args.names.now)) (sym (frequent_items_are_counted database question.minimum)) in
     rw is (ap Ok (sym written))
 
+pub returns-in-Items-clause-work : goal.returns-in-Items-clause-work
+returns-in-Items-clause-work g c =
+    let question = c.args.plan.now.question in
+    let is : question.ask ≡ Items = sym c.ask-ask.ensures ∙ c.in-Items.is in
+    ap (λ ask. work_asked ask (work_of c.args.plan.now.miner c.args.database question.minimum)) (sym is)
+
 pub returns : goal.returns
 returns g c =
     let database = c.args.database in
@@ -30,9 +39,10 @@ returns g c =
     let no_items : question.ask ≢ Items = λ is. c.in_default.not-Items (c.ask-ask.ensures ∙ is) in
     let wording : wording_of c.style_of-style.result ≡ wording_with question.layout.separator c.args.names.now = c.style_of-style.ensures ∙ ap (λ (l : Layout). wording_with l.separator c.args.names.now) c.layout.ensures in
     let within = subst (λ l. length l ≤ question.limit) c.in_ok-frequent.ensures.sets c.in_ok-frequent.ensures.within in
-    let made = c.in_ok-of_frequent.ensures.baskets c.in_default.not-Items database question.minimum (record { sets = c.in_ok-frequent.ensures.sets; total = c.in_ok-frequent.ensures.total }) in
+    let made = c.in_ok-made.ensures.baskets c.in_default.not-Items database question.minimum (record { sets = c.in_ok-frequent.ensures.sets; total = c.in_ok-frequent.ensures.total }) in
     let text = made ∙ (λ i. text_of (wording i) (c.ask-ask.ensures i) database question.minimum) in
     record {
+      work = ap Some c.in_ok-frequent.ensures.work ∙ mined question.ask (work_of c.args.plan.now.miner database question.minimum) no_items;
       ok = rw (few_enough question.ask database question.minimum question.limit no_items within) (ap Ok (sym text));
       err = λ fault is _. absurd cc;
     }
