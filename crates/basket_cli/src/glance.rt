@@ -34,7 +34,13 @@ fn read(rt: &HostRuntime, name: Option<&str>, style: Style) -> io::Result<String
     let is_whole = bytes.len() <= MOST_BYTES;
     bytes.truncate(MOST_BYTES);
     let bytes = bytes.as_slice();
-    Ok(File { name, bytes, is_whole, size }.looked(rt.alloc(), style)?)
+    Ok(File {
+        name,
+        bytes,
+        is_whole,
+        size,
+    }
+    .looked(rt.alloc(), style)?)
 }
 
 /// Writes the pairs of a file, or of standard input.
@@ -53,15 +59,24 @@ fn pairs(rt: &HostRuntime, recipe: &Recipe, name: Option<&str>) -> u8 {
         Err(PairsFault::Write) => explain(rt, NO_WRITE, 4),
         Err(PairsFault::NotText { line }) => {
             let encoding = recipe.encoding.name();
-            tell(rt, format!(in rt.alloc(); "basket: line {line} is not {encoding}: --encoding says how the text is written\n"))
+            tell(
+                rt,
+                format!(in rt.alloc();
+                    "basket: line {line} is not {encoding}: --encoding says how the text is written\n"
+                ),
+            )
         }
         Err(PairsFault::NoColumn { column }) => {
-            tell(rt, format!(in rt.alloc(); "basket: no record has a column {column}\n"))
+            tell(
+                rt,
+                format!(in rt.alloc(); "basket: no record has a column {column}\n"),
+            )
         }
     }
 }
 
 const NO_MEMORY: &str = "basket: out of memory\n";
+
 const NO_WRITE: &str = "basket: cannot write the report\n";
 
 /// Says what is wrong with an input, and returns the exit status.
