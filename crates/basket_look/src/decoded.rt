@@ -22,6 +22,20 @@ const BY_HAND: Remedy = Remedy::Say(
     "Say it yourself: --form, --sep and --header, as `basket sets --help` has them.",
 );
 
+/// How many bytes of lines of numbers make the sample. Short lines make many baskets.
+const MOST_SAMPLED: usize = 1 << 17;
+
+/// The first lines of a text.
+fn beginning(text: &str) -> &str {
+    let front = text
+        .get(..text.floor_char_boundary(MOST_SAMPLED))
+        .unwrap_or(text);
+    match front.rsplit_once('\n') {
+        Some((lines, _)) if front.len() < text.len() => lines,
+        _ => text,
+    }
+}
+
 /// The line of a quote that opens and is closed lines later or never.
 fn open_quote(text: &str, fields: &Fields) -> Option<u32> {
     match fields {
@@ -78,7 +92,7 @@ impl Decoded<'_> {
         let readings = number_readings(alloc, lines, numbers, self.encoding, ends)?;
         let sample = match readings.first() {
             Some(first) if numbers.weighted == 0 && numbers.counted == 0 => {
-                Sample::of(alloc, self.text.as_str(), &first.recipe)?
+                Sample::of(alloc, beginning(self.text.as_str()), &first.recipe)?
             }
             _ => Sample::empty(alloc),
         };

@@ -4,6 +4,9 @@ use crate::reading::{Form, Reading};
 use basket_pairs::{Encoding, Fields, Key, Recipe, Span};
 use std::alloc::{AllocError, Global};
 
+/// How many lines decide.
+const MOST_LINES: usize = 5_000;
+
 /// How many numbers stand in a line before its items, and what they are.
 #[derive(Clone, Copy, PartialEq, Eq)]
 enum Front {
@@ -141,6 +144,7 @@ fn reading_with(alloc: Global, encoding: Encoding, front: Front) -> Result<Readi
 
 /// What stands before the items in all lines.
 fn front_of(lines: &[&str], numbers: &NumberLines<'_>) -> Front {
+    let lines = lines.get(..lines.len().min(MOST_LINES)).unwrap_or(lines);
     if lines.len() < 4 || numbers.weighted > 0 || numbers.others > 0 {
         return Front::Nothing;
     }
