@@ -8,7 +8,7 @@ _PACKAGE = f"{Path(__file__).parent}/"
 
 
 def warn(said: str) -> None:
-    """Warns at the line that called this package, so that each such line is told once."""
+    """Warns at the line that called this package, so that Python shows it once for each such line."""
     level, frame = 1, sys._getframe()
     while frame.f_back and frame.f_code.co_filename.startswith(_PACKAGE):
         level, frame = level + 1, frame.f_back

@@ -1,4 +1,4 @@
-"""What changed is told by the counts of each lot of baskets, and by exact rationals."""
+"""What changed, compared with the counts of each lot of baskets and with exact rationals."""
 
 import itertools
 import math
