@@ -1,11 +1,12 @@
-.PHONY: all demo try check test test-python edits install uninstall page package wheel bench instructions pictures
+.PHONY: all demo try check test test-python edits install uninstall page package wheel release proofs proofs-from \
+	proofs-forget libraries bench peers instructions pictures
 
 PREFIX ?= $(HOME)/.local
 PROGRAM := crates/basket_cli/out/basket_cli
 STAGES := crates/basket_bench/out/basket_bench
 YARDSTICK := bench/out/yardstick
 SPREAD := bench/out/spread.so
-TESTS := crates/basket_checks/% crates/mine_checks/% crates/mine_runs/% crates/basket_runs/%
+TESTS := crates/basket_checks/% crates/basket_runs/%
 SOURCES := crates.txt $(filter-out $(TESTS),$(shell find crates -name out -prune -o -type f \( -name '*.rt' -o -name '*.antt' \) -print))
 PLACE := $(DESTDIR)$(PREFIX)
 
@@ -68,6 +69,27 @@ package: $(PROGRAM) page
 wheel: $(PROGRAM) page
 	tools/wheel.py
 
+# All files of a release, under dist/: these, the proofs, and what tells of them. TRIAL=1 makes them of a text that is no
+# release, as of a version with -dev.
+release: $(PROGRAM) page
+	tools/release.py $(if $(TRIAL),--trial)
+
+# What this machine keeps of the proofs of this commit, as a file under dist/.
+proofs: $(PROGRAM)
+	tools/proofs.py pack
+
+# Takes the proofs of such a file, as `make proofs-from FILE=proofs-..`: a later make doesn't prove these again, and says
+# that they were proved elsewhere. The gate takes none of them.
+proofs-from:
+	tools/proofs.py take "$(FILE)"
+
+proofs-forget:
+	tools/proofs.py forget
+
+# Puts the libraries that make proved where `rt check` looks for them, which else proves the crates below once more.
+libraries:
+	tools/proofs.py libraries
+
 # The pictures of docs/GUIDE.md and README, from examples/. BASKET and PAGE name another program and page.
 pictures: $(if $(BASKET),,$(PROGRAM)) $(if $(PAGE),,page)
 	tools/python-packages
@@ -87,11 +109,22 @@ $(SPREAD): bench/spread.c
 	$(CC) -O2 -shared -fPIC -o $@ $< -ldl
 
 # Times the program, beside the C++ program, its stages, the Python package and the page, and writes bench/RESULTS.md.
-# It wants valgrind and an idle machine; bench/COST.md says how long it takes.
+# It wants valgrind and an idle machine; bench/COST.md says how long it takes. With DATA=FOLDER it times the miners over
+# the files NAME.dat of a folder instead, as those of the FIMI repository, and writes nothing.
+ifdef DATA
+bench: $(if $(BASKET),,$(PROGRAM))
+	bench/run.py $(or $(BASKET),$(PROGRAM)) --data "$(DATA)"
+else
 bench: $(PROGRAM) $(STAGES) $(YARDSTICK) $(SPREAD) page
 	tools/python-packages
 	bench/run.py $(PROGRAM) --beside $(YARDSTICK) --spread $(SPREAD) --stages $(STAGES) --frames bench/frames.py \
 		--cluster bench/cluster.py --page bench/in_browser.py
+endif
+
+# Weka and ELKI over inputs of the bench beside the program, and whether the sets of each are right. It wants their
+# Debian packages: bench/peers/peers.py says which.
+peers: $(if $(BASKET),,$(PROGRAM))
+	bench/peers/peers.py $(or $(BASKET),$(PROGRAM))
 
 # Counts the instructions of the commands of bench/RESULTS.md, which are the same on any load, and tells which take more
 # than 3% more than that page says.

@@ -19,7 +19,9 @@ use Rattle.basket_sets.proofs.theory.Support.{support-append}
 use Rattle.basket_sets.specs.declared.weighted.Weighted.{Weighted}
 use Rattle.basket_sets.specs.Frequent.{frequent_items_of}
 use Rattle.basket_sets.specs.Support.{total_of}
+use Rattle.basket_mining.specs.Greatest.{greatest_support}
 use Rattle.basket_outcome.specs.declared.fault.RunFault.TheVariants.{Input}
+use Rattle.basket.proofs.DoneLemmas.{HasGreatest}
 use Rattle.basket.specs.Engine.{IsReadable, MakesReport, RefusesSets}
 use Rattle.basket_outcome.specs.declared.contents.Contents.TheVariants as contents
 use Rattle.basket_outcome.specs.Contents.{FailsIn, by_names, contents_in, wording_with}
@@ -57,6 +59,13 @@ IsCounted question counts names bytes = (baskets : List Weighted) × (outcome by
 pub csv_counted : (question : Question) (counts : ItemCounts) (names : List (List ℕ)) → question.layout.form ≡ Baskets → (bytes : List ℕ) → AreCountsNamed (counts, names) (csv_of question bytes)
     → IsCounted question counts (Some names) bytes
 csv_counted question counts names form bytes (baskets, is, counted) = (baskets, csv_outcome question form bytes ∙ ap (λ r. outcome_of (by_names contents.Baskets r) question) is, counted)
+
+-- the greatest support of an item of the baskets that were counted is that of what the input says
+pub csv_greatest : (question : Question) (counts : ItemCounts) (names : List (List ℕ)) (greatest : ℕ) → question.layout.form ≡ Baskets
+    → ((baskets : List Weighted) → AreCountsOf counts baskets → greatest ≡ greatest_support baskets) → (bytes : List ℕ) → AreCountsNamed (counts, names) (csv_of question bytes)
+    → HasGreatest question greatest bytes
+csv_greatest question counts names greatest form most bytes (baskets, is, counted) =
+    (baskets, Some names, ap (λ f. contents_in f question.layout [] bytes) form ∙ ap (by_names contents.Baskets) is, most baskets counted)
 
 -- memory may be out only if the input has no fault
 pub memory_refuses : (left : Option (List ℕ)) (question : Question) (counts : ItemCounts) (names : Option (List (List ℕ)))

@@ -1,4 +1,4 @@
 mod ResultLemmas
 mod ItemLemmas
 mod CountLemmas
-mod WorkLemmas
+mod DoneLemmas

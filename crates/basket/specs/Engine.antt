@@ -12,7 +12,7 @@ use Rattle.basket_outcome.specs.Contents.{FailsIn}
 use Rattle.basket_outcome.specs.Prepared.{prepared_text}
 use Rattle.basket_outcome.specs.Outcome.{outcome}
 use Rattle.basket_plan.specs.Plan.{Question}
-use Rattle.basket_mining.specs.declared.mining.Work.{Work}
+use Rattle.basket.specs.declared.done.Done.{Done}
 
 -- the writer took the report of what the reader had left, and nothing else
 abbrev pub WritesReport : Option (List ℕ) → Question → Option (List ℕ) → Option (List ℕ) → Type 0
@@ -44,8 +44,8 @@ IsReportFault question left after failed Write = failed ≡ false
 IsReportFault question left after failed (Sets fault) = ⊥
 IsReportFault question left after failed (Uncounted nth) = ⊥
 
--- what comes of a reader: the report of what it had left, with how much was mined for it, or why there is none
-abbrev pub MakesReport : Question → Option (List ℕ) → Option (List ℕ) → Bool → Result (PreparedReport × Option Work) RunFault → Type 0
+-- what comes of a reader: the report of what it had left, with what else the run comes to, or why there is none
+abbrev pub MakesReport : Question → Option (List ℕ) → Option (List ℕ) → Bool → Result (PreparedReport × Done) RunFault → Type 0
 MakesReport question left after failed (Ok made) = (failed ≡ false) × IfSome left (λ bytes. outcome bytes question ≡ Ok (prepared_text made.0))
 MakesReport question left after failed (Err fault) = IsReportFault question left after failed fault × (fault ≢ Write)
 

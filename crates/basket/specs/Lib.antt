@@ -1,3 +1,3 @@
 pub mod Engine
 pub mod Count
-pub mod Work
+pub mod Done

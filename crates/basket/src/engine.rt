@@ -2,15 +2,15 @@ ghost use Rattle.std.specs.Prelude.{◌≡◌, ◌≢◌, ◌↔◌, true, false
 ghost use Rattle.mine_limit.specs.declared.fault.MineFault.{MineFault as MiningFault};
 ghost use Rattle.basket_read.specs.declared.fault.ReadFault.{ReadFault as InputFault};
 ghost use Rattle.basket.specs.Engine.{IsContentsFault, IsReportFault, MakesReport, WritesReport, WritesPrefix};
-ghost use Rattle.basket.specs.Work.{IsWorkFor, work_asked, work_for};
-ghost use Rattle.basket_mining.specs.Mining.{work_of};
+ghost use Rattle.basket.specs.Done.{IsDoneFor, done_for, done_over};
 ghost use Rattle.basket_outcome.specs.Prepared.{prepared_text};
 ghost use Rattle.basket_outcome.specs.Outcome.{report_of_baskets, outcome_for};
 
+use crate::done::Done;
 use crate::items::{report_items, report_named_items};
 use crate::workers::plan_for;
 use basket_core::{Database, Sink, Source};
-use basket_mining::{Work, cutting, mine_in_place};
+use basket_mining::{cutting, greatest_count, mine_in_place};
 use basket_names::Names;
 use basket_outcome::{Contents, PreparedReport, RunFault, listing, report_listing, style_of};
 use basket_plan::{Ask, Form, Plan};
@@ -35,7 +35,7 @@ pub fn run<R: RandomSource + Threads + Sync, S: Source, W: Sink>(
     plan: &Plan,
     reader: &mut S,
     writer: &mut W,
-) -> Result<Option<Work>, RunFault>
+) -> Result<Done, RunFault>
     requires reader { S.has_failed reader.old ≡ false }
     requires open { S.at_end reader.old ≡ false }
     requires writer { W.has_failed writer.old ≡ false }
@@ -47,7 +47,7 @@ pub fn run<R: RandomSource + Threads + Sync, S: Source, W: Sink>(
     ensures flushed { OnOk result (W.ends_in_flush writer.new ≡ true) }
 
     // What was done for it.
-    ensures work { IfOk result (IsWorkFor plan.now.miner plan.now.question (S.left reader.old)) }
+    ensures done { IfOk result (IsDoneFor plan.now.miner plan.now.question (S.left reader.old)) }
 
     // Of any reader and writer, files too.
     ensures nothing { IfErr result (λ fault. fault ≢ RunFault.Write → writer.new ≡ writer.old) }
@@ -58,26 +58,26 @@ pub fn run<R: RandomSource + Threads + Sync, S: Source, W: Sink>(
     ensures reader_failed { S.has_failed reader.new ≡ true → (fault : InputFault) × (result ≡ Err (RunFault.Input fault)) }
     ensures write { (result ≡ Err RunFault.Write) ↔ (W.has_failed writer.new ≡ true) }
 {
-    let (made, work) = match reported(rt, alloc, plan, reader) {
+    let (made, done) = match reported(rt, alloc, plan, reader) {
         Ok(made) => made,
         Err(fault) => return Err(fault),
     };
     made.write(rt, writer)?;
-    Ok(work)
+    Ok(done)
 }
 
-/// The report that the plan asks for over an input, which is read to its end, and how much was mined
-/// for it. Items of a FIMI input and of CSV baskets are counted while it is read.
+/// The report that the plan asks for over an input, which is read to its end, and what else the run
+/// comes to. Items of a FIMI input and of CSV baskets are counted while it is read.
 pub fn reported<R: RandomSource + Threads + Sync, S: Source>(
     rt: &R,
     alloc: Global,
     plan: &Plan,
     reader: &mut S,
-) -> Result<(PreparedReport, Option<Work>), RunFault>
+) -> Result<(PreparedReport, Done), RunFault>
     requires working { S.has_failed reader.old ≡ false }
     requires open { S.at_end reader.old ≡ false }
     ensures made { MakesReport plan.now.question (S.left reader.old) (S.left reader.new) (S.has_failed reader.new) result }
-    ensures work { IfOk result (λ made. IsWorkFor plan.now.miner plan.now.question (S.left reader.old) made.1) }
+    ensures done { IfOk result (λ made. IsDoneFor plan.now.miner plan.now.question (S.left reader.old) made.1) }
     ensures ended { OnOk result (S.at_end reader.new ≡ true) }
 {
     match (plan.ask(), plan.layout().form) {
@@ -88,17 +88,17 @@ pub fn reported<R: RandomSource + Threads + Sync, S: Source>(
 }
 
 /// The same, made from all that the input says.
-#[tactic(auto, using(crate::proofs::ResultLemmas::after_any, crate::proofs::WorkLemmas::work_in))]
+#[tactic(auto, using(crate::proofs::ResultLemmas::after_any, crate::proofs::DoneLemmas::done_in))]
 fn report_input<R: RandomSource + Threads + Sync, S: Source>(
     rt: &R,
     alloc: Global,
     plan: &Plan,
     reader: &mut S,
-) -> Result<(PreparedReport, Option<Work>), RunFault>
+) -> Result<(PreparedReport, Done), RunFault>
     requires working { S.has_failed reader.old ≡ false }
     requires open { S.at_end reader.old ≡ false }
     ensures made { MakesReport plan.now.question (S.left reader.old) (S.left reader.new) (S.has_failed reader.new) result }
-    ensures work { IfOk result (λ made. IsWorkFor plan.now.miner plan.now.question (S.left reader.old) made.1) }
+    ensures done { IfOk result (λ made. IsDoneFor plan.now.miner plan.now.question (S.left reader.old) made.1) }
     ensures ended { OnOk result (S.at_end reader.new ≡ true) }
 {
     let names = Names::none(alloc);
@@ -114,9 +114,9 @@ fn report_contents<R: Threads + Sync>(
     alloc: Global,
     contents: Contents,
     plan: &Plan,
-) -> Result<(PreparedReport, Option<Work>), RunFault>
+) -> Result<(PreparedReport, Done), RunFault>
     ensures ok { IfOk result (λ made. outcome_for contents plan.now.question ≡ Ok (prepared_text made.0)) }
-    ensures work { IfOk result (λ made. made.1 ≡ work_for plan.now.miner plan.now.question contents) }
+    ensures done { IfOk result (λ made. made.1 ≡ done_for plan.now.miner plan.now.question contents) }
     ensures err { IfErr result (IsContentsFault (outcome_for contents plan.now.question)) }
 {
     match contents {
@@ -125,7 +125,10 @@ fn report_contents<R: Threads + Sync>(
             Ok(report_baskets(rt, alloc, database, &names, &plan)?)
         }
         Contents::Counts(combined, names) => match listing(alloc, plan, &combined) {
-            Ok(frequent) => Ok((report_listing(rt, alloc, frequent, &names, plan)?, None)),
+            Ok(frequent) => {
+                let made = report_listing(rt, alloc, frequent, &names, plan)?;
+                Ok((made, Done::of_counted_sets()))
+            }
             Err(fault) => Err(RunFault::Input(fault)),
         },
     }
@@ -138,9 +141,9 @@ fn report_baskets<R: Threads + Sync>(
     database: Database,
     names: &Option<Names>,
     plan: &Plan,
-) -> Result<(PreparedReport, Option<Work>), MineFault>
+) -> Result<(PreparedReport, Done), MineFault>
     ensures ok { IfOk result (λ made. report_of_baskets database names.now plan.now.question ≡ Ok (prepared_text made.0)) }
-    ensures work { IfOk result (λ made. made.1 ≡ work_asked plan.now.question.ask (work_of plan.now.miner database plan.now.question.minimum)) }
+    ensures done { IfOk result (λ made. made.1 ≡ done_over plan.now.miner plan.now.question database) }
     ensures err { (fault : MiningFault) → result ≡ Err fault → fault ≢ MineFault.Memory → report_of_baskets database names.now plan.now.question ≡ Err fault }
 {
     let style = style_of(names, plan.layout().separator);
@@ -150,10 +153,15 @@ fn report_baskets<R: Threads + Sync>(
         let minimum = plan.minimum();
         let total = database.total();
         let text = items_report(alloc, &counts, minimum, total, style)?;
-        return Ok((PreparedReport::Text(text), None));
+        let done = Done::of_items(greatest_count(&counts));
+        return Ok((PreparedReport::Text(text), done));
     }
-    let (frequent, work) = mine_in_place(rt, alloc, database, plan, &Open)?;
+    let (frequent, work, greatest) = mine_in_place(rt, alloc, database, plan, &Open)?;
     let workers = plan.workers();
     let made = PreparedReport::of_frequent(rt, alloc, frequent, ask, style, workers)?;
-    Ok((made, Some(work)))
+    let done = Done {
+        work: Some(work),
+        greatest: Some(greatest),
+    };
+    Ok((made, done))
 }

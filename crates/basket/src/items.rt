@@ -6,12 +6,14 @@ ghost use Rattle.basket_report.specs.Style.{wording_of};
 ghost use Rattle.basket_sets.specs.declared.weighted.Weighted.{Weighted as Basket};
 ghost use Rattle.basket_sets.specs.Frequent.{frequent_items_of};
 ghost use Rattle.basket.specs.Engine.{MakesReport};
-ghost use Rattle.basket.specs.Work.{IsWorkFor};
+ghost use Rattle.basket.specs.Done.{IsDoneFor};
+ghost use Rattle.basket_mining.specs.Greatest.{greatest_support};
 
+use crate::done::Done;
 use crate::workers::plan_for;
 use basket_core::{Source, add_counts};
 use basket_csv::{Dialect, count_baskets};
-use basket_mining::{Work, cutting};
+use basket_mining::{cutting, greatest_count};
 use basket_names::Names;
 use basket_outcome::{PreparedReport, RunFault};
 use basket_plan::{Ask, Form, Plan};
@@ -24,19 +26,19 @@ use std::random::RandomSource;
 use std::thread::Threads;
 
 /// The report of the frequent items of a FIMI input, which are counted while it is read.
-#[tactic(auto, using(std::proofs::lemmas::Grind::common_steps, crate::proofs::WorkLemmas::none_for_items))]
+#[tactic(auto, using(std::proofs::lemmas::Grind::common_steps, crate::proofs::DoneLemmas::done_for_items))]
 pub fn report_items<R: Threads + Sync, S: Source>(
     rt: &R,
     alloc: Global,
     plan: &Plan,
     reader: &mut S,
-) -> Result<(PreparedReport, Option<Work>), RunFault>
+) -> Result<(PreparedReport, Done), RunFault>
     requires reader { S.has_failed reader.old ≡ false }
     requires open { S.at_end reader.old ≡ false }
     requires items { plan.now.question.ask ≡ Ask.Items }
     requires lines { plan.now.question.layout.form ≡ Form.Fimi }
     ensures made { MakesReport plan.now.question (S.left reader.old) (S.left reader.new) (S.has_failed reader.new) result }
-    ensures work { IfOk result (λ made. IsWorkFor plan.now.miner plan.now.question (S.left reader.old) made.1) }
+    ensures done { IfOk result (λ made. IsDoneFor plan.now.miner plan.now.question (S.left reader.old) made.1) }
     ensures ended { OnOk result (S.at_end reader.new ≡ true) }
 {
     let counts = match count_fimi_shared(rt, alloc, reader, plan.workers()) {
@@ -44,26 +46,26 @@ pub fn report_items<R: Threads + Sync, S: Source>(
         Err(fault) => return Err(RunFault::Input(fault)),
     };
     match report_counts(rt, alloc, &counts, plan, Style::Numbers) {
-        Ok(report) => Ok((PreparedReport::Text(report), None)),
+        Ok((report, greatest)) => Ok((PreparedReport::Text(report), Done::of_items(greatest))),
         Err(AllocError) => Err(RunFault::Mine(MineFault::Memory)),
     }
 }
 
 /// The report of the frequent items of CSV records that are baskets, which are counted while they
 /// are read.
-#[tactic(auto, using(std::proofs::lemmas::Grind::common_steps, crate::proofs::WorkLemmas::none_for_items))]
+#[tactic(auto, using(std::proofs::lemmas::Grind::common_steps, crate::proofs::DoneLemmas::done_for_items))]
 pub fn report_named_items<R: RandomSource + Threads + Sync, S: Source>(
     rt: &R,
     alloc: Global,
     plan: &Plan,
     reader: &mut S,
-) -> Result<(PreparedReport, Option<Work>), RunFault>
+) -> Result<(PreparedReport, Done), RunFault>
     requires reader { S.has_failed reader.old ≡ false }
     requires open { S.at_end reader.old ≡ false }
     requires items { plan.now.question.ask ≡ Ask.Items }
     requires records { plan.now.question.layout.form ≡ Form.Baskets }
     ensures made { MakesReport plan.now.question (S.left reader.old) (S.left reader.new) (S.has_failed reader.new) result }
-    ensures work { IfOk result (λ made. IsWorkFor plan.now.miner plan.now.question (S.left reader.old) made.1) }
+    ensures done { IfOk result (λ made. IsDoneFor plan.now.miner plan.now.question (S.left reader.old) made.1) }
     ensures ended { OnOk result (S.at_end reader.new ≡ true) }
 {
     let layout = plan.layout();
@@ -91,13 +93,13 @@ pub fn report_named_items<R: RandomSource + Threads + Sync, S: Source>(
         separator,
     };
     match report_counts(rt, alloc, &counts, plan, style) {
-        Ok(report) => Ok((PreparedReport::Text(report), None)),
+        Ok((report, greatest)) => Ok((PreparedReport::Text(report), Done::of_items(greatest))),
         Err(AllocError) => Err(RunFault::Mine(MineFault::Memory)),
     }
 }
 
-/// The report of the frequent items of baskets. The first of them have been counted; workers count
-/// the others.
+/// The report of the frequent items of baskets, and the greatest support of an item. The first
+/// baskets have been counted; workers count the others.
 #[tactic(auto, using(std::proofs::lemmas::Grind::common_steps, crate::proofs::ItemLemmas::totals_add))]
 fn report_counts<R: Threads + Sync>(
     rt: &R,
@@ -105,15 +107,17 @@ fn report_counts<R: Threads + Sync>(
     counts: &ItemCounts,
     plan: &Plan,
     style: Style<'_>,
-) -> Result<Vec<u8>, AllocError>
+) -> Result<(Vec<u8>, u64), AllocError>
     requires { AreLightCounts counts.now }
-    ensures { (baskets : List Basket) → AreCountsOf counts.now baskets
-        → IfOk result (λ report. report.items ≡ report_of (wording_of style.entry) (frequent_items_of baskets plan.now.question.minimum)) }
+    ensures report { (baskets : List Basket) → AreCountsOf counts.now baskets
+        → IfOk result (λ made. made.0.items ≡ report_of (wording_of style.entry) (frequent_items_of baskets plan.now.question.minimum)) }
+    ensures greatest { (baskets : List Basket) → AreCountsOf counts.now baskets → IfOk result (λ made. made.1 ≡ greatest_support baskets) }
 {
     let first = counts.table.counts(alloc)?;
     let cutting = cutting(&plan_for(&counts.rest, plan));
     let rest = count_shared(rt, alloc, counts.rest.baskets(), cutting, &Open)?;
     let all = add_counts(alloc, &first, &rest)?;
     let total = counts.table.total() + counts.rest.total();
-    items_report(alloc, &all, plan.minimum(), total, style)
+    let report = items_report(alloc, &all, plan.minimum(), total, style)?;
+    Ok((report, greatest_count(&all)))
 }

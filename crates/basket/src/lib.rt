@@ -8,6 +8,7 @@
 #![tactic(auto)]
 
 mod count;
+mod done;
 mod engine;
 mod items;
 mod memory;
@@ -25,6 +26,7 @@ pub use basket_stream::{
     Failed, MemSink, MemSource, Sink, SliceSource, Source, StdSink, StdSource,
 };
 pub use count::run_count;
+pub use done::Done;
 pub use engine::run;
 pub use memory::report;
 pub use mine_pieces::{Gate, Open};

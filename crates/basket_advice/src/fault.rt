@@ -22,6 +22,10 @@ pub fn input_advice(
     }
 }
 
+/// What to do about an input that is too long.
+pub const IN_PARTS: &str =
+    "; cut it (`split -n l/8 FILE part.` does for lines), count the parts and add up (`man basket`, PARTS)";
+
 /// What to do about a fault.
 fn remedy(fault: ReadFault) -> &'static str {
     match fault {
@@ -29,10 +33,7 @@ fn remedy(fault: ReadFault) -> &'static str {
         ReadFault::NotText { .. } => {
             "; it has to be UTF-8: `basket look` says what it is, and how to change it"
         }
-        ReadFault::TooLong => {
-            "; cut it (`split -n l/8 FILE part.` does for lines), count the parts and add up \
-(`man basket`, PARTS)"
-        }
+        ReadFault::TooLong => IN_PARTS,
         ReadFault::ShortRecord { .. } => {
             "; --form single takes a basket's id and an item's name in each record, \
 --form baskets a whole basket; see --sep too"

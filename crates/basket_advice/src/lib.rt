@@ -4,7 +4,13 @@
 //! ```
 //! let advice = match ending {
 //!     Ending::Refused(PlanFault::Usage(text)) => words_advice(rt.alloc(), text.as_str(), words),
-//!     Ending::Ran(invocation, ran) => run_advice(rt.alloc(), invocation, *ran, told),
+//!     Ending::Ran(invocation, Ok(done)) => {
+//!         report_advice(rt.alloc(), invocation, done.greatest, told)
+//!     }
+//!     Ending::Ran(invocation, Err(fault)) => fault_advice(rt.alloc(), invocation, *fault, told),
+//!     Ending::NotOpened(origin, error) if error.kind() == ErrorKind::FileTooLarge => {
+//!         too_long_advice(rt.alloc(), origin.path())
+//!     }
 //!     Ending::Unanswered(_) => unwritten_advice(rt.alloc(), told),
 //!     _ => return,
 //! };
@@ -18,5 +24,5 @@ mod place;
 mod run;
 mod words;
 
-pub use run::{Told, run_advice, unwritten_advice};
+pub use run::{Told, fault_advice, report_advice, too_long_advice, unwritten_advice};
 pub use words::words_advice;

@@ -1,5 +1,5 @@
 //! Advice on a run, by how it ended.
-use crate::fault::input_advice;
+use crate::fault::{IN_PARTS, input_advice};
 use crate::hints::Hints;
 use crate::place::Place;
 use basket_outcome::RunFault;
@@ -18,17 +18,16 @@ pub struct Told {
     pub has_lines: bool,
 }
 
-/// Lines of advice on what was run, for standard error. There may be none.
-pub fn run_advice(
-    alloc: Global,
-    invocation: &Invocation,
-    ran: Result<(), RunFault>,
-    told: Told,
-) -> Result<String, AllocError> {
-    match ran {
-        Ok(()) => report_advice(alloc, invocation, told.has_lines),
-        Err(fault) => fault_advice(alloc, invocation, fault, told.code),
-    }
+/// Lines of advice on a file that is longer than an input may be, for standard error.
+pub fn too_long_advice(alloc: Global, path: Option<&str>) -> Result<String, AllocError> {
+    let mut hints = Hints::new(alloc);
+    hints.add(in_parts(alloc, path.unwrap_or("standard input"))?.as_str())?;
+    Ok(hints.into_text())
+}
+
+/// What to do about an input for which there is no room.
+fn in_parts(alloc: Global, name: &str) -> Result<String, AllocError> {
+    format!(in alloc; "in {name}{IN_PARTS}")
 }
 
 /// Lines of advice on help or the version, which could not be written.
@@ -38,11 +37,12 @@ pub fn unwritten_advice(alloc: Global, told: Told) -> Result<String, AllocError>
     Ok(hints.into_text())
 }
 
-/// Advice on a report that was written.
-fn report_advice(
+/// Lines of advice on a report that was written, for standard error. There may be none.
+pub fn report_advice(
     alloc: Global,
     invocation: &Invocation,
-    has_lines: bool,
+    greatest: Option<u64>,
+    told: Told,
 ) -> Result<String, AllocError> {
     let place = Place::of_input(invocation);
     let mut hints = Hints::new(alloc);
@@ -52,8 +52,9 @@ fn report_advice(
     if place.layout.weighted && place.layout.form != Form::Baskets {
         hints.add(without_effect(alloc, "--weight", place)?.as_str())?;
     }
-    if !has_lines {
+    if !told.has_lines {
         hints.add(empty_advice(alloc, &invocation.task, place)?.as_str())?;
+        hints.add(greatest_advice(alloc, greatest)?.as_str())?;
         hints.add(place.look(alloc)?.as_str())?;
     }
     Ok(hints.into_text())
@@ -77,20 +78,32 @@ fn empty_advice(alloc: Global, task: &Task, place: Place<'_>) -> Result<String, 
     format!(in alloc; "{what} in {}", place.name())
 }
 
-/// Advice on the fault of a run.
-fn fault_advice(
+/// The greatest support of an item, if that is known.
+fn greatest_advice(alloc: Global, greatest: Option<u64>) -> Result<String, AllocError> {
+    match greatest {
+        Some(0) => String::from_str(alloc, "the input has no item"),
+        Some(greatest) => format!(in alloc; "the greatest count of an item is {greatest}"),
+        None => Ok(String::new(alloc)),
+    }
+}
+
+/// Lines of advice on the fault of a run, for standard error. There may be none.
+pub fn fault_advice(
     alloc: Global,
     invocation: &Invocation,
     fault: RunFault,
-    code: Option<i32>,
+    told: Told,
 ) -> Result<String, AllocError> {
     let mut hints = Hints::new(alloc);
+    let code = told.code;
     let (input, sets) = (Place::of_input(invocation), Place::of_sets(invocation));
     match fault {
         RunFault::Input(fault) => say_read(alloc, &mut hints, fault, input, code)?,
         RunFault::Sets(fault) => say_read(alloc, &mut hints, fault, sets, code)?,
         RunFault::Write => hints.add(reason(alloc, "standard output", code)?.as_str())?,
-        RunFault::Mine(MineFault::Memory) => {}
+        RunFault::Mine(MineFault::Memory) => {
+            hints.add(in_parts(alloc, input.name())?.as_str())?;
+        }
         RunFault::Mine(MineFault::TooMany { .. }) => hints.add("raise --min, or raise --limit")?,
         RunFault::Uncounted { nth } => {
             hints.add(uncounted_advice(alloc, nth, input.name(), sets.name())?.as_str())?;
@@ -108,7 +121,7 @@ fn say_read(
     code: Option<i32>,
 ) -> Result<(), AllocError> {
     match fault {
-        ReadFault::Memory => Ok(()),
+        ReadFault::Memory => hints.add(in_parts(alloc, place.name())?.as_str()),
         ReadFault::Read => hints.add(reason(alloc, place.name(), code)?.as_str()),
         _ => {
             hints.add(input_advice(alloc, fault, place)?.as_str())?;

@@ -5,6 +5,7 @@ mod depth;
 mod fimi;
 mod fraction;
 mod itemset;
+mod miners;
 mod round;
 mod rows;
 mod seats;

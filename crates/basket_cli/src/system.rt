@@ -7,7 +7,10 @@ use basket_main::{Ending, ErrorStream, Inputs};
 use either::Either;
 use std::cell::Cell;
 use std::fs::File;
-use std::io::{self, IsTerminal, Stdin};
+use std::io::{self, ErrorKind, IsTerminal, Stdin};
+
+/// How many bytes an input may have.
+const MOST_BYTES: u64 = u32::MAX as u64;
 
 /// The system's files and its standard input.
 #[derive(Drop)]
@@ -45,6 +48,14 @@ impl<'a> Inputs for SystemInputs<'a> {
 
     fn open(&mut self, origin: &Origin) -> io::Result<StdSource<Kept<'a, Opened>>> {
         let opened = open(self.rt, origin.path())?;
+        if let Either::Left(file) = &opened {
+            // In a page no file has a known size.
+            if let Ok(found) = file.metadata() {
+                if found.len() > MOST_BYTES {
+                    return Err(io::Error::from(ErrorKind::FileTooLarge));
+                }
+            }
+        }
         Ok(StdSource::new(Kept::new(opened, self.code)))
     }
 

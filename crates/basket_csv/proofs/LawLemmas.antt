@@ -48,7 +48,7 @@ distinct_last (first ∷ ids) id e d =
 pub distinct_with : (ids : List (List ℕ)) (id : List ℕ) → Distinct ids → Distinct (with_name ids id)
 distinct_with ids id d = grind (arith, common_steps, distinct_last)
 
-distinct_all : (ids more : List (List ℕ)) → Distinct ids → Distinct (fold with_name ids more)
+pub distinct_all : (ids more : List (List ℕ)) → Distinct ids → Distinct (fold with_name ids more)
 distinct_all ids [] d = d
 distinct_all ids (id ∷ more) d = distinct_all (with_name ids id) more (distinct_with ids id d)
 

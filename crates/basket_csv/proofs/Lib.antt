@@ -1,12 +1,9 @@
 mod AppendLemmas
 mod BasketLemmas
 mod CountLemmas
-mod CountPartLemmas
 mod FieldLemmas
-mod GatherLemmas
+mod GatheringLemmas
 mod GroupLemmas
-mod HalfLemmas
-mod InPartsLemmas
 mod LaneLemmas
 mod LastLemmas
 mod LawLemmas
@@ -19,7 +16,8 @@ mod PlainLemmas
 mod ReadLemmas
 mod ReaderLemmas
 mod RecordLemmas
+mod RenamingLemmas
 mod RowLemmas
+mod RowsLemmas
 mod SharedLemmas
-mod TextLemmas
 mod TogetherLemmas

@@ -16,7 +16,7 @@ use Rattle.basket_csv.specs.Csv.{all_names, names_of_pairs}
 use Rattle.basket_csv.specs.Laws.{names_with}
 use Rattle.basket_csv.specs.Named.{NamedBasket, are_named, named_weight_at, named_baskets, named_pairs, numbered, numbered_set, SupportIsByNames, NamedSupportsAddUp, BasketsAreNumbered, PairsAreNumbered, BasketSupportIsByNames, PairSupportIsByNames}
 use Rattle.basket_names.specs.Names.{in_order, number_in, is_among, are_among}
-use Rattle.basket_csv.proofs.BasketLemmas.{read_among}
+use Rattle.basket_csv.proofs.GatheringLemmas.{read_among}
 use Rattle.basket_csv.proofs.LawLemmas.{by_id}
 use Rattle.basket_names.proofs.theory.Names.{all_among, at_any}
 
@@ -25,7 +25,7 @@ use Rattle.basket_names.proofs.theory.Names.{all_among, at_any}
 name_at : (names : List (List ℕ)) (name : List ℕ) → is_among names name ≡ true → get_or names (number_in names name) [] ≡ name
 name_at names name e = sym ((bytes_eq-Decides name _).0 (passes_at_first (bytes_eq name) names [] (at_any (bytes_eq name) names e)))
 
-same_number : (names : List (List ℕ)) (other name : List ℕ) → is_among names other ≡ true → is_among names name ≡ true → eqb (number_in names other) (number_in names name) ≡ bytes_eq name other
+pub same_number : (names : List (List ℕ)) (other name : List ℕ) → is_among names other ≡ true → is_among names name ≡ true → eqb (number_in names other) (number_in names name) ≡ bytes_eq name other
 same_number names other name o n = at (bytes_eq name other) refl
   where
     at : (b : Bool) → bytes_eq name other ≡ b → eqb (number_in names other) (number_in names name) ≡ b
@@ -115,7 +115,7 @@ some_named names p (pair ∷ pairs) e =
     at true here later = and_from (is_among names pair.1) (are_among names (map (λ pair. pair.1) (filter p pairs))) here later
     at false here later = later
 
-groups_named : (names : List (List ℕ)) (pairs : List (List ℕ × List ℕ)) (ids : List (List ℕ)) → are_among names (map (λ pair. pair.1) pairs) ≡ true
+pub groups_named : (names : List (List ℕ)) (pairs : List (List ℕ × List ℕ)) (ids : List (List ℕ)) → are_among names (map (λ pair. pair.1) pairs) ≡ true
     → are_named names (map (λ (group : List ℕ × List (List ℕ)). (group.1, 1)) (map (λ id. (id, names_with pairs id)) ids)) ≡ true
 groups_named names pairs [] e = refl
 groups_named names pairs (id ∷ ids) e = and_from (are_among names (names_with pairs id)) _ (some_named names (λ pair. bytes_eq id pair.0) pairs e) (groups_named names pairs ids e)

@@ -10,13 +10,8 @@ use Rattle.basket_read.specs.Fimi.{MOST_BYTES}
 use Rattle.basket_read.specs.ItemCounts.{AreLightCounts}
 use Rattle.basket_read.specs.Fault.{IsRead, Reads, ReturnsBy}
 use Rattle.basket_csv.specs.Baskets.{AreNamedCounts}
-use Rattle.basket_csv.specs.Csv.{Named, first_number}
+use Rattle.basket_csv.specs.Csv.{Named}
 use Rattle.basket_csv.specs.Read.{AreCountsNamed}
-use Rattle.basket_csv.specs.RecordCollector.{Start}
-
--- what is settled before the first record
-abbrev pub starting : Bool → Bool → List (List ℕ) → Bool → Start
-starting header weighted known counting = record { first = first_number header; weighted = weighted; known = known; counting = counting }
 
 module _ {X Y : Type 0} (finds : X → Result Y ReadFault → Type 0) (say : List ℕ → Result Y ReadFault) where
   -- what bytes say that may be too many

@@ -1,18 +1,13 @@
--- A record takes two bytes, except that the last may take one, so that a text has only so many.
-use Rattle.std.proofs.Common.{◌≡◌, ℕ, zero, suc, ◌+◌, ◌-◌, ◌*◌, ◌≤◌, ◌<◌, Bool, true, false, cond, eqb, ◌&&◌, List, [], ◌∷◌, ◌++◌, length, Option, Some, None, refl, sym, ap, ◌∙◌, subst, arith}
+-- The records of a text, one after another.
+use Rattle.std.proofs.Common.{◌≡◌, ℕ, zero, suc, ◌+◌, ◌-◌, ◌≤◌, ◌<◌, Bool, true, false, cond, List, [], ◌∷◌, ◌++◌, length, Option, Some, None, refl, ap, ◌∙◌, subst, arith}
 use Rattle.std.proofs.lemmas.Grind.{common_steps}
-use Rattle.csv.specs.Machine.{Read, next_record, step, start_record, after_end, ends_with, is_byte, ends_at_end, is_end, fields_after, field_after}
+use Rattle.csv.specs.Machine.{Read, next_record, step, after_end, ends_at_end, is_end, fields_after, field_after}
 use Rattle.csv.specs.Reading.{records_from, records_next}
 use Rattle.csv.specs.declared.parser.Config.{Config}
 use Rattle.csv.specs.declared.parser.State.{State}
 use Rattle.csv.specs.declared.parser.State.TheVariants as st
 use Rattle.csv.specs.declared.parser.Action.{Action}
-use Rattle.csv.specs.declared.parser.Action.TheVariants as act
 use Rattle.csv.specs.declared.parser.Terminator.{Terminator}
-use Rattle.basket_read.specs.Fimi.{MOST_BYTES}
-use Rattle.basket_csv.specs.Csv.{after_header}
-use Rattle.basket_csv.specs.Records.{MOST_RECORDS, records_of}
-use Rattle.basket_csv.proofs.MarkLemmas.{stripped}
 
 -- a step that ends a record leaves a state at which the end of the text ends none
 abbrev Ends : State × Action → Type 0
@@ -55,31 +50,6 @@ unfolding next_record
 fewer_left cfg s [] read begins e = grind (arith, common_steps)
 fewer_left cfg s (c ∷ bytes) read begins e = grind (arith, common_steps, leaves cfg s [] [] (c ∷ bytes) read e)
 
-abbrev chosen : Bool → State × Action → State × Action → State × Action
-chosen b x y = cond b x y
-
--- the first byte of a record does not end it
-first_goes_on : (ends comment quote delimiter : Bool) (after : State)
-    → is_end (chosen ends (st.StartRecord, act.Skip) (chosen comment (st.InComment, act.Skip) (chosen quote (st.InQuoted, act.Skip) (chosen delimiter (st.StartField, act.EndField) (chosen ends (after, act.EndRecord) (st.InField, act.Copy)))))).1 ≡ false
-first_goes_on h1 h2 h3 h4 h5 = grind (arith, common_steps)
-
-record_goes_on : (cfg : Config) (c : ℕ) → is_end (start_record cfg c).1 ≡ false
-record_goes_on cfg c = first_goes_on (ends_with cfg.terminator c) (is_byte cfg.comment c) (cfg.quoting && eqb c cfg.quote) (eqb c cfg.delimiter) (after_end cfg.terminator c)
-
-goes_on : (cfg : Config) (s : State) (c : ℕ) → ends_at_end s ≡ false → is_end (step cfg s c).1 ≡ false
-goes_on h1 h2 h3 h4 = grind (arith, common_steps)
-
--- so a record that is followed by bytes took two at least
-two_bytes : (cfg : Config) (s : State) (bytes : List ℕ) (read : Read) → ends_at_end s ≡ false → next_record cfg s [] [] bytes ≡ Some read → length read.2 ≤ length bytes - 2
-unfolding next_record
-two_bytes cfg s [] read begins e = let none = fewer_left cfg s [] read begins e in absurd (omega (arith, none))
-two_bytes cfg s (c ∷ bytes) read begins e =
-    let fields = fields_after (step cfg s c).1 [] [] in
-    let field = field_after (step cfg s c).1 c [] in
-    let later : next_record cfg (step cfg s c).0 fields field bytes ≡ Some read =
-    sym (ap (λ b. cond b (Some (fields, (step cfg s c).0, bytes)) (next_record cfg (step cfg s c).0 fields field bytes)) (goes_on cfg s c begins)) ∙ e in
-    let few = (leaves cfg (step cfg s c).0 fields field bytes read later).fewer in omega (arith, few)
-
 pub one_more : (cfg : Config) (n : ℕ) (s : State) (bytes : List ℕ) → ends_at_end s ≡ false → length bytes < n → records_from cfg (suc n) s bytes ≡ records_from cfg n s bytes
 unfolding records_from
 one_more cfg zero s bytes begins few = absurd (omega arith)
@@ -112,27 +82,3 @@ records_some cfg s bytes read begins e =
     let fewer = fewer_left cfg s bytes read begins e in
     let whole : length bytes ≡ length bytes - (length read.2 + 1) + (length read.2 + 1) = omega (arith, fewer) in
     grind (arith, common_steps, enough, leaves)
-
--- there are half as many records as bytes at most, rounded up
-pub few_records : (cfg : Config) (n : ℕ) (s : State) (bytes : List ℕ) → ends_at_end s ≡ false → 2 * length (records_from cfg n s bytes) ≤ length bytes + 1
-unfolding records_from
-few_records cfg zero s bytes begins = omega arith
-few_records cfg (suc n) s bytes begins = at (next_record cfg s [] [] bytes) refl (few_records cfg n)
-  where
-    at : (o : Option Read) → next_record cfg s [] [] bytes ≡ o → ((t : State) (more : List ℕ) → ends_at_end t ≡ false → 2 * length (records_from cfg n t more) ≤ length more + 1)
-        → 2 * length (records_next (records_from cfg n) o) ≤ length bytes + 1
-    at None e later = omega arith
-    at (Some read) e later =
-        let few = later read.1 read.2 (leaves cfg s [] [] bytes read e).begins in
-        let fewer = fewer_left cfg s bytes read begins e in
-        let two = two_bytes cfg s bytes read begins e in
-        omega (arith, few, fewer, two)
-
--- ---- texts
-
--- a text that is not too long has no more records than that
-pub few_records_of : (separator : ℕ) (bytes : List ℕ) → length bytes ≤ MOST_BYTES → length (records_of separator bytes) ≤ MOST_RECORDS
-few_records_of separator bytes short = grind (arith, common_steps, few_records, stripped)
-
-pub few_of_text : (separator : ℕ) (header : Bool) (bytes : List ℕ) → length bytes ≤ MOST_BYTES → length (after_header header (records_of separator bytes)) ≤ MOST_RECORDS
-few_of_text separator header bytes short = grind (arith, common_steps, few_records_of separator bytes short)

@@ -6,16 +6,13 @@ use Rattle.std.proofs.lemmas.List.{length-append}
 use Rattle.basket_read.specs.declared.fault.ReadFault.{ReadFault}
 use Rattle.basket_read.specs.Fimi.{or_else, MOST_BYTES}
 use Rattle.basket_csv.specs.declared.shared.ReadPart.{ReadPart}
-use Rattle.basket_csv.specs.declared.shared.Reading.{Reading}
 use Rattle.basket_csv.specs.declared.shared.RightParts.{RightParts}
-use Rattle.basket_csv.specs.RecordCollector.{Start}
 use Rattle.basket_csv.specs.Csv.{after_header, bytes_say, fault_from, first_number}
-use Rattle.basket_csv.specs.Part.{InParts, Rows}
-use Rattle.basket_csv.specs.Records.{MOST_RECORDS, records_of}
-use Rattle.basket_csv.specs.Shared.{AreFaultless, AreRight, HasRows, IsReadPart}
-use Rattle.basket_csv.proofs.InPartsLemmas.{in_last}
+use Rattle.basket_csv.specs.Records.{records_of}
+use Rattle.basket_csv.specs.Rows.{InParts, Rows}
+use Rattle.basket_csv.specs.Shared.{AreFaultless, AreRight, IsReadPart}
+use Rattle.basket_csv.proofs.RowsLemmas.{in_last}
 use Rattle.basket_csv.proofs.PartLemmas.{no_records}
-use Rattle.basket_csv.proofs.RecordLemmas.{few_of_text, few_records_of}
 
 -- ---- faults, whatever the number of the first record
 
@@ -40,22 +37,9 @@ module _ (fault : ℕ → List (List ℕ) → Option ReadFault) where
   pub faultless_both : (rows later : Rows) → AreFaultless fault rows → AreFaultless fault later → AreFaultless fault (rows ++ later)
   faultless_both rows later none too n = fault_after n rows later (none n) ∙ too (n + length rows)
 
--- ---- how many records come before an index
-
--- a text has no more records than those before an index and those after it
-pub few_after : (header left : Bool) (before : ℕ) (all rows rest : Rows) → before + first_number left ≡ first_number header + length rows
-    → after_header header all ≡ rows ++ after_header left rest → length all ≤ MOST_RECORDS → before + length rest ≤ MOST_RECORDS
-few_after h1 h2 h3 h4 h5 h6 h7 h8 h9 = grind (arith, common_steps)
-
 -- nothing after a part has no records
 pub nothing_after : (separator : ℕ) (header : Bool) (first rest : List ℕ) → rest ≡ [] → after_header header (records_of separator (first ++ rest)) ≡ after_header header (records_of separator first) ++ records_of separator rest
 nothing_after separator header first rest none = grind (arith, common_steps, no_records)
-
--- ---- what is read of a part
-
--- what is settled before the first record of a part
-abbrev pub part_start : ℕ → Bool → Bool → Start
-part_start before header weighted = record { first = before + first_number header; weighted = weighted; known = []; counting = false }
 
 -- ---- one part more before others
 
@@ -70,21 +54,15 @@ header_before h1 h2 h3 = grind (arith, common_steps)
 nothing_left : (separator : ℕ) (header : Bool) (rest : List ℕ) → rest ≡ [] → after_header header (records_of separator rest) ≡ []
 nothing_left separator header rest none = grind (arith, common_steps, no_records)
 
-module _ {C : Type 0} (has_read : C → Start → Rows → Type 0) (fault_of : Bool → ℕ → List (List ℕ) → Option ReadFault) (reading : Reading) where
-  abbrev has : C → Rows → Type 0
-  has = HasRows has_read reading.weighted
-
-  abbrev fault : ℕ → List (List ℕ) → Option ReadFault
-  fault = fault_of reading.weighted
-
+module _ {C : Type 0} (has : C → Rows → Type 0) (fault : ℕ → List (List ℕ) → Option ReadFault) (separator : ℕ) where
   abbrev records : List ℕ → Rows
-  records bytes = records_of reading.dialect.separator bytes
+  records bytes = records_of separator bytes
 
   abbrev Right : Bool → List ℕ → RightParts C → Type 0
-  Right header bytes right = AreRight has_read fault_of reading header bytes right
+  Right header bytes right = AreRight has fault separator header bytes right
 
   abbrev IsRead : Bool → List ℕ → ReadPart C → Type 0
-  IsRead header bytes read = IsReadPart has_read fault_of reading header bytes read
+  IsRead header bytes read = IsReadPart has fault separator header bytes read
 
   pub right_after : (header : Bool) (first rest : List ℕ) (later all : RightParts C) (read : ReadPart C) (extra : ℕ)
       → all.parts.items ≡ read.part ∷ later.parts.items → all.end ≡ length first + later.end → all.before ≡ extra + read.records + later.before → all.header ≡ later.header
@@ -103,15 +81,6 @@ module _ {C : Type 0} (has_read : C → Start → Rows → Type 0) (fault_of : B
             ∙ ap (λ r. (own ++ right.rows) ++ after_header later.header (records r)) (sym (drop_past first rest later.end all.end end))
             ∙ ap (λ h. (own ++ right.rows) ++ after_header h (records (drop all.end (first ++ rest)))) (sym same_header);
       }
-
-  -- an index has few records before it
-  pub few_before : (header : Bool) (bytes : List ℕ) (right : RightParts C) → Right header bytes right → length bytes ≤ MOST_BYTES → right.before + length (records (drop right.end bytes)) ≤ MOST_RECORDS
-  few_before header bytes right is short =
-      few_after header right.header right.before (records bytes) is.rows (records (drop right.end bytes)) is.number is.all (few_records_of reading.dialect.separator bytes short)
-
-  -- a part has few records
-  pub few_in_part : (header : Bool) (bytes : List ℕ) (read : ReadPart C) → IsRead header bytes read → length bytes ≤ MOST_BYTES → read.records ≤ MOST_RECORDS
-  few_in_part header bytes read is short = let few = few_of_text reading.dialect.separator header bytes short in let count = is.count in omega arith
 
   -- ---- what is read of all
 

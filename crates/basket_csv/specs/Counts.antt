@@ -1,13 +1,13 @@
 -- What the records of a CSV text say that have a set and its count each: counted sets of names, or their first fault.
-use Rattle.std.specs.Prelude.{◌≡◌, ℕ, ◌+◌, Bool, true, if◌then◌else◌, List, [], ◌∷◌, ◌++◌, map, drop, Option, Some, None, Result, Ok, unwrap_or}
+use Rattle.std.specs.Prelude.{◌≡◌, ℕ, ◌+◌, Bool, true, if◌then◌else◌, List, [], ◌∷◌, ◌++◌, map, drop, Option, Some, None, Result, Ok, unwrap_or, All}
 use Rattle.basket_sets.specs.Database.{MOST_WEIGHT}
-use Rattle.basket_sets.specs.Itemset.{rising}
+use Rattle.basket_sets.specs.Itemset.{AllBelow, renamed_set, rising}
 use Rattle.basket_sets.specs.Number.{number_of}
 use Rattle.basket_read.specs.declared.counted_line.CountedLine.{CountedLine}
 use Rattle.basket_read.specs.declared.fault.ReadFault.{ReadFault}
 use Rattle.basket_read.specs.declared.fault.ReadFault.TheVariants.{NotText, RecordCount}
 use Rattle.basket_csv.specs.declared.counts.Counts.{Counts}
-use Rattle.basket_csv.specs.RecordCollector.{Start}
+use Rattle.basket_csv.specs.declared.reading.Reading.{Reading}
 use Rattle.basket_csv.specs.Csv.{field_in, is_text, first_number, names_of, all_names, bytes_say}
 use Rattle.basket_csv.specs.Field.{trimmed}
 use Rattle.basket_names.specs.Names.{in_order, number_in}
@@ -45,7 +45,20 @@ counts_said nth known rows = let names = in_order (known ++ all_names true rows)
 abbrev pub named_counts_of : ℕ → Bool → List (List ℕ) → List ℕ → Result NamedCounts ReadFault
 named_counts_of separator header known bytes = bytes_say separator header set_fault (counts_said (first_number header) known) bytes
 
--- what has been read: the names and the counted sets are those of these records
-pub record HasCounts (counts : Counts) (start : Start) (rows : List (List (List ℕ))) : Type 0 where
-  pub names : counts.names ≡ in_order (start.known ++ all_names true rows)
-  pub lines : counts.lines.items ≡ lines_from (in_order (start.known ++ all_names true rows)) start.first rows
+-- the lines with numbers, of which the first is this
+abbrev pub numbered_from : ℕ → List CountedLine → List CountedLine
+numbered_from nth [] = []
+numbered_from nth (line ∷ lines) = record { set = line.set; count = line.count; line = nth } ∷ numbered_from (nth + 1) lines
+
+-- a line whose items have other names
+abbrev pub renamed_line : List ℕ → CountedLine → CountedLine
+renamed_line names line = record { set = renamed_set names line.set; count = line.count; line = line.line }
+
+-- the items of all lines are below a bound
+abbrev pub AreBelow : ℕ → List CountedLine → Type 0
+AreBelow bound lines = All (λ line. AllBelow bound line.set) lines
+
+-- what has been read: the counted sets are those of these records, over these names, and no line has its number yet
+pub record HasCounts (counts : Counts) (reading : Reading) (names : List (List ℕ)) (rows : List (List (List ℕ))) : Type 0 where
+  pub header : counts.header ≡ reading.dialect.header
+  pub lines : counts.lines.items ≡ map (line_of names 0) rows

@@ -15,10 +15,6 @@ use Rattle.basket_csv.specs.declared.records.Source.TheVariants as by
 abbrev pub records_of : ℕ → List ℕ → List (List (List ℕ))
 records_of separator bytes = records (config_of separator) (strip_bom bytes)
 
--- no text has more records: each takes two bytes, except that the last may take one
-abbrev pub MOST_RECORDS : ℕ
-MOST_RECORDS = 2147483648
-
 -- whether the last of some records may go on after the text, and if there is none what was so before
 abbrev pub last_may_go_on : Bool → List (List (List ℕ)) → Bool
 last_may_go_on before rows = fold (λ _ row. may_go_on row) before rows

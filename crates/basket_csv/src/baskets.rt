@@ -1,21 +1,21 @@
 //! Records that have a basket each.
-ghost use Rattle.std.specs.Prelude.{◌≡◌, ◌≢◌, ◌≤◌, [], drop, fold, map, MatchResult, OnOk, IfOk, IfErr, IfSome, None, Some, false};
+ghost use Rattle.std.specs.Prelude.{◌≡◌, ◌≢◌, ◌≤◌, drop, fold, map, MatchResult, OnOk, IfOk, IfErr, IfSome, None, Some, false};
 ghost use Rattle.basket_csv.specs.Record.{fields_of};
 ghost use Rattle.basket_read.specs.Fault.{ReturnsFault};
 ghost use Rattle.basket_read.specs.declared.fault.ReadFault.TheVariants.{Read};
-ghost use Rattle.basket_csv.specs.RecordCollector.{Start};
 ghost use Rattle.basket_csv.specs.Csv.{Named, is_text, weight_of, weight_written, names_in, fields_before, basket_fault, baskets_said};
 ghost use Rattle.basket_names.specs.Names.{number_in, with_name};
-ghost use Rattle.basket_csv.specs.Baskets.{AreNamedCounts, HasRead};
+ghost use Rattle.basket_csv.specs.Baskets.{AreNamedCounts, HasBaskets};
 
-use crate::collector::{RecordCollector, TextCollector};
 use crate::field::trim;
+use crate::gathering::Gathering;
+use crate::reading::Reading;
 use crate::record::Record;
 use crate::row::{number_names, text_at};
-use basket_names::{Names, Numbering, Seed};
+use basket_names::Numbering;
 use basket_read::{GatheredBaskets, ItemCounts, ReadFault};
 use basket_sets::parse_number;
-use std::alloc::Global;
+use std::alloc::AllocError;
 
 /// The weight that a text writes: digits of a value from 1 on.
 fn weight_in(text: &[u8]) -> Option<u32>
@@ -46,7 +46,7 @@ fn weight_of(weighted: bool, nth: u32, row: &Record<'_>) -> Result<Option<u32>, 
 /// Numbers the names of a record, and returns its weight. If it has a fault, `names` and `numbers` are
 /// lost.
 #[inline]
-pub fn number_basket(
+fn number_basket(
     weighted: bool,
     nth: u32,
     row: &Record<'_>,
@@ -75,60 +75,55 @@ pub fn number_basket(
 #[derive(Drop)]
 pub struct Baskets {
     weighted: bool,
-    names: Numbering,
     gathered: GatheredBaskets,
     /// The numbers of the names of one record.
     numbers: Vec<u32>,
 }
 
-impl Baskets {
-    /// Nothing is read yet, and some names are known.
-    pub fn new(
-        alloc: Global,
-        seed: Seed,
-        weighted: bool,
-        known: Names,
-        counting: bool,
-    ) -> Result<Self, ReadFault>
-        ensures read { (start : Start) → start.weighted ≡ weighted → start.known ≡ known → start.counting ≡ counting → IfOk result (λ baskets. HasRead baskets start []) }
-        ensures err { IfErr result (λ fault. fault ≡ ReadFault.Memory) }
-    {
-        Ok(Baskets {
-            weighted,
-            names: Numbering::of(alloc, seed, known)?,
-            gathered: GatheredBaskets::new(alloc, counting, 0),
-            numbers: Vec::new(alloc),
-        })
-    }
-}
+impl Gathering for Baskets {
+    type Found = ItemCounts;
 
-impl RecordCollector for Baskets {
     ghost fault_of = { basket_fault };
 
-    ghost has_read = { λ baskets start rows. HasRead baskets start rows };
+    ghost names_of = { names_in };
 
-    fn add(&mut self, nth: u32, row: &Record<'_>) -> Result<(), ReadFault> {
-        let weight = number_basket(self.weighted, nth, row, &mut self.names, &mut self.numbers)?;
-        self.gathered.add(&self.numbers, weight)
-    }
-}
-
-impl TextCollector for Baskets {
-    type Found = ItemCounts;
+    ghost has = { λ baskets reading names rows. HasBaskets baskets reading names rows };
 
     ghost Said = { Named };
 
-    ghost said_of = { λ start. baskets_said start.weighted start.known };
+    ghost said_of = { λ reading. baskets_said reading.weighted };
 
-    ghost finds = { λ start. AreNamedCounts start.counting };
+    ghost finds = { λ reading. AreNamedCounts reading.counting };
 
-    fn finish(self) -> Result<(ItemCounts, Names), ReadFault> {
-        let Baskets {
-            names,
-            gathered,
-            ..
-        } = self;
-        let counts = gathered.finish()?;
-        Ok((counts, names.into_names()?))
+    #[tactic(auto, using(std::proofs::lemmas::Grind::common_steps, crate::proofs::BasketLemmas::any_number))]
+    fn new(reading: Reading) -> Self {
+        Baskets {
+            weighted: reading.weighted,
+            gathered: GatheredBaskets::new(reading.alloc, reading.counting, 0),
+            numbers: Vec::new(reading.alloc),
+        }
+    }
+
+    fn add(&mut self, nth: u32, row: &Record<'_>, names: &mut Numbering) -> Result<(), ReadFault> {
+        let weight = number_basket(self.weighted, nth, row, names, &mut self.numbers)?;
+        self.gathered.add(&self.numbers, weight)
+    }
+
+    fn renamed(self, numbers: &[u32]) -> Result<Self, AllocError> {
+        let mut renamed = self;
+        renamed.gathered.rename(numbers)?;
+        Ok(renamed)
+    }
+
+    fn followed_by(self, later: Self) -> Result<Self, AllocError> {
+        let mut all = self;
+        let Baskets { gathered, .. } = later;
+        all.gathered.append_any(gathered)?;
+        Ok(all)
+    }
+
+    fn finish(self) -> Result<ItemCounts, ReadFault> {
+        let Baskets { gathered, .. } = self;
+        gathered.finish()
     }
 }

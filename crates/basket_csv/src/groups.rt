@@ -1,12 +1,13 @@
 //! Groups of numbers, one for each id.
-ghost use Rattle.std.specs.Prelude.{◌≡◌, [], ◌∷◌, map, false, OnOk, IfOk, IfErr};
+ghost use Rattle.std.specs.Prelude.{◌≡◌, [], ◌∷◌, All, length, map, slice_index_or, false, OnOk, IfOk, IfErr};
 ghost use Rattle.std.specs.List.{flat_map};
 ghost use Rattle.basket_read.specs.Fimi.{basket_of_numbers};
 ghost use Rattle.basket_read.specs.GatheredBaskets.{HasGathered};
 ghost use Rattle.basket_csv.specs.Pairs.{added_at};
+ghost use Rattle.basket_sets.specs.Itemset.{AllBelow};
 
 use basket_read::{GatheredBaskets, ReadFault};
-use basket_sets::INLINE_ITEMS;
+use basket_sets::{INLINE_ITEMS, rename};
 use smallvec::SmallVec;
 use std::alloc::{AllocError, Global};
 
@@ -49,6 +50,16 @@ pub fn add_numbers(
     }
     groups.push(Group::from_slice(alloc, numbers)?)?;
     Ok(())
+}
+
+/// Replaces the numbers of each group by their names.
+pub fn rename_groups(groups: &mut [Group], names: &[u32])
+    requires { All (λ group. AllBelow (length names.now) group.items) groups.old }
+    ensures { map (λ group. group.items) groups.new ≡ map (map (λ number. slice_index_or names.now number 0)) (map (λ group. group.items) groups.old) }
+{
+    for index in 0..groups.len() {
+        rename(groups[index].as_mut_slice(), names);
+    }
 }
 
 /// The baskets of groups of numbers, each of weight 1.

@@ -6,9 +6,13 @@ ghost use Rattle.basket_read.specs.Fault.{Reads, IsDefined, AreDefined, IsRead};
 ghost use Rattle.basket_csv.specs.Read.{AreCountsNamed};
 ghost use Rattle.basket_read.specs.ItemCounts.{AreLightCounts};
 
+use crate::baskets::Baskets;
+use crate::counts::Counts;
 use crate::dialect::Dialect;
-use crate::input::{say_baskets, say_counts, say_pairs};
-use crate::shared::Reading;
+use crate::pairs::Pairs;
+use crate::parts::{parts_of, parts_of_pairs};
+use crate::read_named::say;
+use crate::reading::Reading;
 use basket_names::{Names, Seed};
 use basket_read::{CountedLine, ItemCounts, ReadFault, take_in};
 use basket_sets::Database;
@@ -43,7 +47,8 @@ pub fn read_baskets<R: RandomSource + Threads + Sync, S: Source>(
         weighted: weight,
         counting: false,
     };
-    let (counts, names) = say_baskets(rt, reading, &bytes, known, workers)?;
+    let parts = parts_of(&bytes, workers);
+    let (counts, names) = say::<R, Baskets>(rt, reading, &bytes, known, parts)?;
     Ok((counts.rest, names))
 }
 
@@ -71,7 +76,7 @@ pub fn count_baskets<R: RandomSource + Threads + Sync, S: Source>(
         weighted: weight,
         counting: true,
     };
-    say_baskets(rt, reading, &bytes, known, workers)
+    say::<R, Baskets>(rt, reading, &bytes, known, parts_of(&bytes, workers))
 }
 
 /// Reads a CSV input to its end, by this many workers. Each record is a pair: the id of a basket and
@@ -98,7 +103,8 @@ pub fn read_single<R: RandomSource + Threads + Sync, S: Source>(
         weighted: false,
         counting: false,
     };
-    say_pairs(rt, reading, &bytes, known, workers)
+    let parts = parts_of_pairs(&bytes, dialect.separator, workers);
+    say::<R, Pairs>(rt, reading, &bytes, known, parts)
 }
 
 /// Reads a CSV input to its end, by this many workers. Each record is a count and a set of names: its
@@ -126,5 +132,5 @@ pub fn read_named_counts<R: RandomSource + Threads + Sync, S: Source>(
         weighted: false,
         counting: false,
     };
-    say_counts(rt, reading, &bytes, known, workers)
+    say::<R, Counts>(rt, reading, &bytes, known, parts_of(&bytes, workers))
 }

@@ -3,7 +3,7 @@ use crate::file::{File, Nothing, Style};
 use crate::foreign::{Foreign, Remedy};
 use crate::json::say_json;
 use crate::lines::{LineEnds, NumberLines, lines};
-use crate::numbers::number_readings;
+use crate::numbers::{is_read, number_readings};
 use crate::quotes::long_quote;
 use crate::rules::read_by_rules;
 use crate::said::Said;
@@ -20,6 +20,12 @@ const FEW_LINES: &str = "too short to tell what it is";
 
 const BY_HAND: Remedy = Remedy::Say(
     "Say it yourself: --form, --sep and --header, as `basket sets --help` has them.",
+);
+
+const WEIGHTS: &str = "FIMI text with weights, which has to be written in another way";
+
+const TO_LINE_FEEDS: Remedy = Remedy::Say(
+    "Bring it to UTF-8 and line feeds first, as iconv and tr '\\r' '\\n' do.",
 );
 
 /// How many bytes of lines of numbers make the sample. Short lines make many baskets.
@@ -89,6 +95,10 @@ impl Decoded<'_> {
     ) -> Result<(), AllocError> {
         let alloc = self.alloc;
         let ends = LineEnds::of(self.text.as_str());
+        if numbers.weighted > 0 && !is_read(self.encoding, ends) {
+            let nothing = Nothing::new("weights", WEIGHTS, TO_LINE_FEEDS);
+            return self.file.say_nothing(alloc, said, self.style, nothing);
+        }
         let readings = number_readings(alloc, lines, numbers, self.encoding, ends)?;
         let sample = match readings.first() {
             Some(first) if numbers.weighted == 0 && numbers.counted == 0 => {

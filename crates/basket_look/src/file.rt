@@ -10,6 +10,9 @@ use std::alloc::{AllocError, Global};
 /// How many bytes of a file are looked at.
 pub const MOST_BYTES: usize = 1 << 20;
 
+/// How many of its lines are looked at.
+const MOST_LINES: usize = 1 << 16;
+
 /// How many bytes the program reads of a file.
 const MOST_MINED: u64 = u32::MAX as u64;
 
@@ -66,10 +69,10 @@ impl<'a> File<'a> {
             match encoding_of(alloc, self.bytes)? {
                 Some(encoding) => {
                     let text = text_of(alloc, encoding, self.bytes)?;
-                    let text = whole_lines(alloc, text, self.is_whole)?;
+                    let (text, is_whole) = first_lines(alloc, text, self.is_whole)?;
                     let decoded = Decoded {
                         alloc,
-                        file: *self,
+                        file: File { is_whole, ..*self },
                         text,
                         encoding,
                         style,
@@ -119,10 +122,28 @@ impl<'a> Nothing<'a> {
     }
 }
 
-/// A text without its last line, if that may be cut off.
-fn whole_lines(alloc: Global, text: String, is_whole: bool) -> Result<String, AllocError> {
-    match text.as_str().rsplit_once(['\n', '\r']) {
-        Some((front, _)) if !is_whole => String::from_str(alloc, front),
-        _ => Ok(text),
+/// The lines of a text that are looked at, and whether these are all.
+fn first_lines(alloc: Global, text: String, is_whole: bool) -> Result<(String, bool), AllocError> {
+    match front_of(text.as_str(), is_whole) {
+        Some(front) => Ok((String::from_str(alloc, front)?, false)),
+        None => Ok((text, is_whole)),
+    }
+}
+
+/// The lines of a text that are looked at, if these are not all. The last one is left out if it may
+/// be cut off.
+fn front_of(text: &str, is_whole: bool) -> Option<&str> {
+    let mut lines: usize = 0;
+    for (place, byte) in text.bytes().enumerate() {
+        if byte == b'\n' {
+            lines = lines.saturating_add(1);
+        }
+        if lines == MOST_LINES && place.saturating_add(1) < text.len() {
+            return text.get(..place);
+        }
+    }
+    match text.rsplit_once(['\n', '\r']) {
+        Some((front, _)) if !is_whole => Some(front),
+        _ => None,
     }
 }

@@ -67,6 +67,11 @@ fn number_reading(
     Ok(reading)
 }
 
+/// Whether the program reads numbers that are written so.
+pub fn is_read(encoding: Encoding, ends: LineEnds) -> bool {
+    encoding == Encoding::Utf8 && ends != LineEnds::Returns
+}
+
 /// As FIMI text, which is recoded if it has to be.
 fn plain(
     alloc: Global,
@@ -74,8 +79,11 @@ fn plain(
     encoding: Encoding,
     ends: LineEnds,
 ) -> Result<Reading, AllocError> {
-    let is_plain = encoding == Encoding::Utf8 && ends != LineEnds::Returns;
-    let form = if is_plain { Form::Fimi } else { Form::Pairs };
+    let form = if is_read(encoding, ends) {
+        Form::Fimi
+    } else {
+        Form::Pairs
+    };
     let mut reading = number_reading(alloc, encoding, form, Span::from(1))?;
     let (baskets, weighted) = (numbers.baskets, numbers.weighted);
     write!(
@@ -86,11 +94,6 @@ fn plain(
         write!(reading.because, " and {weighted} more with a weight first");
     }
     reading.because.push_str(".\n");
-    if weighted > 0 && !is_plain {
-        reading.doubts.push_str(
-            "The weights are items here: bring the text to UTF-8 and line feeds first.\n",
-        );
-    }
     if let Some(other) = numbers.first_other {
         let count = numbers.others;
         write!(

@@ -70,8 +70,8 @@ pub fn titles(alloc: Global, records: &[StringRecord], width: usize) -> Result<u
     }
 }
 
-/// How many of the first records are remarks, the separator that Excel is told, or have fewer cells
-/// than nearly all others.
+/// How many of the first records are remarks, name the separator for Excel, or have fewer cells than
+/// nearly all others.
 fn short_records(
     alloc: Global,
     records: &[StringRecord],

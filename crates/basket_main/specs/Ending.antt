@@ -2,7 +2,7 @@
 use Rattle.std.specs.Prelude.{ℕ, Bool, true, false, List, [], ◌∷◌, Ok, Err, if◌then◌else◌}
 use Rattle.std.specs.IoError.{error_kind}
 use Rattle.std.specs.declared.io.ErrorKind.{ErrorKind}
-use Rattle.std.specs.declared.io.ErrorKind.TheVariants.{OutOfMemory}
+use Rattle.std.specs.declared.io.ErrorKind.TheVariants.{FileTooLarge, OutOfMemory}
 use Rattle.basket_outcome.specs.Status.{status_after}
 use Rattle.basket_outcome.specs.declared.fault.RunFault.TheVariants.{Write}
 use Rattle.basket_plan.specs.Status.{plan_status_of}
@@ -10,9 +10,10 @@ use Rattle.basket_plan.specs.declared.command.PlanFault.TheVariants.{Help}
 use Rattle.basket_main.specs.declared.ending.Ending.{Ending}
 use Rattle.basket_main.specs.declared.ending.Ending.TheVariants.{Refused, Unanswered, NotOpened, Ran}
 
--- the status if a file can't be opened: 6 if memory is out, else 4
+-- the status if a file can't be opened: 6 if memory is out, 3 if it is longer than an input may be, else 4
 abbrev pub status_after_opening : ErrorKind → ℕ
 status_after_opening OutOfMemory = 6
+status_after_opening FileTooLarge = 3
 status_after_opening _ = 4
 
 -- the status: 4 if the output failed before all of help was written, and 0 after a run without a fault

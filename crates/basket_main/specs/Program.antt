@@ -2,6 +2,8 @@
 use Rattle.std.specs.Prelude.{◌≡◌, ◌≢◌, ℕ, Bool, true, false, List, [], ◌∷◌, ◌++◌, Option, Some, None, Ok, Err, string_bytes, ⊤}
 use Rattle.std.specs.Io.KnownBytes.{Appends, Keeps}
 use Rattle.basket.specs.Count.{IsCountFault, WritesCounts, WritesCountsPrefix}
+use Rattle.basket.specs.declared.done.Done.{Done}
+use Rattle.basket.specs.Done.{IsDoneFor}
 use Rattle.basket.specs.Engine.{IsReportFault, WritesPrefix, WritesReport}
 use Rattle.basket_outcome.specs.declared.fault.RunFault.{RunFault}
 use Rattle.basket_outcome.specs.declared.fault.RunFault.TheVariants.{Write}
@@ -83,6 +85,18 @@ AreAtEnd {S} {L} at_end sets_at_end (Count plan sets) = (lists : L) × (reader :
 abbrev pub HasRead : {S L : Type 0} → (S → Bool) → (L → Bool) → Ending → Type 0
 HasRead at_end sets_at_end (Ran invocation (Ok x)) = AreAtEnd at_end sets_at_end invocation.task
 HasRead at_end sets_at_end _ = ⊤
+
+-- ---- what a run comes to beside its report
+
+-- what a task comes to: a report what its plan's miner does; by counts nothing is mined
+abbrev pub IsTaskDone : (Origin → Option (List ℕ)) → Task → Origin → Done → Type 0
+IsTaskDone bytes (Report plan) input done = IsDoneFor plan.miner plan.question (bytes input) done
+IsTaskDone bytes (Count plan sets) input done = done ≡ record { work = None; greatest = None }
+
+-- what was run without a fault comes to what its task does
+abbrev pub HasDone : (Origin → Option (List ℕ)) → Ending → Type 0
+HasDone bytes (Ran invocation (Ok done)) = IsTaskDone bytes invocation.task invocation.input done
+HasDone bytes _ = ⊤
 
 -- ---- the fault of a run
 

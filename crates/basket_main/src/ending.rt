@@ -1,7 +1,7 @@
 ghost use Rattle.std.specs.Prelude.{◌≡◌};
 ghost use Rattle.basket_main.specs.Ending.{is_explained, status_at};
 
-use basket::{Invocation, Origin, PlanFault, RunFault, plan_status, status_of};
+use basket::{Done, Invocation, Origin, PlanFault, ReadFault, RunFault, plan_status, status_of};
 use std::fmt::{self, Display, Formatter};
 use std::io::{self, ErrorKind};
 
@@ -12,10 +12,10 @@ pub enum Ending {
     Refused(PlanFault),
     /// Help or the version was asked for, with this text, and the output failed.
     Unanswered(String),
-    /// The words name a file that can't be opened.
+    /// The words name a file that can't be opened, or that is longer than an input may be.
     NotOpened(Origin, io::Error),
     /// What the words ask for was run.
-    Ran(Invocation, Result<(), RunFault>),
+    Ran(Invocation, Result<Done, RunFault>),
 }
 
 impl Ending {
@@ -28,9 +28,10 @@ impl Ending {
             Ending::Unanswered(_) => 4,
             Ending::NotOpened(_, error) => match error.kind() {
                 ErrorKind::OutOfMemory => 6,
+                ErrorKind::FileTooLarge => 3,
                 _ => 4,
             },
-            Ending::Ran(_, Ok(())) => 0,
+            Ending::Ran(_, Ok(_)) => 0,
             Ending::Ran(_, Err(fault)) => status_of(fault),
         }
     }
@@ -55,13 +56,17 @@ impl Display for Ending {
             Ending::NotOpened(_, error) if error.kind() == ErrorKind::OutOfMemory => {
                 f.write_str("basket: out of memory\n")
             }
+            Ending::NotOpened(_, error) if error.kind() == ErrorKind::FileTooLarge => {
+                write!(f, "basket: {}\n", ReadFault::TooLong)
+            }
             Ending::NotOpened(origin, error) => {
                 let name = origin.path().unwrap_or("standard input");
                 write!(f, "basket: cannot open {name}: {error}\n")
             }
             Ending::Ran(_, Err(fault)) => write!(f, "basket: {fault}\n"),
-            Ending::Refused(PlanFault::Help(_)) | Ending::Unanswered(_) | Ending::Ran(_, Ok(())) =>
-                { Ok(()) }
+            Ending::Refused(PlanFault::Help(_)) | Ending::Unanswered(_) | Ending::Ran(_, Ok(_)) => {
+                Ok(())
+            }
         }
     }
 }

@@ -1,14 +1,14 @@
 ghost use Rattle.std.specs.Prelude.{◌≡◌, ◌≤◌, false, true, List, map, Option, Some, ℕ};
 ghost use Rattle.basket_main.specs.Ending.{explanation_of, is_cut_off};
 ghost use Rattle.basket_main.specs.Log.{Grows};
-ghost use Rattle.basket_main.specs.Program.{Follows, HasFault, HasRead, IsRefusal, Writes, is_silent};
+ghost use Rattle.basket_main.specs.Program.{Follows, HasDone, HasFault, HasRead, IsRefusal, Writes, is_silent};
 ghost use Rattle.basket_plan.specs.Command.{invocation_of_words};
 
 use crate::answer::answer;
 use crate::ending::Ending;
 use crate::streams::{ErrorStream, Inputs};
 use basket::{
-    CountPlan, Invocation, Origin, Plan, PlanFault, Sink, Task, invocation_of, run, run_count,
+    CountPlan, Done, Invocation, Origin, Plan, PlanFault, Sink, Task, invocation_of, run, run_count,
 };
 use std::alloc::Global;
 use std::random::RandomSource;
@@ -32,6 +32,7 @@ pub fn perform<R: RandomSource + Threads + Sync, I: Inputs, W: Sink, E: ErrorStr
     ensures untouched { is_silent result ≡ true → output.new ≡ output.old }
     ensures failed { W.has_failed output.new ≡ is_cut_off result }
     ensures ended { HasRead I.Input.at_end I.Sets.at_end result }
+    ensures done { HasDone (I.bytes inputs.old) result }
     ensures fault { HasFault I.Input.left I.Input.has_failed I.Sets.has_failed (I.bytes inputs.old) result }
     ensures explained { Grows (E.explained errors.old) (E.explained errors.new) (explanation_of result) }
 {
@@ -81,6 +82,7 @@ fn obey<R: RandomSource + Threads + Sync, I: Inputs, W: Sink>(
     ensures untouched { is_silent result ≡ true → output.new ≡ output.old }
     ensures failed { W.has_failed output.new ≡ is_cut_off result }
     ensures ended { HasRead I.Input.at_end I.Sets.at_end result }
+    ensures done { HasDone (I.bytes inputs.old) result }
     ensures fault { HasFault I.Input.left I.Input.has_failed I.Sets.has_failed (I.bytes inputs.old) result }
 {
     match invocation_of(alloc, words) {
@@ -104,6 +106,7 @@ fn carry_out<R: RandomSource + Threads + Sync, I: Inputs, W: Sink>(
     ensures untouched { is_silent result ≡ true → output.new ≡ output.old }
     ensures failed { W.has_failed output.new ≡ is_cut_off result }
     ensures ended { HasRead I.Input.at_end I.Sets.at_end result }
+    ensures done { HasDone (I.bytes inputs.old) result }
     ensures fault { HasFault I.Input.left I.Input.has_failed I.Sets.has_failed (I.bytes inputs.old) result }
 {
     let Invocation { task, input } = invocation;
@@ -132,6 +135,7 @@ fn report<R: RandomSource + Threads + Sync, I: Inputs, W: Sink>(
     ensures untouched { is_silent result ≡ true → output.new ≡ output.old }
     ensures failed { W.has_failed output.new ≡ is_cut_off result }
     ensures ended { HasRead I.Input.at_end I.Sets.at_end result }
+    ensures done { HasDone (I.bytes inputs.old) result }
     ensures fault { HasFault I.Input.left I.Input.has_failed I.Sets.has_failed (I.bytes inputs.old) result }
 {
     let mut reader = match inputs.open(&input) {
@@ -142,7 +146,7 @@ fn report<R: RandomSource + Threads + Sync, I: Inputs, W: Sink>(
     let task = Task::Report(plan);
     let invocation = Invocation { task, input };
     match ran {
-        Ok(_) => Ending::Ran(invocation, Ok(())),
+        Ok(done) => Ending::Ran(invocation, Ok(done)),
         Err(fault) => Ending::Ran(invocation, Err(fault)),
     }
 }
@@ -170,6 +174,7 @@ fn count<R: RandomSource + Threads + Sync, I: Inputs, W: Sink>(
     ensures untouched { is_silent result ≡ true → output.new ≡ output.old }
     ensures failed { W.has_failed output.new ≡ is_cut_off result }
     ensures ended { HasRead I.Input.at_end I.Sets.at_end result }
+    ensures done { HasDone (I.bytes inputs.old) result }
     ensures fault { HasFault I.Input.left I.Input.has_failed I.Sets.has_failed (I.bytes inputs.old) result }
 {
     let Counting { plan, sets, input } = counting;
@@ -183,5 +188,9 @@ fn count<R: RandomSource + Threads + Sync, I: Inputs, W: Sink>(
     };
     let ran = run_count(rt, alloc, &plan, &mut lists, &mut reader, output);
     let task = Task::Count(plan, sets);
-    Ending::Ran(Invocation { task, input }, ran)
+    let invocation = Invocation { task, input };
+    match ran {
+        Ok(()) => Ending::Ran(invocation, Ok(Done::of_counted_sets())),
+        Err(fault) => Ending::Ran(invocation, Err(fault)),
+    }
 }

@@ -13,8 +13,10 @@
 
 mod apriori;
 mod class_miner;
+mod greatest;
 mod joiner;
 mod merging;
 mod mining;
 
+pub use greatest::greatest_count;
 pub use mining::{Work, cutting, mine, mine_in_place};

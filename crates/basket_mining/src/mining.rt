@@ -1,16 +1,19 @@
 //! The frequent sets of a database.
 ghost use Rattle.std.specs.Prelude.{◌≡◌, ◌<◌, ◌≤◌, ◌+◌, ◌^◌, ℕ, Err, IfOk, length};
+ghost use Rattle.basket_mining.specs.Greatest.{greatest_support};
 ghost use Rattle.basket_mining.specs.Mining.{IsWorkOf, IsWorkOver, candidate_work, join_work, tree_work, work_of};
 ghost use Rattle.mine_limit.specs.declared.fault.MineFault.TheVariants.{TooMany};
 ghost use Rattle.basket_ranks.specs.Codes.{coding_of, frequent_of_coding};
 ghost use Rattle.basket_core.specs.Listing.{listing_of};
+ghost use Rattle.basket_sets.specs.Counts.{item_supports};
 ghost use Rattle.basket_sets.specs.Frequent.{frequent_of};
 ghost use Rattle.basket_sets.specs.Support.{total_of};
 
 use crate::apriori::apriori_shared;
 use crate::class_miner::{EclatMiner, FpGrowthMiner};
+use crate::greatest::greatest_count;
 use crate::merging::merged_if_it_pays;
-use basket_core::{Coded, Codes, Database, Frequent, Minimum, deep};
+use basket_core::{Coded, Codes, Database, Frequent, deep};
 use basket_plan::{Miner, Plan};
 use mine_apriori::laws::candidates_by_sets;
 use mine_fp::Forest;
@@ -90,17 +93,43 @@ pub fn mine<R: Threads + Sync, G: Gate + Sync>(
     ensures too_many { (most : ℕ) → result ≡ Err (TooMany most)
         → (most ≡ plan.now.question.limit) × (plan.now.question.limit < length (frequent_of database.now plan.now.question.minimum)) }
 {
-    mine_in_place(rt, alloc, database.copied(alloc)?, plan, gate)
+    let (frequent, work, _) = mine_in_place(rt, alloc, database.copied(alloc)?, plan, gate)?;
+    Ok((frequent, work))
 }
 
-/// Mines as `mine` does; the ranks of the baskets take the room of their items.
+/// Mines as `mine` does, and returns the greatest support of an item too, or 0 if there is none. The
+/// ranks of the baskets take the room of their items.
 pub fn mine_in_place<R: Threads + Sync, G: Gate + Sync>(
     rt: &R,
     alloc: Global,
     database: Database,
     plan: &Plan,
     gate: &G,
+) -> Result<(Frequent, Work, u64), MineFault>
+    ensures sets { IfOk result (λ mined. mined.0.sets ≡ frequent_of database plan.now.question.minimum) }
+    ensures total { IfOk result (λ mined. mined.0.total ≡ total_of database) }
+    ensures within { IfOk result (λ mined. length mined.0.sets ≤ plan.now.question.limit) }
+    ensures work { IfOk result (λ mined. IsWorkOf plan.now.miner database plan.now.question.minimum mined.1) }
+    ensures greatest { IfOk result (λ mined. mined.2 ≡ greatest_support database) }
+    ensures too_many { (most : ℕ) → result ≡ Err (TooMany most)
+        → (most ≡ plan.now.question.limit) × (plan.now.question.limit < length (frequent_of database plan.now.question.minimum)) }
+{
+    let counts = count_shared(rt, alloc, database.baskets(), cutting(plan), gate)?;
+    let greatest = greatest_count(&counts);
+    let (frequent, work) = mine_counted(rt, alloc, database, counts, plan, gate)?;
+    Ok((frequent, work, greatest))
+}
+
+/// Mines a database of which the items are counted.
+fn mine_counted<R: Threads + Sync, G: Gate + Sync>(
+    rt: &R,
+    alloc: Global,
+    database: Database,
+    counts: Vec<(u32, u64)>,
+    plan: &Plan,
+    gate: &G,
 ) -> Result<(Frequent, Work), MineFault>
+    requires counts { counts.items ≡ item_supports database }
     ensures sets { IfOk result (λ mined. mined.0.sets ≡ frequent_of database plan.now.question.minimum) }
     ensures total { IfOk result (λ mined. mined.0.total ≡ total_of database) }
     ensures within { IfOk result (λ mined. length mined.0.sets ≤ plan.now.question.limit) }
@@ -109,7 +138,7 @@ pub fn mine_in_place<R: Threads + Sync, G: Gate + Sync>(
         → (most ≡ plan.now.question.limit) × (plan.now.question.limit < length (frequent_of database plan.now.question.minimum)) }
 {
     let limit = plan.limit();
-    let coded = coded(rt, alloc, database, plan.minimum(), cutting(plan), gate)?;
+    let coded = coded(rt, alloc, database, counts, plan)?;
     if deep(alloc, &coded, settling_size(limit))? {
         return Err(MineFault::TooMany { limit });
     }
@@ -149,20 +178,19 @@ pub fn cutting(plan: &Plan) -> Cutting
     Cutting::new(plan.workers(), plan.pieces())
 }
 
-/// The baskets of a database, coded. Workers count the items and code the baskets.
-fn coded<R: Threads + Sync, G: Gate + Sync>(
+/// The baskets of a database, coded by workers. Its items are counted.
+fn coded<R: Threads + Sync>(
     rt: &R,
     alloc: Global,
     database: Database,
-    minimum: Minimum,
-    cutting: Cutting,
-    gate: &G,
+    counts: Vec<(u32, u64)>,
+    plan: &Plan,
 ) -> Result<Coded, AllocError>
-    ensures { IfOk result (λ coded. coded ≡ coding_of database minimum) }
+    requires { counts.items ≡ item_supports database }
+    ensures { IfOk result (λ coded. coded ≡ coding_of database plan.now.question.minimum) }
 {
-    let counts = count_shared(rt, alloc, database.baskets(), cutting, gate)?;
-    let codes = Codes::of(alloc, &counts, database.total(), minimum)?;
-    Ok(codes.code_shared(rt, database, cutting.workers))
+    let codes = Codes::of(alloc, &counts, database.total(), plan.minimum())?;
+    Ok(codes.code_shared(rt, database, plan.workers()))
 }
 
 /// The list of the frequent sets by Apriori, and how many candidates it counted.

@@ -9,6 +9,7 @@
 #![tactic(auto)]
 
 mod cell;
+mod columns;
 mod encoding;
 mod fault;
 mod fields;

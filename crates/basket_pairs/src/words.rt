@@ -1,7 +1,8 @@
 //! The words after `basket pairs`.
+use crate::columns::{keys, places, spans};
 use crate::encoding::Encoding;
 use crate::fields::{Fields, separator_of};
-use crate::recipe::{Key, Recipe, Span};
+use crate::recipe::Recipe;
 use std::alloc::{AllocError, Global};
 
 pub const HELP: &str = "\
@@ -144,7 +145,7 @@ impl<'a> Asked<'a> {
             "--skip" => return Ok(put(&mut recipe.skip, value.parse().ok())),
             "--skip-last" => return Ok(put(&mut recipe.skip_last, value.parse().ok())),
             "--within" => recipe.within = separator_of(value),
-            "--columns" => match columns(alloc, value)? {
+            "--columns" => match places(alloc, value)? {
                 Some(starts) => recipe.fields = Fields::Columns(starts),
                 None => return Ok(false),
             },
@@ -189,65 +190,4 @@ fn put<T: Drop>(place: &mut T, value: Option<T>) -> bool {
         }
         None => false,
     }
-}
-
-/// A number of a column, from 1 on.
-fn column(text: &str) -> Option<usize> {
-    match text.parse::<u32>() {
-        Ok(number) if number > 0 => usize::try_from(number).ok(),
-        _ => None,
-    }
-}
-
-/// Places in a line, each after the one before.
-fn columns(alloc: Global, value: &str) -> Result<Option<Vec<usize>>, AllocError> {
-    let mut places = Vec::new(alloc);
-    let mut before = 0;
-    for part in value.split(',') {
-        match column(part) {
-            Some(place) if place > before => {
-                places.push(place)?;
-                before = place;
-            }
-            _ => return Ok(None),
-        }
-    }
-    Ok(Some(places))
-}
-
-fn keys(alloc: Global, value: &str) -> Result<Option<Vec<Key>>, AllocError> {
-    let mut keys = Vec::new(alloc);
-    for part in value.split(',') {
-        let (number, is_day) = match part.strip_suffix(":day") {
-            Some(number) => (number, true),
-            None => (part, false),
-        };
-        match column(number) {
-            Some(column) => keys.push(Key { column, is_day })?,
-            None => return Ok(None),
-        }
-    }
-    Ok(Some(keys))
-}
-
-fn spans(alloc: Global, value: &str) -> Result<Option<Vec<Span>>, AllocError> {
-    let mut spans = Vec::new(alloc);
-    for part in value.split(',') {
-        let span = match part.split_once('-') {
-            None => column(part).map(Span::one),
-            Some((first, "")) => column(first).map(Span::from),
-            Some((first, last)) => match (column(first), column(last)) {
-                (Some(first), Some(last)) if first <= last => Some(Span {
-                    first,
-                    last: Some(last),
-                }),
-                _ => None,
-            },
-        };
-        match span {
-            Some(span) => spans.push(span)?,
-            None => return Ok(None),
-        }
-    }
-    Ok(Some(spans))
 }

@@ -1,7 +1,7 @@
 //! The texts of help, and the version.
 
 /// The version of the program, which packages and the manual page take over.
-pub const VERSION: &str = "1.2.0-dev";
+pub const VERSION: &str = "1.2.0";
 
 /// The help of the command of a name, and for any other name that of the command line.
 pub fn of(name: &str) -> &'static str {

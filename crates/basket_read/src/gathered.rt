@@ -1,10 +1,11 @@
 //! Baskets that are gathered one after another.
-ghost use Rattle.std.specs.Prelude.{◌≡◌, ◌≤◌, ◌+◌, Bool, [], ◌∷◌, ◌++◌, List, OnOk, IfOk, IfErr, IsTrue, true, false, length, min};
-ghost use Rattle.basket_sets.specs.Database.{MOST_WEIGHT, weighted};
+ghost use Rattle.std.specs.Prelude.{◌≡◌, ◌≤◌, ◌+◌, Bool, [], ◌∷◌, ◌++◌, List, OnOk, IfOk, IfErr, IsTrue, true, false, length, map, min, nat_eq};
+ghost use Rattle.std.specs.List.{IsDistinct};
+ghost use Rattle.basket_sets.specs.Database.{MOST_WEIGHT, renamed_basket, weighted};
 ghost use Rattle.basket_sets.specs.declared.weighted.Weighted.{Weighted};
 ghost use Rattle.basket_sets.specs.ItemTable.{HasCounted};
-ghost use Rattle.basket_sets.specs.Itemset.{rising};
-ghost use Rattle.basket_sets.specs.Support.{total_of};
+ghost use Rattle.basket_sets.specs.Itemset.{AllBelow, rising};
+ghost use Rattle.basket_sets.specs.Support.{all_items, total_of};
 ghost use Rattle.basket_read.specs.Fault.{ReturnsBy};
 ghost use Rattle.basket_read.specs.Fimi.{basket_of_numbers, if_light};
 ghost use Rattle.basket_read.specs.GatheredBaskets.{Gathers, HasGathered};
@@ -136,14 +137,24 @@ impl GatheredBaskets {
         if other.counting && !self.counts() {
             return Ok(false);
         }
+        self.append_any(other)?;
+        Ok(true)
+    }
+
+    /// Adds baskets that were gathered after these. If those may be past, these are counted, however
+    /// large the table is for them.
+    pub fn append_any(&mut self, other: GatheredBaskets) -> Result<(), AllocError>
+        ensures { (counting apart : Bool) (baskets more : List Weighted) → (apart ≡ true → counting ≡ true) → HasGathered self.old counting baskets → HasGathered other apart more
+            → OnOk result (HasGathered self.new counting (baskets ++ more)) }
+    {
         let weight = self.weight().saturating_add(other.weight());
         if self.heavy || other.heavy || weight > Database::MAX_WEIGHT {
             self.heavy = true;
-            return Ok(true);
+            return Ok(());
         }
         let GatheredBaskets {
             alloc: _,
-            counting: _,
+            counting,
             baskets,
             table,
             refused: _,
@@ -152,10 +163,41 @@ impl GatheredBaskets {
         if self.baskets.len().saturating_add(baskets.len()) > Database::MAX_BASKETS {
             return Err(AllocError);
         }
+        self.count_kept(counting)?;
         self.table.append(&table)?;
         self.baskets.append(baskets)?;
         self.count()?;
-        Ok(true)
+        Ok(())
+    }
+
+    /// Counts the baskets that are kept, if baskets that are past may come after them.
+    fn count_kept(&mut self, past: bool) -> Result<(), AllocError>
+        requires { self.old.table.total + total_of self.old.baskets ≤ MOST_WEIGHT }
+        ensures same { (self.new.counting ≡ self.old.counting) × (self.new.heavy ≡ self.old.heavy) }
+        ensures few { length self.new.baskets ≤ length self.old.baskets }
+        ensures none { OnOk result (past ≡ true → self.new.baskets ≡ []) }
+        ensures weight { OnOk result (self.new.table.total + total_of self.new.baskets ≡ self.old.table.total + total_of self.old.baskets) }
+        ensures baskets { (counting : Bool) (baskets : List Weighted) → (past ≡ true → counting ≡ true) → HasGathered self.old counting baskets → OnOk result (HasGathered self.new counting baskets) }
+    {
+        if past && !self.baskets.is_empty() {
+            self.table.add_all(self.baskets.baskets())?;
+            self.baskets.clear();
+        }
+        Ok(())
+    }
+
+    /// Replaces each item by its name. The list has the name of an item at the index of that item.
+    pub fn rename(&mut self, names: &[u32]) -> Result<(), AllocError>
+        requires { (counting : Bool) × (baskets : List Weighted) × HasGathered self.old counting baskets × AllBelow (length names.now) (all_items baskets) }
+        ensures { (counting : Bool) (baskets : List Weighted) → HasGathered self.old counting baskets → IsDistinct nat_eq names.now → AllBelow (length names.now) (all_items baskets)
+            → OnOk result (HasGathered self.new counting (map (renamed_basket names.now) baskets)) }
+    {
+        if self.heavy {
+            return Ok(());
+        }
+        self.table.rename(self.alloc, names)?;
+        self.baskets.rename(names);
+        Ok(())
     }
 
     /// Counts the baskets that are kept, if they are to be counted and the table would not be too

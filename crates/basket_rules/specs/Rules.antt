@@ -1,7 +1,7 @@
 -- Association rules (Agrawal and Srikant 1994).
 use Rattle.std.specs.Prelude.{◌≡◌, ◌<◌, ℕ, ◌*◌, Bool, IsTrue, not, nat_le, nat_lt, if◌then◌else◌, List, ◌++◌, length, map, filter, Option, Some, None}
 use Rattle.std.specs.List.{flat_map, AllByRecursion}
-use Rattle.basket_core.specs.Fraction.{lowest}
+use Rattle.basket_core.specs.Fraction.{Ratio, lowest}
 use Rattle.basket_core.specs.Listing.{Listing}
 use Rattle.basket_sets.specs.declared.weighted.Weighted.{Weighted}
 use Rattle.basket_sets.specs.declared.counted.Counted.{Counted}
@@ -29,15 +29,28 @@ abbrev pub is_confident : List Weighted → ℕ × ℕ → List ℕ → List ℕ
 is_confident baskets confidence union consequent =
     nat_le (confidence.0 * support_of baskets (difference union consequent)) (support_of baskets union * confidence.1)
 
+-- the share of the baskets with the antecedent that have the consequent too
+abbrev pub confidence_by : (count antecedent_count : ℕ) → Ratio
+confidence_by count antecedent_count = lowest count antecedent_count
+
+-- how many times as often the consequent occurs beside the antecedent as in all baskets
+abbrev pub lift_by : (count total antecedent_count consequent_count : ℕ) → Ratio
+lift_by count total antecedent_count consequent_count = lowest (count * total) (antecedent_count * consequent_count)
+
+-- the rule with these sides and supports
+abbrev pub rule_by : (antecedent consequent : List ℕ) (count total antecedent_count consequent_count : ℕ) → Rule
+rule_by antecedent consequent count total antecedent_count consequent_count = record {
+  antecedent = antecedent;
+  consequent = consequent;
+  count = count;
+  confidence = confidence_by count antecedent_count;
+  lift = lift_by count total antecedent_count consequent_count;
+}
+
 -- the rule with this union and consequent
 abbrev pub rule_of : List Weighted → List ℕ → List ℕ → Rule
-rule_of baskets union consequent = record {
-  antecedent = difference union consequent;
-  consequent = consequent;
-  count = support_of baskets union;
-  confidence = lowest (support_of baskets union) (support_of baskets (difference union consequent));
-  lift = lowest (support_of baskets union * total_of baskets) (support_of baskets (difference union consequent) * support_of baskets consequent);
-}
+rule_of baskets union consequent =
+    rule_by (difference union consequent) consequent (support_of baskets union) (total_of baskets) (support_of baskets (difference union consequent)) (support_of baskets consequent)
 
 -- the rules with this union that meet the confidence, by their consequents in report order
 abbrev pub rules_with : List Weighted → ℕ × ℕ → List ℕ → List Rule
@@ -54,13 +67,8 @@ is_confident_among listing confidence union consequent =
 
 -- that rule
 abbrev pub rule_among : Listing → List ℕ → List ℕ → Rule
-rule_among listing union consequent = record {
-  antecedent = difference union consequent;
-  consequent = consequent;
-  count = count_in listing.sets union;
-  confidence = lowest (count_in listing.sets union) (count_in listing.sets (difference union consequent));
-  lift = lowest (count_in listing.sets union * listing.total) (count_in listing.sets (difference union consequent) * count_in listing.sets consequent);
-}
+rule_among listing union consequent =
+    rule_by (difference union consequent) consequent (count_in listing.sets union) listing.total (count_in listing.sets (difference union consequent)) (count_in listing.sets consequent)
 
 -- the rules of a listing with this union that meet the confidence, by their consequents in report order
 abbrev pub rules_among_with : Listing → ℕ × ℕ → List ℕ → List Rule

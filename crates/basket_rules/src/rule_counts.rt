@@ -1,6 +1,6 @@
 //! The numbers of a rule.
-ghost use Rattle.std.specs.Prelude.{◌≡◌, ◌≤◌, ◌*◌};
-ghost use Rattle.basket_core.specs.Fraction.{lowest};
+ghost use Rattle.std.specs.Prelude.{◌≡◌, ◌≤◌};
+ghost use Rattle.basket_rules.specs.Rules.{confidence_by, lift_by};
 
 use basket_core::Fraction;
 
@@ -20,14 +20,14 @@ pub struct RuleCounts {
 impl RuleCounts {
     /// Which share of the baskets with the antecedent has the consequent too.
     pub fn confidence(&self) -> Fraction
-        ensures { result ≡ lowest self.now.count self.now.antecedent_count }
+        ensures { result ≡ confidence_by self.now.count self.now.antecedent_count }
     {
         Fraction::reduced(u128::from(self.count), u128::from(self.antecedent_count))
     }
 
     /// How many times as often the consequent occurs beside the antecedent as in all baskets.
     pub fn lift(&self) -> Fraction
-        ensures { result ≡ lowest (self.now.count * self.now.total) (self.now.antecedent_count * self.now.consequent_count) }
+        ensures { result ≡ lift_by self.now.count self.now.total self.now.antecedent_count self.now.consequent_count }
     {
         Fraction::reduced(
             u128::from(self.count) * u128::from(self.total),

@@ -19,8 +19,9 @@ mod library;
 mod programs;
 mod rules;
 mod streams;
+mod workers;
 
-/// A runtime that has threads and no random bytes. All tests run by it, so that all is compiled for one runtime.
+/// A runtime that has threads and no random bytes. Whole runs have it, so that all is compiled for one runtime.
 #[derive(Drop)]
 struct NoRandomBytes<'a, R>(&'a R);
 

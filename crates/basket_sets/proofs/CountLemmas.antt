@@ -47,7 +47,7 @@ slot_before items old table i weight distinct below added = added (get_or items 
 
 -- ---- the table after so many receipts
 
-weight_of_item : (receipt : Weighted) (item : ℕ) → weight_at (item ∷ []) receipt ≡ cond (has receipt.basket item) receipt.weight 0
+pub weight_of_item : (receipt : Weighted) (item : ℕ) → weight_at (item ∷ []) receipt ≡ cond (has receipt.basket item) receipt.weight 0
 weight_of_item receipt item = ap (λ b. cond b receipt.weight 0) (and_true (has receipt.basket item))
 
 -- what is known of an item after one more receipt
@@ -61,7 +61,7 @@ pub table_push : (before : List Weighted) (receipt : Weighted) (old table : List
 table_push before receipt old table long added so_far item within = grind (arith, common_steps, tally_push)
 
 -- a table knows each item that it has a slot for
-table_knows : (baskets : List Weighted) (table : List (Option ℕ)) → IsTable baskets table → AllBelow (length table) (all_items baskets) → (item : ℕ) → get_or table item None ≡ tally baskets item
+pub table_knows : (baskets : List Weighted) (table : List (Option ℕ)) → IsTable baskets table → AllBelow (length table) (all_items baskets) → (item : ℕ) → get_or table item None ≡ tally baskets item
 table_knows baskets table is within item = grind (arith, common_steps)
 
 -- the table after one more basket

@@ -12,3 +12,4 @@ pub mod Frequent
 pub mod Items
 pub mod Numerals
 pub mod Without
+pub mod Renaming

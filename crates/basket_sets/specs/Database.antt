@@ -2,12 +2,16 @@
 use Rattle.std.specs.Prelude.{◌≡◌, ◌≢◌, ◌≤◌, ◌+◌, ℕ, List, [], ◌∷◌, fold, length, All, if◌then◌else◌, nat_eq}
 use Rattle.std.specs.Cmp.Lexicographic.{pointwise}
 use Rattle.basket_sets.specs.declared.weighted.Weighted.{Weighted}
-use Rattle.basket_sets.specs.Itemset.{IsRising}
+use Rattle.basket_sets.specs.Itemset.{IsRising, renamed_set}
 use Rattle.basket_sets.specs.Support.{support_of, total_of}
 
 -- a basket of some weight
 abbrev pub weighted : List ℕ → ℕ → Weighted
 weighted basket weight = record { basket = basket; weight = weight }
+
+-- a basket whose items have other names, each of which stands at the index of its item
+abbrev pub renamed_basket : List ℕ → Weighted → Weighted
+renamed_basket names receipt = weighted (renamed_set names receipt.basket) receipt.weight
 
 -- a basket whose weight is at least 1
 abbrev pub HasWeight : Weighted → Type 0

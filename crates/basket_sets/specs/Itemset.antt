@@ -1,4 +1,4 @@
-use Rattle.std.specs.Prelude.{ℕ, zero, suc, Bool, IsTrue, ◌<◌, List, [], ◌∷◌, ◌++◌, ◌==◌, decimal, nat_lt, if◌then◌else◌}
+use Rattle.std.specs.Prelude.{ℕ, zero, suc, Bool, IsTrue, ◌<◌, List, [], ◌∷◌, ◌++◌, ◌==◌, decimal, map, nat_lt, slice_index_or, if◌then◌else◌}
 use Rattle.std.specs.List.{flat_map, list_any, list_all}
 use Rattle.std.specs.List.Sorted.{IsStrictlySortedBy}
 use Rattle.std.specs.Ordering.{nat_cmp}
@@ -24,6 +24,10 @@ with_item item (first ∷ others) = if nat_lt item first then item ∷ first ∷
 abbrev pub rising : List ℕ → List ℕ
 rising [] = []
 rising (number ∷ numbers) = with_item number (rising numbers)
+
+-- the set of the names of items, each of which stands at the index of its item
+abbrev pub renamed_set : List ℕ → List ℕ → List ℕ
+renamed_set names items = rising (map (λ item. slice_index_or names item 0) items)
 
 -- each item of the list is below the bound
 abbrev pub AllBelow : ℕ → List ℕ → Type 0

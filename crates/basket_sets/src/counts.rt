@@ -1,4 +1,4 @@
-ghost use Rattle.std.specs.Prelude.{◌≡◌, ◌<◌, ◌≤◌, ◌+◌, ◌++◌, ◌^◌, ℕ, List, None, IfOk, OnOk, IsTrue, if◌then◌else◌, length, map, nat_eq, unwrap_or, slice_index_or};
+ghost use Rattle.std.specs.Prelude.{◌≡◌, ◌<◌, ◌≤◌, ◌+◌, ◌++◌, ◌^◌, ℕ, List, None, IfOk, OnOk, IsTrue, false, if◌then◌else◌, length, map, min, nat_eq, take, unwrap_or, slice_index_or};
 ghost use Rattle.std.specs.BTreeMap.{get};
 ghost use Rattle.std.specs.Ordering.{nat_cmp};
 ghost use Rattle.std.specs.List.{IsDistinct};
@@ -47,6 +47,17 @@ pub fn greatest_item(baskets: &[Weighted]) -> u32
         if let Some(last) = weighted.basket.items().last() {
             greatest = greatest.max(*last);
         }
+    }
+    greatest
+}
+
+/// The greatest of some numbers, or 0.
+pub fn greatest_of(numbers: &[u32]) -> u32
+    ensures { AllBelow (result + 1) numbers.now }
+{
+    let mut greatest = 0u32;
+    for number in numbers {
+        greatest = greatest.max(*number);
     }
     greatest
 }
@@ -104,6 +115,20 @@ pub fn add_slots(table: &mut [Slot], more: &[Slot])
         if let Some(support) = slot.support() {
             table[item].add(support);
         }
+    }
+}
+
+/// Puts each slot that has a name at the index of its name.
+pub fn put_slots(table: &mut [Slot], slots: &[Slot], names: &[u32])
+    requires { AllBelow (length table.old) names.now }
+    ensures named { IsDistinct nat_eq names.now → (item : ℕ) → item < min (length slots.now) (length names.now)
+        → slice_index_or table.new (slice_index_or names.now item 0) None ≡ slice_index_or slots.now item None }
+    ensures others { (name : ℕ) → has (take (min (length slots.now) (length names.now)) names.now) name ≡ false → slice_index_or table.new name None ≡ slice_index_or table.old name None }
+    ensures bounded { (most : ℕ) → ((item : ℕ) → unwrap_or (slice_index_or slots.now item None) 0 ≤ most) → ((item : ℕ) → unwrap_or (slice_index_or table.old item None) 0 ≤ most)
+        → (item : ℕ) → unwrap_or (slice_index_or table.new item None) 0 ≤ most }
+{
+    for item in 0..slots.len().min(names.len()) {
+        table[names[item] as usize] = slots[item];
     }
 }
 

@@ -1,6 +1,7 @@
-ghost use Rattle.std.specs.Prelude.{◌≡◌, ◌≢◌, ◌<◌, ◌≤◌, ◌+◌, ◌↔◌, [], ◌∷◌, ◌++◌, length, IsTrue, IfOk, IfErr, OnOk, OnErr};
-ghost use Rattle.basket_sets.specs.Database.{IsDatabase, weighted, MOST_BASKETS, MOST_WEIGHT, merged_of};
-ghost use Rattle.basket_sets.specs.Support.{support_of, total_of};
+ghost use Rattle.std.specs.Prelude.{◌≡◌, ◌≢◌, ◌<◌, ◌≤◌, ◌+◌, ◌↔◌, [], ◌∷◌, ◌++◌, length, map, IsTrue, IfOk, IfErr, OnOk, OnErr};
+ghost use Rattle.basket_sets.specs.Database.{IsDatabase, weighted, MOST_BASKETS, MOST_WEIGHT, merged_of, renamed_basket};
+ghost use Rattle.basket_sets.specs.Itemset.{AllBelow};
+ghost use Rattle.basket_sets.specs.Support.{all_items, support_of, total_of};
 
 use crate::itemset::Itemset;
 use crate::merge;
@@ -82,6 +83,14 @@ impl Database {
         Ok(())
     }
 
+    /// Replaces each item by its name. The list has the name of an item at the index of that item.
+    pub fn rename(&mut self, names: &[u32])
+        requires { AllBelow (length names.now) (all_items self.old) }
+        ensures { self.new ≡ map (renamed_basket names.now) self.old }
+    {
+        rename_each(&mut self.baskets, names);
+    }
+
     /// The baskets in the order in which they were added.
     pub fn baskets(&self) -> &[Weighted]
         ensures baskets { result.now ≡ self.now }
@@ -157,6 +166,16 @@ fn copied(alloc: Global, baskets: &[Weighted]) -> Result<Vec<Weighted>, AllocErr
         copy.push(weighted.copied(alloc)?)?;
     }
     Ok(copy)
+}
+
+/// Replaces the items of each basket by their names.
+fn rename_each(baskets: &mut [Weighted], names: &[u32])
+    requires { AllBelow (length names.now) (all_items baskets.old) }
+    ensures { baskets.new ≡ map (renamed_basket names.now) baskets.old }
+{
+    for index in 0..baskets.len() {
+        baskets[index].basket.rename(names);
+    }
 }
 
 /// The support of a set, by a scan of all baskets (Agrawal and Srikant 1994).

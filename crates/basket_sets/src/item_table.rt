@@ -3,13 +3,14 @@ ghost use Rattle.std.specs.Prelude.{◌≡◌, ◌<◌, ◌≤◌, ◌+◌, ◌�
 ghost use Rattle.std.specs.List.{IsDistinct, list_all};
 ghost use Rattle.basket_sets.specs.declared.weighted.Weighted.{Weighted as Basket};
 ghost use Rattle.basket_sets.specs.Counts.{AllBelow, item_supports};
-ghost use Rattle.basket_sets.specs.Database.{weighted, MOST_WEIGHT};
+ghost use Rattle.basket_sets.specs.Database.{renamed_basket, weighted, MOST_WEIGHT};
 ghost use Rattle.basket_sets.specs.ItemTable.{HasCounted};
 ghost use Rattle.basket_sets.specs.Itemset.{IsRising, rising};
 ghost use Rattle.basket_sets.specs.Support.{all_items, total_of};
 
 use crate::counts::{
-    SMALL_TABLE, add_baskets, add_slots, add_to_table, greatest_item, listed, occurrences,
+    SMALL_TABLE, add_baskets, add_slots, add_to_table, greatest_item, greatest_of, listed,
+    occurrences, put_slots,
 };
 use crate::database::weight_of;
 use crate::itemset::{are_distinct, is_rising};
@@ -88,6 +89,19 @@ impl ItemTable {
         Ok(true)
     }
 
+    /// Counts more baskets, however large the table is for them.
+    pub fn add_all(&mut self, baskets: &[Weighted]) -> Result<(), AllocError>
+        requires { self.old.total + total_of baskets.now ≤ MOST_WEIGHT }
+        ensures counted { OnOk result ((before : List Basket) → HasCounted self.old before → HasCounted self.new (before ++ baskets.now)) }
+        ensures total { OnOk result (self.new.total ≡ self.old.total + total_of baskets.now) }
+    {
+        let greatest = greatest_item(baskets) as usize;
+        let occurrences = self.occurrences.saturating_add(occurrences(baskets));
+        self.reach(greatest + 1)?;
+        self.count(baskets, occurrences);
+        Ok(())
+    }
+
     /// Counts a basket of these numbers, which may come in any order, if no two are equal and the
     /// table has a slot for each. Numbers that don't rise are not counted if they are more than 16.
     /// Returns whether they were counted.
@@ -119,6 +133,19 @@ impl ItemTable {
         Ok(())
     }
 
+    /// Replaces each item by its name. The list has the name of an item at the index of that item.
+    pub fn rename(&mut self, alloc: Global, names: &[u32]) -> Result<(), AllocError>
+        ensures renamed { OnOk result ((baskets : List Basket) → HasCounted self.old baskets → IsDistinct nat_eq names.now → AllBelow (length names.now) (all_items baskets)
+            → HasCounted self.new (map (renamed_basket names.now) baskets)) }
+        ensures total { OnOk result (self.new.total ≡ self.old.total) }
+    {
+        let greatest = greatest_of(names) as usize;
+        let mut slots = vec![in alloc; Slot::empty(); greatest + 1]?;
+        put_slots(&mut slots, &self.slots, names);
+        self.slots = slots;
+        Ok(())
+    }
+
     /// Makes the table have at least this many slots.
     fn reach(&mut self, slots: usize) -> Result<(), AllocError>
         requires { slots ≤ 2 ^ 32 }
@@ -136,7 +163,8 @@ impl ItemTable {
     fn count(&mut self, baskets: &[Weighted], occurrences: usize)
         requires within { AllBelow (length self.old.slots) (all_items baskets.now) }
         requires light { self.old.total + total_of baskets.now ≤ MOST_WEIGHT }
-        ensures { (before : List Basket) → HasCounted self.old before → HasCounted self.new (before ++ baskets.now) }
+        ensures counted { (before : List Basket) → HasCounted self.old before → HasCounted self.new (before ++ baskets.now) }
+        ensures total { self.new.total ≡ self.old.total + total_of baskets.now }
     {
         add_baskets(&mut self.slots, baskets);
         self.total += weight_of(baskets);

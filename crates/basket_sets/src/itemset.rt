@@ -6,7 +6,7 @@ ghost use Rattle.std.specs.List.{IsDistinct, filter_map};
 ghost use Rattle.std.specs.Ordering.{as_partial_cmp};
 ghost use Rattle.std.proofs.Common.{refl};
 ghost use Rattle.basket_sets.specs.Order.{report_order, report_order_total, report_order_ties, report_order_partial, items_fed_alike};
-ghost use Rattle.basket_sets.specs.Itemset.{AllBelow, IsRising, has, contains, rising, spaced, with_item};
+ghost use Rattle.basket_sets.specs.Itemset.{AllBelow, IsRising, has, contains, renamed_set, rising, spaced, with_item};
 ghost use Rattle.basket_sets.specs.declared.itemset.TheConstants.{INLINE_ITEMS};
 
 use crate::renumbering::{Renumbering, renumber};
@@ -55,8 +55,8 @@ fn put_rising(items: &mut SmallVec<u32, { INLINE_ITEMS }>)
     items.dedup();
 }
 
-/// Replaces each number by its name.
-fn rename(numbers: &mut [u32], names: &[u32])
+/// Replaces each number by its name, which stands at the number's index.
+pub fn rename(numbers: &mut [u32], names: &[u32])
     requires { AllBelow (length names.now) numbers.old }
     ensures { numbers.new ≡ map (λ number. slice_index_or names.now number 0) numbers.old }
 {
@@ -102,16 +102,25 @@ impl Itemset {
         put_rising(&mut self.items);
     }
 
+    /// Replaces the set by that of the names of its items. The list has the name of an item at the
+    /// index of that item.
+    pub fn rename(&mut self, names: &[u32])
+        requires { AllBelow (length names.now) self.old }
+        ensures { self.new ≡ renamed_set names.now self.old }
+    {
+        rename(self.items.as_mut_slice(), names);
+        put_rising(&mut self.items);
+    }
+
     /// The set of the names of the items. The list has the name of an item at the index of that
     /// item. It takes the room of the items.
     pub fn renamed(self, names: &[u32]) -> Self
         requires { AllBelow (length names.now) self }
         ensures { result ≡ rising (map (λ item. slice_index_or names.now item 0) self) }
     {
-        let Itemset { mut items } = self;
-        rename(items.as_mut_slice(), names);
-        put_rising(&mut items);
-        Itemset { items }
+        let mut set = self;
+        set.rename(names);
+        set
     }
 
     /// The set with one item more, or the same if the item is in it.

@@ -29,7 +29,7 @@ pub use counted::Counted;
 pub use counts::count_items;
 pub use database::{Database, support, weight_of};
 pub use item_table::ItemTable;
-pub use itemset::{INLINE_ITEMS, Itemset, is_rising};
+pub use itemset::{INLINE_ITEMS, Itemset, is_rising, rename};
 pub use merge::merged;
 pub use minimum::{Minimum, parse_minimum};
 pub use number::parse_number;

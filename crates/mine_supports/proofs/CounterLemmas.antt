@@ -1,10 +1,10 @@
 -- Counts with the supports of sets in one block after another added.
-use Rattle.std.proofs.Common.{◌≡◌, ℕ, ◌+◌, ◌-◌, ◌<◌, ◌≤◌, List, [], ◌∷◌, ◌++◌, length, take, drop, get_or, refl, sym, ap, ◌∙◌, inl, inr, arith, map, zero-add}
+use Rattle.std.proofs.Common.{◌≡◌, ℕ, ◌+◌, ◌-◌, ◌<◌, ◌≤◌, List, [], ◌∷◌, ◌++◌, length, take, drop, get_or, refl, sym, ap, ◌∙◌, inl, inr, arith, map, zero-add, subst}
 use Rattle.std.proofs.lemmas.Grind.{common_steps}
 use Rattle.std.specs.Prelude.{replicate}
-use Rattle.std.proofs.Math.ListN.{set}
+use Rattle.std.proofs.Math.ListN.{set, set as set_at}
 use Rattle.std.proofs.lemmas.Bool.{cases_lt}
-use Rattle.std.proofs.lemmas.List.{ext_get_or, get_or-map, get_or-replicate, get_or-set_other, get_or-set_same, get_or_append_left, length-append, length-map, length-replicate}
+use Rattle.std.proofs.lemmas.List.{ext_get_or, get_or-map, get_or-replicate, get_or-set_other, get_or-set_same, get_or_append_left, length-append, length-map, length-replicate, length-take, map-append, take_more}
 use Rattle.std.proofs.lemmas.List.Folds.{length-flat_map-take}
 use Rattle.std.proofs.lemmas.List.Sums.{sum_by-take-le}
 use Rattle.std.proofs.Math.Seq.{get_or-append_right, take-add}
@@ -67,6 +67,20 @@ more_added sets more baskets start old counts new first next = record {
   before = λ k below. next.before k (omega arith) ∙ first.before k below;
   after = λ k from. next.after k (omega (arith, from, length-append sets more)) ∙ first.after k (omega (arith, from, length-append sets more));
 }
+
+-- the support of a prefix with one more of the items
+pub next_added : (set items : List ℕ) (baskets : List Weighted) (start number support : ℕ) (old counts : List ℕ) → number < length items → start + length items ≤ length counts
+    → support ≡ support_of baskets (set ++ get_or items number 0 ∷ []) → AreAdded (extend set (take number items)) baskets start old counts
+    → AreAdded (extend set (take (number + 1) items)) baskets start old (set_at counts (start + number) (get_or counts (start + number) 0 + support))
+next_added set items baskets start number support old counts here within is before =
+    let longer = set ++ get_or items number 0 ∷ [] in
+    let more : extend set (take (number + 1) items) ≡ extend set (take number items) ++ longer ∷ [] =
+    ap (extend set) (take_more items number 0 here) ∙ map-append (λ item. set ++ item ∷ []) (take number items) (get_or items number 0 ∷ []) in
+    let at : start + number ≡ start + length (extend set (take number items)) = omega (arith, here, length-map (take number items) (λ item. set ++ item ∷ []), length-take number items) in
+    let new = set_at counts (start + number) (get_or counts (start + number) 0 + support) in
+    subst (λ s. AreAdded s baskets start old new) (sym more)
+    (more_added (extend set (take number items)) (longer ∷ []) baskets start old counts new before
+    (subst (λ n. AreAdded (longer ∷ []) baskets n counts new) at (one_added baskets longer (start + number) support counts (omega (arith, within, here)) is)))
 
 pub all_added : (sets : List (List ℕ)) (baskets : List Weighted) (old new : List ℕ) → AreAdded sets baskets 0 old new → WithSupports sets baskets old new
 all_added sets baskets old new are k inside within = let e : 0 + k ≡ k = omega arith in grind (arith, common_steps)

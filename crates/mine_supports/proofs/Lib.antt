@@ -5,3 +5,4 @@ mod OnesLemmas
 mod TidLemmas
 mod PrefixLemmas
 mod RowLemmas
+mod SumLemmas

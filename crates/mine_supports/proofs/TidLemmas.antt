@@ -131,7 +131,7 @@ from_row at r items item (first ∷ baskets) each =
 abbrev ones : ℕ → ℕ
 ones word = 2 ^ 64 - 1
 
-from_ones : (at : ℕ) (items : List ℕ) (baskets : List Weighted) → weight_from at ones items baskets ≡ support_of baskets items
+pub from_ones : (at : ℕ) (items : List ℕ) (baskets : List Weighted) → weight_from at ones items baskets ≡ support_of baskets items
 from_ones at items [] = refl
 from_ones at items (first ∷ baskets) = grind (arith, common_steps, from_ones (at + 1) items baskets, bit_at_ones 64 (at % 64) (omega arith), support-cons first baskets items)
 

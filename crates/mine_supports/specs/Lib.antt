@@ -5,5 +5,6 @@ pub mod Needed
 pub mod Prefixes
 pub mod Rows
 pub mod Sizes
+pub mod Sums
 pub mod TidWord
 pub mod UsedItems

@@ -1,4 +1,4 @@
-use Rattle.std.specs.Prelude.{◌≡◌, ◌<◌, ℕ, All, IsTrue, List, [], filter, length, map, slice_index, slice_index_or}
+use Rattle.std.specs.Prelude.{◌≡◌, ◌<◌, ℕ, All, Bool, false, IsTrue, List, [], filter, length, map, slice_index, slice_index_or}
 use Rattle.basket_sets.specs.Itemset.{has}
 
 -- each item of the sets is one of the items
@@ -9,3 +9,7 @@ AreUsed sets items = (k item : ℕ) → k < length sets → IsTrue (has (slice_i
 pub record AreNumbers (used items numbers : List ℕ) : Type 0 where
   pub below : All (λ number. number < length used) numbers
   pub named : map (slice_index used) numbers ≡ filter (has used) items
+
+-- each item with a mark is one of the items
+abbrev pub AreMarked : List Bool → List ℕ → Type 0
+AreMarked marks items = (item : ℕ) → IsTrue (slice_index_or marks item false) → IsTrue (has items item)

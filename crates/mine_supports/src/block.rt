@@ -1,5 +1,5 @@
 //! A block of baskets, of which those that sets can be in have tids.
-ghost use Rattle.std.specs.Prelude.{◌≡◌, ◌≤◌, [], ℕ, List, IfOk, IsTrue, length, take};
+ghost use Rattle.std.specs.Prelude.{◌≡◌, ◌≤◌, [], ℕ, List, IfOk, IsTrue, length, map, take};
 ghost use Rattle.basket_sets.specs.Database.{MOST_WEIGHT};
 ghost use Rattle.basket_sets.specs.Itemset.{has};
 ghost use Rattle.basket_sets.specs.Support.{total_of};
@@ -23,6 +23,9 @@ pub struct Block<'a> {
     pub least: usize,
     rows: Rows,
     tids: Vec<TidWord>,
+    /// The baskets by tid, if they are listed.
+    pub by_tid: Vec<&'a Weighted>,
+    ghost by_tids: { 1 ≤ length by_tid.items → map (λ basket. basket.now) by_tid.items ≡ needed used.now least baskets.now },
     ghost rows_of: { AreRows used.now (needed used.now least baskets.now) rows },
     ghost tids_of: { AreTidsOf (needed used.now least baskets.now) [] tids.items },
     ghost light: { total_of (needed used.now least baskets.now) ≤ MOST_WEIGHT },
@@ -37,19 +40,21 @@ impl Drop for Block<'_> {
             least: _,
             rows: _,
             tids: _,
+            by_tid: _,
         } = self;
     }
 }
 
 impl<'a> Block<'a> {
     /// The block of the first of some baskets: it has this many tids at most. A basket with fewer used items than
-    /// `least` has none, since it contains no set of so many.
+    /// `least` has none, since it contains no set of so many. The baskets are listed by tid if that is asked for.
     pub fn of(
         alloc: Global,
         used: &'a UsedItems,
         least: usize,
         baskets: &'a [Weighted],
         most: usize,
+        is_listed: bool,
     ) -> Result<Self, AllocError>
         requires most { 1 ≤ most }
         requires light { total_of baskets.now ≤ MOST_WEIGHT }
@@ -73,13 +78,19 @@ impl<'a> Block<'a> {
             }
             read += 1;
         }
+        let baskets = &baskets[..read];
+        let by_tid = match is_listed {
+            true => listed(alloc, used, least, baskets)?,
+            false => Vec::new(alloc),
+        };
         Ok(Block {
             alloc,
-            baskets: &baskets[..read],
+            baskets,
             used,
             least,
             rows,
             tids,
+            by_tid,
         })
     }
 
@@ -101,4 +112,22 @@ impl<'a> Block<'a> {
         };
         self.rows.row(number)
     }
+}
+
+/// Those of some baskets that have this many used items at least.
+fn listed<'a>(
+    alloc: Global,
+    used: &UsedItems,
+    least: usize,
+    baskets: &'a [Weighted],
+) -> Result<Vec<&'a Weighted>, AllocError>
+    ensures { IfOk result (λ listed. map (λ basket. basket.now) listed.items ≡ needed used.now least baskets.now) }
+{
+    let mut listed = Vec::new(alloc);
+    for basket in baskets {
+        if used.count(basket.basket.items()) >= least {
+            listed.push(basket)?;
+        }
+    }
+    Ok(listed)
 }

@@ -17,6 +17,12 @@ use std::marker::Model;
 /// The rows of a block have about this many words, a quarter of a megabyte, so that they stay near the processor.
 const BLOCK_WORDS: usize = 32_768;
 
+/// The rows of a block for many sets, each of which costs something for each block, have this many words at most.
+const MOST_WORDS: usize = 2_097_152;
+
+/// A block for many sets has a basket for so many of them.
+const SETS_A_BASKET: usize = 8;
+
 /// Sets whose supports are counted in blocks of baskets. It is made once, and any number of blocks may be counted at
 /// once.
 pub struct RowCounter<'a> {
@@ -73,8 +79,14 @@ impl<'a> RowCounter<'a> {
     fn most_baskets(&self) -> usize
         ensures { 1 ≤ result }
     {
-        let words = BLOCK_WORDS / self.used.items().len().max(1);
-        words.max(1) * WORD
+        let used = self.used.items().len().max(1);
+        let words = self.sets.len() / SETS_A_BASKET / WORD;
+        words.min(MOST_WORDS / used).max(BLOCK_WORDS / used).max(1) * WORD
+    }
+
+    /// Whether the sets are so many that a block for them has more baskets than the least one.
+    fn has_many_sets(&self) -> bool {
+        self.sets.len() / SETS_A_BASKET > BLOCK_WORDS / self.used.items().len().max(1) * WORD
     }
 
     /// Adds the support of each set in some baskets to its count, block by block.
@@ -113,14 +125,25 @@ impl<'a> RowCounter<'a> {
         if self.sets.is_empty() {
             return Ok(baskets.len());
         }
-        let block = Block::of(alloc, &self.used, self.least, baskets, self.most_baskets())?;
+        let are_many = self.has_many_sets();
+        let most = self.most_baskets();
+        let block = Block::of(alloc, &self.used, self.least, baskets, most, are_many)?;
         let mut shared = block.prefixes()?;
+        let sums_len = if are_many { self.used.table_len() } else { 0 };
+        let mut sums = vec![in alloc; 0; sums_len]?;
         let prefixes = self.sets.prefixes();
         let mut start = 0;
         for (number, items) in self.sets.lists().iter().enumerate() {
             let (before, prefix) = (&prefixes[number.saturating_sub(1)], &prefixes[number]);
             shared.truncate(1 + shared_items(before.items(), prefix.items()));
-            block.add(prefix.items(), items.items(), &mut shared, start, counts)?;
+            block.add(
+                prefix.items(),
+                items.items(),
+                &mut shared,
+                &mut sums,
+                start,
+                counts,
+            )?;
             start += items.len();
         }
         Ok(block.baskets.len())

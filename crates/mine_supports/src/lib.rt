@@ -1,4 +1,4 @@
-//! The supports of given sets, counted by rows of bits.
+//! The supports of given sets, counted by rows of bits, and by `sums` where baskets are sparse.
 //!
 //! ```
 //! let database = database(alloc, baskets)?;
@@ -21,6 +21,7 @@ mod prefixes;
 mod rising;
 mod rows;
 mod shard;
+mod sums;
 mod tid_words;
 mod used_items;
 

@@ -110,3 +110,12 @@ pub fn shared_weight(tids: &[TidWord], row: &[u64]) -> u64
     }
     weight
 }
+
+/// How many tids there are, or `usize::MAX` if there are more. A tid counts once for each bit of its weight.
+pub fn count_tids(tids: &[TidWord]) -> usize {
+    let mut count: usize = 0;
+    for part in tids {
+        count = count.saturating_add(part.bits.count_ones() as usize);
+    }
+    count
+}

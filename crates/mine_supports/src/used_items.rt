@@ -1,7 +1,7 @@
 //! The items that sets have, each with a number.
-ghost use Rattle.std.specs.Prelude.{◌≡◌, ◌<◌, ℕ, false, IfOk, IsTrue, MatchOption, OnOk, length, slice_index};
+ghost use Rattle.std.specs.Prelude.{◌≡◌, ◌<◌, ℕ, List, false, IfOk, IsTrue, MatchOption, OnOk, filter, length, slice_index};
 ghost use Rattle.basket_sets.specs.Itemset.{IsRising, has};
-ghost use Rattle.mine_supports.specs.UsedItems.{AreNumbers, AreUsed};
+ghost use Rattle.mine_supports.specs.UsedItems.{AreMarked, AreNumbers, AreUsed};
 
 use basket_sets::Itemset;
 use std::alloc::{AllocError, Global};
@@ -58,6 +58,11 @@ impl UsedItems {
         self.items.items()
     }
 
+    /// How long a table is that goes as far as the items and the hints.
+    pub fn table_len(&self) -> usize {
+        self.hints.len()
+    }
+
     /// Puts the numbers of those of some items that are used into a list. The memory of the list is used again.
     pub fn put_numbers(&self, items: &[u32], numbers: &mut Vec<usize>) -> Result<(), AllocError>
         ensures { OnOk result (AreNumbers self.now items.now numbers.new.items) }
@@ -69,6 +74,19 @@ impl UsedItems {
             }
         }
         Ok(())
+    }
+
+    /// How many of some items are used.
+    pub fn count(&self, items: &[u32]) -> usize
+        ensures { result ≡ length (filter (has self.now) items.now) }
+    {
+        let mut count = 0;
+        for item in items {
+            if self.number(*item).is_some() {
+                count += 1;
+            }
+        }
+        count
     }
 
     /// The number of an item, if it is used.
@@ -113,9 +131,36 @@ fn add_items(alloc: Global, sets: &[Itemset], items: &mut Vec<u32>) -> Result<()
     ensures more { OnOk result ((item : ℕ) → IsTrue (has items.old.items item) → IsTrue (has items.new.items item)) }
 {
     let mut most = FEW_ITEMS;
+    let mut are_added = no_marks(alloc)?;
     for set in sets {
-        items.extend_from_slice(set.items())?;
+        add_new(set.items(), &mut are_added, items)?;
         most = keep_distinct(alloc, items, most)?;
+    }
+    Ok(())
+}
+
+/// A mark for each item that can have a hint, which isn't set.
+fn no_marks(alloc: Global) -> Result<Vec<bool>, AllocError>
+    ensures { IfOk result (λ marks. (items : List ℕ) → AreMarked marks.items items) }
+{
+    Ok(vec![in alloc; false; MOST_HINTS]?)
+}
+
+/// Adds those of some items that aren't marked as added, and marks them as far as there are marks.
+fn add_new(set: &[u32], are_added: &mut [bool], items: &mut Vec<u32>) -> Result<(), AllocError>
+    requires { AreMarked are_added.old items.old.items }
+    ensures marked { OnOk result (AreMarked are_added.new items.new.items) }
+    ensures set { OnOk result ((item : ℕ) → IsTrue (has set.now item) → IsTrue (has items.new.items item)) }
+    ensures more { OnOk result ((item : ℕ) → IsTrue (has items.old.items item) → IsTrue (has items.new.items item)) }
+{
+    for item in set {
+        let index = *item as usize;
+        if index >= are_added.len() {
+            items.push(*item)?;
+        } else if !are_added[index] {
+            items.push(*item)?;
+            are_added[index] = true;
+        }
     }
     Ok(())
 }

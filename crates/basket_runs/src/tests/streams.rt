@@ -151,10 +151,11 @@ fn a_run_ends_with_a_flush_of_the_writer(rt: HostRuntime) -> Result<(), Fail> {
         Err(RunFault::Input(ReadFault::Memory) | RunFault::Mine(MineFault::Memory)) => {
             Err(Fail::from(AllocError))
         }
-        result => {
-            assert_eq!(rt; result, Err(RunFault::Write));
+        Err(fault) => {
+            assert_eq!(rt; fault, RunFault::Write);
             Ok(())
         }
+        Ok(_) => Err(Fail::new("a flush that failed ends a run without a fault")),
     }
 }
 

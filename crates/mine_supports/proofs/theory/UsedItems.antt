@@ -1,15 +1,17 @@
 -- Whether an item is among rising ones, and its number.
-use Rattle.std.proofs.Common.{◌≡◌, ◌≢◌, ℕ, ◌<◌, ◌≤◌, ◌+◌, ◌-◌, false, List, [], ◌∷◌, ◌++◌, length, get_or, take, inl, inr, subst, sym, ◌∙◌, arith}
+use Rattle.std.proofs.Common.{◌≡◌, ◌≢◌, ℕ, ◌<◌, ◌≤◌, ◌+◌, ◌-◌, Bool, false, List, [], ◌∷◌, ◌++◌, length, get_or, take, inl, inr, subst, sym, ap, ◌∙◌, arith}
 use Rattle.std.proofs.lemmas.Grind.{common_steps}
-use Rattle.std.proofs.lemmas.Bool.{cases_Bool, cases_eq, cases_lt}
-use Rattle.std.proofs.lemmas.List.{get_or_default}
+use Rattle.std.specs.Prelude.{replicate}
+use Rattle.std.proofs.Math.ListN.{get_or-eq_default}
+use Rattle.std.proofs.lemmas.Bool.{cases_Bool, cases_eq, cases_lt, true≢false}
+use Rattle.std.proofs.lemmas.List.{get_or-replicate, get_or_default, length-replicate}
 use Rattle.std.proofs.lemmas.List.Elements.{recursion_from_All}
 use Rattle.std.proofs.lemmas.Map.Keys.{non_decreasing_from_sorted}
 use Rattle.basket_sets.specs.Itemset.{IsRising, has, rising}
 use Rattle.basket_sets.proofs.theory.Members.{Member, Contains-from_Member, Member-filter, Member-from_filter, Member-from_map, Member-map, at_Member}
 use Rattle.basket_sets.proofs.theory.Rising.{Member-from_has, has-from_Member, has-rising, has_at, same_test}
 use Rattle.basket_sets.proofs.theory.Tests.{rising_at}
-use Rattle.mine_supports.specs.UsedItems.{AreNumbers}
+use Rattle.mine_supports.specs.UsedItems.{AreMarked, AreNumbers}
 
 -- by a name without a dash, which a list of the source's can have
 pub has_rising : (numbers : List ℕ) (item : ℕ) → has (rising numbers) item ≡ has numbers item
@@ -59,3 +61,10 @@ number_more used items numbers i number here within is are = grind (arith, commo
 
 pub no_number_more : (used items numbers : List ℕ) (i : ℕ) → i < length items → has used (get_or items i 0) ≡ false → AreNumbers used (take i items) numbers → AreNumbers used (take (i + 1) items) numbers
 no_number_more used items numbers i here none are = grind (arith, common_steps)
+
+-- marks that aren't set
+pub unmarked : (count : ℕ) (marks : List Bool) → marks ≡ replicate count false → (items : List ℕ) → AreMarked marks items
+unmarked count marks none items item marked = absurd (true≢false (sym marked ∙ ap (λ l. get_or l item false) none ∙ elim (cases_lt item count) [
+  | inl low ↦ get_or-replicate count item false false low
+  | inr high ↦ get_or-eq_default (replicate count false) false (omega (arith, high, length-replicate count false))
+]))

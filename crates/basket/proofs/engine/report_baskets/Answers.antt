@@ -8,10 +8,10 @@ use Rattle.basket_plan.specs.declared.layout.Layout.{Layout}
 use Rattle.basket_plan.specs.declared.plan.Ask.TheVariants.{Items}
 use Rattle.basket_outcome.specs.Contents.{wording_with}
 use Rattle.basket_outcome.specs.Outcome.{text_of}
+use Rattle.basket_mining.specs.Greatest.{greatest_of}
 use Rattle.basket_mining.specs.Mining.{work_of}
-use Rattle.basket.specs.Work.{work_asked}
 use Rattle.basket.proofs.ResultLemmas.{few_enough}
-use Rattle.basket.proofs.WorkLemmas.{mined}
+use Rattle.basket.proofs.DoneLemmas.{counted, mined}
 use Rattle.basket.proofs.engine.report_baskets.Goals as goal
 
 pub returns-in-Items-clause-ok : goal.returns-in-Items-clause-ok
@@ -26,11 +26,12 @@ returns-in-Items-clause-ok g c =
     ∙ ap (report_of (wording_with question.layout.separator c.args.names.now)) (sym (frequent_items_are_counted database question.minimum)) in
     rw is (ap Ok (sym written))
 
-pub returns-in-Items-clause-work : goal.returns-in-Items-clause-work
-returns-in-Items-clause-work g c =
+pub returns-in-Items-clause-done : goal.returns-in-Items-clause-done
+returns-in-Items-clause-done g c =
     let question = c.args.plan.now.question in
-    let is : question.ask ≡ Items = sym c.ask-ask.ensures ∙ c.in-Items.is in
-    ap (λ ask. work_asked ask (work_of c.args.plan.now.miner c.args.database question.minimum)) (sym is)
+    let counts = c.deref-in-Items.ensures.value ∙ c.in_ok-counts.ensures.counts ∙ ap item_supports c.baskets.ensures.baskets in
+    c.of_items-done.ensures
+    ∙ counted c.args.plan.now.miner question c.args.database c.greatest_count.result (sym c.ask-ask.ensures ∙ c.in-Items.is) (c.greatest_count.ensures ∙ ap greatest_of counts)
 
 pub returns : goal.returns
 returns g c =
@@ -42,7 +43,10 @@ returns g c =
     let made = c.in_ok-made.ensures.baskets c.in_default.not-Items database question.minimum (record { sets = c.in_ok-frequent.ensures.sets; total = c.in_ok-frequent.ensures.total }) in
     let text = made ∙ (λ i. text_of (wording i) (c.ask-ask.ensures i) database question.minimum) in
     record {
-      work = ap Some c.in_ok-frequent.ensures.work ∙ mined question.ask (work_of c.args.plan.now.miner database question.minimum) no_items;
+      done = λ i. record {
+        work = (ap Some c.in_ok-frequent.ensures.work ∙ mined question.ask (work_of c.args.plan.now.miner database question.minimum) no_items) i;
+        greatest = Some (c.in_ok-frequent.ensures.greatest i);
+      };
       ok = rw (few_enough question.ask database question.minimum question.limit no_items within) (ap Ok (sym text));
       err = λ fault is _. absurd cc;
     }

@@ -1,6 +1,6 @@
 use Rattle.std.proofs.Common.{◌≡◌, ◌+◌, ap, sym, ◌∙◌, arith}
 use Rattle.std.proofs.lemmas.Grind.{common_steps}
-use Rattle.std.proofs.lemmas.Result.{IfOk-weaker}
+use Rattle.basket_mining.specs.Greatest.{greatest_of}
 use Rattle.basket_report.specs.Items.{items_met}
 use Rattle.basket_report.specs.Report.{report_of}
 use Rattle.basket_report.specs.Style.{wording_of}
@@ -22,12 +22,19 @@ add_counts-requires-clause-fits g c =
     sums_fit c.deref.result.now c.deref-2.result.now counted.0 c.args.counts.now.rest c.requires.0 front back (sym counted.2) c.requires.2
 
 pub returns : goal.returns
-returns g c = λ baskets counted.
-    let minimum = c.args.plan.now.question.minimum in
-    let front = c.deref.ensures.value ∙ c.in_ok-first.ensures.counts counted.0 counted.1 in
-    let back = c.deref-2.ensures.value ∙ c.in_ok-rest.ensures.counts ∙ ap item_supports c.baskets.ensures.baskets in
-    let counts = c.deref-3.ensures.value ∙ c.in_ok-all.ensures.counts ∙ added_is c.deref.result.now c.deref-2.result.now counted.0 c.args.counts.now.rest baskets front back (sym counted.2) in
-    let total : c.total.result + c.total-2.result ≡ total_of baskets = omega (arith, c.total.ensures, c.total-2.ensures, counted.1.total, totals_add counted.0 c.args.counts.now.rest baskets counted.2) in
-    IfOk-weaker c.items_report.result _ _
-    (λ report same. same ∙ (λ i. report_of (wording_of c.args.style) (items_met (counts i) (c.minimum.ensures i) (total i))) ∙ ap (report_of (wording_of c.args.style)) (sym (frequent_items_are_counted baskets minimum)))
-    c.items_report.ensures
+returns g c = record {
+  report = λ baskets counted.
+      let minimum = c.args.plan.now.question.minimum in
+      let front = c.deref.ensures.value ∙ c.in_ok-first.ensures.counts counted.0 counted.1 in
+      let back = c.deref-2.ensures.value ∙ c.in_ok-rest.ensures.counts ∙ ap item_supports c.baskets.ensures.baskets in
+      let counts = c.deref-3.ensures.value ∙ c.in_ok-all.ensures.counts ∙ added_is c.deref.result.now c.deref-2.result.now counted.0 c.args.counts.now.rest baskets front back (sym counted.2) in
+      let total : c.total.result + c.total-2.result ≡ total_of baskets = omega (arith, c.total.ensures, c.total-2.ensures, counted.1.total, totals_add counted.0 c.args.counts.now.rest baskets counted.2) in
+      c.in_ok-report.ensures
+      ∙ (λ i. report_of (wording_of c.args.style) (items_met (counts i) (c.minimum.ensures i) (total i)))
+      ∙ ap (report_of (wording_of c.args.style)) (sym (frequent_items_are_counted baskets minimum));
+  greatest = λ baskets counted.
+      let front = c.deref.ensures.value ∙ c.in_ok-first.ensures.counts counted.0 counted.1 in
+      let back = c.deref-2.ensures.value ∙ c.in_ok-rest.ensures.counts ∙ ap item_supports c.baskets.ensures.baskets in
+      let counts = c.deref-4.ensures.value ∙ c.in_ok-all.ensures.counts ∙ added_is c.deref.result.now c.deref-2.result.now counted.0 c.args.counts.now.rest baskets front back (sym counted.2) in
+      c.greatest_count.ensures ∙ ap greatest_of counts;
+}

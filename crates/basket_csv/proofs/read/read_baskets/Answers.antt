@@ -11,7 +11,7 @@ returns-in_err-counts-clause-read g c = grind (arith, common_steps, err_from_is_
 
 pub returns-clause-read : goal.returns-clause-read
 returns-clause-read g c =
-    reads IsDefined _ _ _ _ _ (Ok (c.in_ok-counts.counts.rest, c.in_ok-counts.names)) c.deref.ensures.value c.in_ok-bytes.ensures.taken tt (all_kept _ _ c.in_ok-counts.ensures.said)
+    reads IsDefined _ _ _ _ _ (Ok (c.in_ok-counts.counts.rest, c.in_ok-counts.names)) c.deref-2.ensures.value c.in_ok-bytes.ensures.taken tt (all_kept _ _ c.in_ok-counts.ensures.said)
 
 pub returns-clause-ended : goal.returns-clause-ended
-returns-clause-ended g c = c.in_ok-bytes.ensures.ended (subst (λ l. length l ≤ MOST_BYTES) c.deref.ensures.value c.in_ok-counts.ensures.within)
+returns-clause-ended g c = c.in_ok-bytes.ensures.ended (subst (λ l. length l ≤ MOST_BYTES) c.deref-2.ensures.value c.in_ok-counts.ensures.within)

@@ -5,7 +5,7 @@ use Rattle.basket_csv.proofs.ReadLemmas.{reads}
 use Rattle.basket_csv.proofs.read.read_named_counts.Goals as goal
 
 pub returns-clause-read : goal.returns-clause-read
-returns-clause-read g c = reads _ _ _ _ _ _ _ c.deref.ensures.value c.in_ok-bytes.ensures.taken c.say_counts.ensures.not_read c.say_counts.ensures.said
+returns-clause-read g c = reads _ _ _ _ _ _ _ c.deref.ensures.value c.in_ok-bytes.ensures.taken c.say.ensures.not_read c.say.ensures.said
 
 pub returns-clause-ended : goal.returns-clause-ended
-returns-clause-ended g c = on_ok_weaker c.say_counts.result (λ short. c.in_ok-bytes.ensures.ended (subst (λ l. length l ≤ MOST_BYTES) c.deref.ensures.value short)) c.say_counts.ensures.within
+returns-clause-ended g c = on_ok_weaker c.say.result (λ short. c.in_ok-bytes.ensures.ended (subst (λ l. length l ≤ MOST_BYTES) c.deref.ensures.value short)) c.say.ensures.within

@@ -1,28 +1,25 @@
-use Rattle.std.proofs.Common.{◌≡◌, ◌+◌, [], refl, arith}
-use Rattle.std.proofs.lemmas.Grind.{common_steps}
+use Rattle.std.proofs.Common.{◌+◌, [], subst}
 use Rattle.std.proofs.lemmas.Result.{err_from_is_err_and}
 use Rattle.basket_csv.specs.Csv.{after_header, first_number}
+use Rattle.basket_csv.specs.Gathering.{HasRead}
 use Rattle.basket_csv.specs.Records.{records_of}
-use Rattle.basket_csv.proofs.SharedLemmas.{faultless, part_start}
+use Rattle.basket_csv.proofs.SharedLemmas.{faultless}
 use Rattle.basket_csv.proofs.shared.read_part.Goals as goal
-
-pub add_all-requires-clause-read : goal.add_all-requires-clause-read
-add_all-requires-clause-read g c =
-    let start = part_start c.args.before c.args.header c.args.reading.weighted in
-    let sum : start.first + 0 ≡ c.args.before + first_number c.args.header = omega arith in
-    (start, [], sum, c.of_part-part.ensures.read start refl refl)
 
 pub returns-in_err-added-clause-fault : goal.returns-in_err-added-clause-fault
 returns-in_err-added-clause-fault g c =
-    let start = part_start c.args.before c.args.header c.args.reading.weighted in
-    let sum : start.first + 0 ≡ c.args.before + first_number c.args.header = omega arith in
-    let p = err_from_is_err_and c.from_residual.result c.from_residual.ensures.1 in
-    rw (p.1, p.2) (c.in_err-added.ensures.fault start [] sum (c.of_part-part.ensures.read start refl refl))
+    let fresh = subst (λ known. HasRead g.G.Gathering.has g.G.Gathering.names_of c.args.reading known c.in_ok-part.part []) c.none.ensures c.in_ok-part.ensures.read in
+    let p = err_from_is_err_and c.from_residual-in_err-added.result c.from_residual-in_err-added.ensures.1 in
+    rw (p.1, p.2) (c.in_err-added.ensures.fault c.args.reading [] [] fresh)
 
 pub returns-clause-part : goal.returns-clause-part
 returns-clause-part g c =
-    let start = part_start c.args.before c.args.header c.args.reading.weighted in
-    let sum : start.first + 0 ≡ c.args.before + first_number c.args.header = omega arith in
-    let fresh = c.of_part-part.ensures.read start refl refl in
-    let rows = after_header c.args.header (records_of c.args.reading.dialect.separator c.args.bytes.now) in
-    grind (arith, common_steps, faultless)
+    let fresh = subst (λ known. HasRead g.G.Gathering.has g.G.Gathering.names_of c.args.reading known c.in_ok-part.part []) c.none.ensures c.in_ok-part.ensures.read in
+    let reading = c.args.reading in
+    let header = c.args.header in record {
+      part = c.in_ok-added.ensures.read reading [] [] fresh;
+      count = c.in_ok-added.ensures.records;
+      faultless = faultless (g.G.Gathering.fault_of reading.weighted) (c.in_ok-part.ensures.any_number reading.weighted) (c.args.before + first_number header)
+          (after_header header (records_of reading.dialect.separator c.args.bytes.now)) (c.in_ok-added.ensures.fault reading [] [] fresh);
+      whole = c.in_ok-added.ensures.whole;
+    }

@@ -1,19 +1,19 @@
 use Rattle.std.proofs.Common.{[], refl, subst, sym}
-use Rattle.basket_csv.specs.Part.{InParts}
-use Rattle.basket_csv.specs.Renumbered.{AreRenumbered}
-use Rattle.basket_csv.specs.Together.{AreTogether}
+use denote.Param.Send.{sendable}
+use Rattle.basket_csv.specs.Rows.{InParts}
+use Rattle.basket_csv.specs.Together.{AreTogether, IsNumbered}
 use Rattle.basket_names.specs.Names.{in_order}
 use Rattle.basket_csv.proofs.together.numbered_together.Goals as goal
 
 pub returns-then-is_empty : goal.returns-then-is_empty
-returns-then-is_empty g c = λ weighted rows parts.
-    subst (λ known. AreTogether weighted (in_order known) c.in_ok-all.all.0 c.in_ok-all.all.1.items rows) (sym (c.is_empty.ensures.0 c.if-is_empty.true)) (c.in_ok-all.ensures weighted rows parts)
+returns-then-is_empty g c = λ rows parts.
+    subst (λ known. AreTogether g.G.Gathering.has g.G.Gathering.names_of c.args.reading (in_order known) c.in_ok-all.all.0 c.in_ok-all.all.1.items rows) (sym (c.is_empty.ensures.0 c.if-is_empty.true)) (c.in_ok-all.ensures rows parts)
 
 pub followed_by-requires : goal.followed_by-requires
-followed_by-requires g c = let (weighted, rows, parts) = c.requires in (weighted, rows, c.in_ok-all.ensures weighted rows parts)
+followed_by-requires g c = let (rows, parts) = c.requires in (search sendable, (c.args.reading, rows, c.in_ok-all.ensures rows parts))
 
 pub returns : goal.returns
-returns g c = λ weighted rows parts.
-    c.followed_by.ensures weighted (in_order c.args.known) [] rows
-    (record { together = c.in_ok-known.ensures; each = subst (λ l. InParts (AreRenumbered weighted c.in_ok-known.known) l []) (sym c.new.ensures.items) refl })
-    (c.in_ok-all.ensures weighted rows parts)
+returns g c = λ rows parts.
+    c.followed_by.ensures c.args.reading (in_order c.args.known) [] rows
+    (record { together = c.in_ok-known.ensures; each = subst (λ l. InParts (IsNumbered g.G.Gathering.has g.G.Gathering.names_of c.args.reading c.in_ok-known.known) l []) (sym c.new.ensures.items) refl })
+    (c.in_ok-all.ensures rows parts)

@@ -1,15 +1,11 @@
 use Rattle.std.proofs.Common.{◌≡◌, ◌+◌, ℕ, [], None, Option, length, get_or, replicate, sym, subst, ap, ◌∙◌, arith}
-use Rattle.std.proofs.lemmas.Grind.{common_steps}
 use Rattle.std.proofs.lemmas.List.{length-replicate, take_at}
 use Rattle.std.proofs.lemmas.Result.{IfOk-weaker}
 use Rattle.basket_sets.specs.Counts.{AllBelow, IsTable, item_supports, entries_of}
 use Rattle.basket_sets.specs.Support.{all_items}
 use Rattle.basket_sets.proofs.CountLemmas.{table_entries}
+use Rattle.basket_sets.proofs.RenameLemmas.{nothing}
 use Rattle.basket_sets.proofs.counts.count_by_table.Goals as goal
-
--- a table that nothing was added to has nothing
-nothing : (count item : ℕ) → get_or (replicate {A = Option ℕ} count None) item None ≡ None
-nothing count item = grind (arith, common_steps)
 
 pub returns : goal.returns
 returns c =

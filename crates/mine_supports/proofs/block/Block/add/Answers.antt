@@ -25,7 +25,7 @@ returns-then-depth-prefix-clause-supports c =
     let prefix = c.args.prefix.now in
     let lists = c.add_prefixes.new.prefixes.lists in
     let are = last_prefix baskets prefix lists.items c.last-last.result.now c.in_ok-add_prefixes.ensures.prefixes c.last-last.ensures in
-    c.add_weights.ensures prefix (subst (λ l. AreTidsOf baskets l c.last-last.result.now) (take_all (length lists.items - 1) prefix (omega (arith, c.if-depth-prefix.true, c.len-depth.ensures, lists.ok))) are)
+    c.add_supports.ensures prefix (subst (λ l. AreTidsOf baskets l c.last-last.result.now) (take_all (length lists.items - 1) prefix (omega (arith, c.if-depth-prefix.true, c.len-depth.ensures, lists.ok))) are)
 
 rest_kept : (c : After-deref) → AreTidsOf (numbered c.args.self.now) c.args.prefix.now c.deref.result.now
 rest_kept c =
@@ -37,8 +37,8 @@ rest_kept c =
     let at = subst (λ n. AreTidsOf baskets (take n prefix) c.last-last.result.now) e (last_prefix baskets prefix lists.items c.last-last.result.now c.in_ok-add_prefixes.ensures.prefixes c.last-last.ensures) in
     subst (AreTidsOf baskets prefix) (sym c.deref.ensures.value) (subst (λ l. AreTidsOf baskets l c.in_ok-tids.tids.items) (rest_joined prefix depth) (c.in_ok-tids.ensures (take depth prefix) at))
 
-pub add_weights-requires-else-depth-prefix-clause-tids : goal.add_weights-requires-else-depth-prefix-clause-tids
-add_weights-requires-else-depth-prefix-clause-tids c = (c.args.prefix.now, rest_kept (goal.at.add_weights-requires-else-depth-prefix-clause-tids c).After-deref)
+pub add_supports-requires-else-depth-prefix-clause-tids : goal.add_supports-requires-else-depth-prefix-clause-tids
+add_supports-requires-else-depth-prefix-clause-tids c = (c.args.prefix.now, rest_kept (goal.at.add_supports-requires-else-depth-prefix-clause-tids c).After-deref)
 
 pub returns-in_ok-tids-clause-supports : goal.returns-in_ok-tids-clause-supports
-returns-in_ok-tids-clause-supports c = c.add_weights-else-depth-prefix.ensures c.args.prefix.now (rest_kept (goal.at.returns-in_ok-tids-clause-supports c).After-deref)
+returns-in_ok-tids-clause-supports c = c.add_supports-else-depth-prefix.ensures c.args.prefix.now (rest_kept (goal.at.returns-in_ok-tids-clause-supports c).After-deref)

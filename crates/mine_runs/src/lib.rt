@@ -1,5 +1,0 @@
-//! Tests of mining by several workers.
-#![tactic(auto)]
-
-#[cfg(test)]
-mod tests;
