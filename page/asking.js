@@ -114,7 +114,7 @@ async function setsAt(own, file, least, limit) {
   const from = file.mined?.least <= least ? file.mined : file;
   const words = ["sets", "--min", `${least}`, ...from.words, ...minedBy(file, limit), "-"];
   const answer = await ask(own, words, from.input, { listing: listingOf(file) });
-  if (answer?.status === 0 && from === file) file.mined = { least, ...countedSets(file, answer.report), rules: answer.rules };
+  if (answer?.status === 0 && from === file) file.mined = { least, ...countedSets(file, answer.report), rules: answer.rules, singles: answer.singles };
   return answer;
 }
 
@@ -138,7 +138,7 @@ async function answerTo(own, question) {
   if (what === "sets" || !isMined || (what === "rules" && file.mined.rules > MOST_RULES)) {
     sets = await setsAt(own, file, least, MOST_SETS);
     if (what === "sets" || sets?.status !== 0) return sets;
-    if (what === "rules" && sets.rules > MOST_RULES) return { status: ENDED, explanation: tooManyRules(sets.rules) };
+    if (what === "rules" && sets.rules > MOST_RULES) return { status: ENDED, isTooMuch: true, explanation: tooManyRules(sets.rules) };
   }
   const answer = await ask(own, [...words, ...file.mined.words, ...minedBy(file), "-"], file.mined.input, { listing });
   return answer && { ...answer, milliseconds: sets.milliseconds + answer.milliseconds, memory: Math.max(sets.memory, answer.memory) };
@@ -156,9 +156,9 @@ async function mine(own) {
   saySoon(own, "Mining.");
   const answer = await answerTo(own, question);
   if (!answer) return;
-  if (answer.status !== 0) return sayFault(answer.explanation);
+  if (answer.status !== 0) return tellFault(answer);
   const read = await readReport(own, answer.listed, file.separator, question.what === "rules", file.total);
-  if (!read) return;
+  if (!read || (read.right && !(await judge(own, read, question)))) return;
   report = { bytes: answer.report, question, file };
   element("save-report").disabled = false;
   element("command").textContent = commandOf(question);
@@ -166,10 +166,22 @@ async function mine(own) {
   if (own === turn) tellAnswer(answer);
 }
 
+// Has it said of each rule how likely it is by chance, and whether it repeats another.
+async function judge(own, read, { least }) {
+  const { left, right, total, sides } = read;
+  const counts = Object.fromEntries(["both", "withLeft", "withRight"].map((key) => [key, Float64Array.from(read[key])]));
+  const { members, begins } = numbered(sides);
+  const items = file.mined.singles.filter((count) => count >= least).length;
+  const answer = await askWorker(own, { chance: { rules: { left, right, total, members, begins, ...counts }, items } });
+  if (answer?.p) read.chance = answer;
+  return answer;
+}
+
 async function show(read) {
   document.body.classList.remove("empty");
   if (selection && !read.right) selection = null;
   take(read);
+  hideSome();
   await new Promise((done) => setTimeout(done));
   head();
   at = -1;
@@ -178,12 +190,11 @@ async function show(read) {
   update();
 }
 
-function tellAnswer({ milliseconds, memory, explanation }) {
+function tellAnswer({ milliseconds, memory }) {
   const found = data.found > size ? `${listed(data.found)}, of which ${strongest()} are listed,` : listed(size);
   const cost = `${whole(Math.round(milliseconds))} ms, ${whole(Math.ceil(memory / 2 ** 20))} MB`;
-  const hint = explanation.trim();
   element("source").textContent = sourceOf(found);
-  say(`${found} in ${many(report.file.total, "basket")} (${cost}).${hint ? `\n${hint}` : ""}`);
+  say(`${found} in ${many(report.file.total, "basket")} (${cost}).`);
 }
 
 // What is read on paper above what is listed.

@@ -30,11 +30,6 @@ function unzipped(blob) {
   return new Response(blob.stream().pipeThrough(new DecompressionStream("gzip"))).blob();
 }
 
-async function isPacked(blob) {
-  const [first, second] = new Uint8Array(await blob.slice(0, 2).arrayBuffer());
-  return first === 0x1f && second === 0x8b;
-}
-
 function startWorker() {
   const address = URL.createObjectURL(new Blob([element("worker").textContent], { type: "text/javascript" }));
   worker = new Worker(address);
@@ -76,7 +71,11 @@ function endQuestion() {
 
 // The answer to a question of a turn, or null if a newer turn came or the question was ended. It may have itemsets
 // that are counted, and say what is listed of the report.
-async function ask(own, words, input, { sets = null, listing = null } = {}) {
+function ask(own, words, input, { sets = null, listing = null } = {}) {
+  return askWorker(own, { words, input, sets, listing });
+}
+
+async function askWorker(own, question) {
   await ready;
   if (own !== turn) return null;
   if (running) {
@@ -91,7 +90,7 @@ async function ask(own, words, input, { sets = null, listing = null } = {}) {
   let resolve;
   const done = new Promise((settle) => (resolve = settle));
   running = { id, resolve, done, begun: performance.now() };
-  worker.postMessage({ id, words, input, sets, listing });
+  worker.postMessage({ id, ...question });
   const answer = await done;
   return own === turn ? answer : null;
 }

@@ -3,9 +3,8 @@
 const FEW_RULES = 10; // With fewer, a new file begins at the next lower confidence.
 const CONFIDENCES = [50, 20, 5, 0];
 const EXAMPLE = "example.csv";
-const MOST_LAYERS = 20; // A file that is packed again and again is unpacked so often.
-// What was opened: { name, given: its blob, look: what `look` says, readings, reading: that which is taken, words: of
-// `pairs` }.
+// What was opened: { name, whole: its blob, given: the blob of its data, dataName, isMade: whether these are not the file
+// itself, sheets, sheet, look: what `look` says, readings, reading: that which is taken, words: of `pairs` }.
 let source = null;
 // What is mined, once all of it is there: { name, input: a blob, pairs: the words of `pairs`, if these wrote it, words:
 // of a command line for its form, separator, letter: the separator's name, total, mined: its itemsets once some are }.
@@ -14,18 +13,20 @@ let opening = null; // The turn of an opening, and whether the form has a questi
 let kept = linked(); // What the address says of the question, until a file is there.
 
 // A new file: what it is, how many baskets it has, and a minimum to begin with.
-function open(given, name) {
+function open(whole, name, sheet = stateFor(name).get("sheet")) {
   source = opening = null;
+  tellSheets({});
   return during(`Reading ${name}`, async (own) => {
     beginOpening(own);
     await ready;
-    let blob = given;
-    for (let layers = 0; layers < MOST_LAYERS && (await isPacked(blob)); layers++) blob = await unzipped(blob);
-    const answer = await lookedAt(own, blob);
+    const found = await dataOf(own, whole, name, sheet);
+    if (!found || own !== turn) return;
+    const { data: given, ...more } = found;
+    const answer = await lookedAt(own, given);
     if (!answer) return;
     if (answer.status !== 0) return sayFault(answer.explanation);
     const look = JSON.parse(new TextDecoder().decode(answer.report));
-    source = { name, given: blob, look, readings: readingsOf(look) };
+    source = { name, whole, given, ...more, look, readings: readingsOf(look) };
     tellSource();
     if (source.reading) await prepare(own);
     else sayFault(refusalOf(source.look, name));
@@ -52,6 +53,8 @@ function beginOpening(own) {
 
 function tellSource() {
   const { name, readings } = source;
+  tellSheets(source);
+  tellData(source);
   element("file-name").textContent = name;
   element("question").hidden = !readings.length;
   document.body.classList.add("opened");
@@ -65,7 +68,7 @@ function tellSource() {
 // The file in a form that is mined, its number of baskets and its first minimum; then the first question.
 async function prepare(own) {
   tellForm();
-  const { name, look } = source;
+  const { name, dataName, look } = source;
   const ways = waysOf();
   const input = await inputOf(own, ways);
   if (!input) return;
@@ -76,7 +79,7 @@ async function prepare(own) {
   if (answer.status !== 0) return sayFaultOfFile(answer.explanation);
   const total = Number(new TextDecoder().decode(answer.report).match(/\d+/)?.[0] ?? 0);
   if (!total) return sayFaultOfFile("There is no basket in it.");
-  const made = { name, input, ...ways, total, mined: null };
+  const made = { name: dataName, input, ...ways, total, mined: null };
   const state = stateFor(name);
   saySoon(own, "Looking for a minimum to begin with.");
   const least = Number(state.get("min")) || await firstLeast(own, made, look.minimum);
@@ -132,7 +135,8 @@ function openExample() {
 // The question is a part of the address, with the name of its file.
 moreState = () => {
   if (!file) return [];
-  return [["file", file.name], ["ask", element("ask").value], ["min", leastCount()], ["conf", element("confidence-least").value]];
+  const sheet = source.sheets.length > 1 ? [["sheet", source.sheet]] : [];
+  return [["file", source.name], ...sheet, ["ask", element("ask").value], ["min", leastCount()], ["conf", element("confidence-least").value]];
 };
 
 function startOpening() {
@@ -209,6 +213,7 @@ function startPage() {
   element("unproved").hidden = kind === "proved";
   startOpening();
   startQuestion();
+  startUnpacking();
   startFilters();
   element("filtering").open = false;
   startTable();
@@ -217,7 +222,7 @@ function startPage() {
   startPlot();
   addEventListener("hashchange", () => {
     kept = linked();
-    if (file) during("Mining", (own) => askFirst(own, stateFor(file.name)));
+    if (file) during("Mining", (own) => askFirst(own, stateFor(source.name)));
   });
   ready.then(() => kept.get("file") === EXAMPLE && openExample(), (error) => {
     element("trouble").textContent = error.message;

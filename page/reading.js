@@ -96,5 +96,5 @@ function sayFaultOfFile(explanation) {
   const [, place] = explanation.match(/^basket: ((?:line|record) \d+)(?:: field is not UTF-8| is not \S+: --encoding)/) ?? [];
   const [, column] = explanation.match(/^basket: no record has a (column \d+)/) ?? [];
   if (place) sayFault(`The file is no text in ${encodingName(encodingOf())} at ${place}. Choose another encoding above.`);
-  else sayFault(column ? `No line of the file has a ${column}. Choose other columns above.` : explanation);
+  else sayFault(column ? `No line of the file has a ${column}. Choose other columns above.` : faultInWords({ explanation }));
 }

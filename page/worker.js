@@ -138,6 +138,14 @@ onmessage = ({ data }) => {
     postMessage(readiness(data.module));
     return;
   }
+  if (data.workbook) {
+    workbookAnswer(data).then(postMessage);
+    return;
+  }
+  if (data.chance) {
+    postMessage({ id: data.id, ...chanceOf(data.chance) });
+    return;
+  }
   const answer = answerTo(data);
   postMessage(answer, [...new Set([answer.report, answer.listed ?? answer.report].map(({ buffer }) => buffer))]);
 };

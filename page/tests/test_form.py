@@ -202,7 +202,7 @@ def test_another_reading_is_a_button(shown: webdriver.Chrome) -> None:
     [
         (b"", "some file.csv is empty"),
         (b"\n \n", "no basket"),
-        (b"PK\x03\x04 and more", "zip file, as Excel's workbooks (.xlsx) are. Save"),
+        (b"PK\x03\x04 and more", "The file is damaged or was cut off."),
         (b'{"a": 1}', "JSON"),
         (bytes(range(256)), "no text"),
         (b"BZh and more", "compressed by bzip2. Unpack it first."),

@@ -26,13 +26,14 @@ def test_of_many_rules_the_strongest_are_listed(shown: webdriver.Chrome) -> None
     give(shown, twice(11), "twice.dat")
     choose(shown, "confidence-least", "0")
     said = choose(shown, "least", "2")
+    shown.execute_script("element('show-hidden').click()")
     listed = "the 100,000 strongest"
     assert said.startswith(f"173,052 rules, of which {listed} are listed, in 13 b")
     assert at(shown, "status").text.startswith(
         f"100,000 rules of {listed} of 173,052, page 1"
     )
     assert f"of {listed} of 173,052 rules" in at(shown, "plotted").text
-    assert {row[-1] for row in rows(shown)} == {"6.50"}
+    assert {row[5] for row in rows(shown)} == {"6.50"}
     assert shown.execute_script("return columns.lift.values.every((it) => it === 6.5)")
     words = ["rules", "--min", "2", "--conf", "0/1"]
     assert report_of(shown) == run(words, twice(11)).out

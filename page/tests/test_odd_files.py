@@ -18,7 +18,8 @@ const [contents, done] = arguments;
 const own = begin();
 const textOf = ({ report }) => new TextDecoder().decode(report);
 async function setsOf(content) {
-  const given = new Blob([Uint8Array.from(atob(content), (letter) => letter.charCodeAt(0))]);
+  const whole = new Blob([Uint8Array.from(atob(content), (letter) => letter.charCodeAt(0))]);
+  const { data: given } = await dataOf(own, whole, "some file", "");
   source = { given, look: JSON.parse(textOf(await lookedAt(own, given))) };
   takeReading(source.look.readings[0]);
   const ways = waysOf();

@@ -89,7 +89,7 @@ def test_a_file_that_was_changed_since_is_told(
             said = choose(shown, "ask", "items")
             assert (
                 said
-                == "The file can't be read. If it was changed or moved, open it again.\n"
+                == "The file can't be read. If it was changed or moved, open it again."
             )
         shown.execute_script(
             "document.querySelector('main').setAttribute('aria-busy', 'true')"

@@ -1,4 +1,5 @@
-// The colours of lifts: grey is 1, blue is below it and red above, by the logarithm and as far as the lifts go.
+// The colours of lifts: grey is 1, blue is below it and red above, as far as the lifts go. They go by the root of the
+// logarithm, so that one strong rule leaves colours to the others.
 const SHADES = 32; // Colours on each side of the middle.
 let colours = [];
 const LEAST_END = 1.5; // Lifts near 1 stay near grey, also where there are no others.
@@ -12,7 +13,7 @@ function endOf(lifts) {
 }
 
 function shadeOf(lift) {
-  const far = SHADES * Math.min(Math.abs(Math.log(lift)) / Math.log(end), 1);
+  const far = SHADES * Math.sqrt(Math.min(Math.abs(Math.log(lift)) / Math.log(end), 1));
   return lift < 1 ? SHADES - Math.max(Math.round(far), 1) : SHADES + Math.round(far);
 }
 

@@ -10,6 +10,11 @@ function short(value, told = 1) {
   return value.toPrecision(digits);
 }
 
+// A chance in three digits.
+function shortChance(value) {
+  return value >= 0.001 ? value.toPrecision(3) : value > 0 ? value.toExponential(2) : "0";
+}
+
 function percent(value) {
   return `${short(100 * value, 100)}%`;
 }

@@ -1,6 +1,9 @@
 // The filters. A text asks for items by parts of their names, with commas between them; in quotes it is a whole name.
 const TEXTS = ["left", "right", "either", "without"];
 const FIGURES = ["support", "most", "confidence", "lift"];
+const JUDGED = ["significant", "repeated"]; // What hides rules that are not significant, and those that repeat others.
+let isChosen = false; // Whether a person said which of these are hidden.
+let hidden = [0, 0]; // How many each of these hides, of those that pass the other filters.
 const OFFERED = 40; // Names that are offered for what is typed.
 
 // What a text asks for, and where the last of it begins.
@@ -38,14 +41,45 @@ function passingOf(rules) {
   const highest = most ? most * (1 + 1e-12) : Infinity;
   const sides = data.right ?? data.left;
   const figures = ["support", "confidence", "lift"].map((key) => columns[key]?.values);
+  const isAllowed = allowed();
   return rules.filter((rule) => {
     const [one, other] = [data.left[rule], sides[rule]];
     const has = (isIn) => isIn[one] || isIn[other];
     return 100 * figures[0][rule] >= least[0] && 100 * figures[0][rule] <= highest &&
       (!isOfRules || (100 * figures[1][rule] >= least[1] && figures[2][rule] >= least[2])) &&
       left.every((isIn) => isIn[one]) && right.every((isIn) => isIn[other]) &&
-      either.every(has) && !without.some(has);
+      either.every(has) && !without.some(has) && isAllowed(rule);
   });
+}
+
+// What says of a rule whether it may be shown, and counts those that may not.
+function allowed() {
+  hidden = [0, 0];
+  const { isSignificant, isRedundant } = data.chance ?? {};
+  const [isOnly, isWithout] = JUDGED.map((id) => Boolean(data.chance) && element(id).checked);
+  return (rule) => {
+    if (isOnly && !isSignificant[rule]) return void hidden[0]++;
+    if (isWithout && isRedundant[rule]) return void hidden[1]++;
+    return true;
+  };
+}
+
+// Of a list longer than a screen the rules that say nothing more are hidden, unless a person chose otherwise, or no
+// other would be left.
+function hideSome() {
+  if (!data.chance || isChosen) return;
+  const { isSignificant, isRedundant } = data.chance;
+  const isLong = size > PAGE;
+  element("significant").checked = isLong && isSignificant.some((one, rule) => one && !isRedundant[rule]);
+  element("repeated").checked = isLong;
+  tellFilters();
+}
+
+function tellHidden() {
+  const [byChance, byOthers] = hidden;
+  const said = [...(byChance ? [`${whole(byChance)} not significant`] : []), ...(byOthers ? [`${whole(byOthers)} redundant`] : [])];
+  element("hidden").textContent = said.length ? `Hidden: ${listed(byChance + byOthers)}, ${said.join(" and ")}.` : "";
+  element("show-hidden").hidden = !said.length;
 }
 
 function isShown(id) {
@@ -66,7 +100,8 @@ function offer(field) {
 }
 
 function tellFilters() {
-  const used = [...TEXTS, ...FIGURES].filter((id) => isShown(id) && element(id).value).length;
+  const used = [...TEXTS, ...FIGURES].filter((id) => isShown(id) && element(id).value).length +
+    JUDGED.filter((id) => data.chance && element(id).checked).length;
   element("filtered").textContent = used ? `(${used} in use)` : "";
 }
 
@@ -76,7 +111,18 @@ function startFilters() {
     update();
   });
   element("filters").addEventListener("input", soon);
-  element("filters").addEventListener("reset", soon);
+  element("filters").addEventListener("reset", () => {
+    isChosen = true;
+    soon();
+  });
+  for (const id of JUDGED) element(id).addEventListener("change", () => (isChosen = true));
+  element("show-hidden").addEventListener("click", () => {
+    isChosen = true;
+    for (const id of JUDGED) element(id).checked = false;
+    tellFilters();
+    update();
+    element("status").focus();
+  });
   element("filters").addEventListener("submit", (event) => event.preventDefault());
   for (const id of TEXTS) {
     element(id).addEventListener("focus", () => offer(element(id)));

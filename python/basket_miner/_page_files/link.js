@@ -1,10 +1,11 @@
 // The address of the page has what is filtered, sorted and selected, so a link shows another the same.
-const SORTS = ["left", "right", "items", "count", "support", "confidence", "lift"];
+const SORTS = ["left", "right", "items", "count", "support", "confidence", "lift", "p"];
 
 function stateOf() {
   const state = new URLSearchParams();
   for (const id of [...TEXTS, ...FIGURES]) if (element(id).value && isShown(id)) state.set(id, element(id).value);
   if (sorted.key !== (isOfRules ? "lift" : "count") || !sorted.isFalling) state.set("sort", `${sorted.isFalling ? "-" : ""}${sorted.key}`);
+  if (isChosen && data.chance) state.set("hidden", JUDGED.filter((id) => element(id).checked).join("_"));
   if (element("picture").value === "lift") state.set("picture", "lift");
   for (const [key, ends] of Object.entries(selection ?? {})) state.set(`${key}-in`, ends.join("_"));
   if (page) state.set("page", page + 1);
@@ -43,6 +44,8 @@ function linked() {
 // Fills the form, the order and the selection in, before the first update.
 function takeState(state) {
   for (const id of [...TEXTS, ...FIGURES]) element(id).value = state.get(id) ?? "";
+  isChosen = state.has("hidden");
+  for (const id of JUDGED) if (isChosen) element(id).checked = state.get("hidden").split("_").includes(id);
   const sort = state.get("sort") ?? "";
   if (SORTS.includes(sort.replace("-", ""))) sorted = { key: sort.replace("-", ""), isFalling: sort.startsWith("-") };
   element("picture").value = state.get("picture") === "lift" ? "lift" : "confidence";

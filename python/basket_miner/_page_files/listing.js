@@ -19,7 +19,9 @@ function take(given) {
   size = data.both.length;
   isOfRules = data.right !== undefined;
   document.body.classList.toggle("of-sets", !isOfRules);
-  numberItems();
+  document.body.classList.toggle("nothing", !size);
+  document.body.classList.toggle("judged", Boolean(data.chance));
+  ({ members, begins, items } = numbered(data.sides));
   columns = isOfRules ? columnsOfRules() : columnsOfSets();
   if (isOther || !columns[sorted.key]) sorted = { key: isOfRules ? "lift" : "count", isFalling: true };
   sort();
@@ -27,19 +29,21 @@ function take(given) {
   forgetAxes();
 }
 
-function numberItems() {
+// The items of sides, by numbers.
+function numbered(sides) {
   const numbers = new Map();
-  begins = new Uint32Array(data.sides.length + 1);
-  data.sides.forEach((names, side) => (begins[side + 1] = begins[side] + names.length));
-  members = new Uint32Array(begins.at(-1));
+  const begins = new Uint32Array(sides.length + 1);
+  sides.forEach((names, side) => (begins[side + 1] = begins[side] + names.length));
+  const members = new Uint32Array(begins.at(-1));
   let place = 0;
-  for (const names of data.sides) {
+  for (const names of sides) {
     for (const name of names) {
       if (!numbers.has(name)) numbers.set(name, numbers.size);
       members[place++] = numbers.get(name);
     }
   }
-  items = [...numbers.keys()].map((name) => ({ name, small: name.toLowerCase() }));
+  const items = [...numbers.keys()].map((name) => ({ name, small: name.toLowerCase() }));
+  return { members, begins, items };
 }
 
 function columnsOfRules() {
@@ -49,6 +53,7 @@ function columnsOfRules() {
     ...commonColumns(),
     confidence: { name: "Confidence", values: Float64Array.from(data.both, (count, rule) => count / data.withLeft[rule]), text: percent },
     lift: { name: "Lift", values: Float64Array.from(data.both, liftOf), text: short },
+    ...(data.chance ? { p: { name: "p-value", values: data.chance.p, text: shortChance, isSmallFirst: true } } : {}),
   };
 }
 

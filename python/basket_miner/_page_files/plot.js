@@ -1,6 +1,7 @@
 // The picture: a mark for each rule, by support and confidence or by support and lift. Triangles are below a lift of 1.
 const canvas = element("marks");
-const pen = canvas.getContext("2d");
+const screen = canvas.getContext("2d");
+let pen = screen; // What is drawn with: another writes a file.
 const MOST_MARKS = 5000; // Of more rules, squares show where they are.
 const SQUARE = 5;
 let radius = 6;
@@ -54,6 +55,11 @@ function draw() {
   if (stampsOf !== devicePixelRatio) makeColours();
   [canvas.width, canvas.height] = [canvas.clientWidth * devicePixelRatio, canvas.clientHeight * devicePixelRatio];
   pen.scale(devicePixelRatio, devicePixelRatio);
+  drawAll();
+  canvas.setAttribute("aria-label", `${listed(passing.length)} by support and ${up.key}, coloured by lift`);
+}
+
+function drawAll() {
   const style = getComputedStyle(document.documentElement);
   drawAxes(style);
   const frame = frameOf();
@@ -67,7 +73,6 @@ function draw() {
   pen.globalAlpha = 1;
   drawSelection(style);
   drawRing(style);
-  canvas.setAttribute("aria-label", `${listed(passing.length)} by support and ${up.key}, coloured by lift`);
 }
 
 // Lifts far from 1 lie above those near it, and a mark that another hides is not drawn.
@@ -84,7 +89,9 @@ function drawMarks(rules) {
     taken.add(place);
   }
   for (const rule of visible.reverse()) {
-    pen.drawImage(stamps[shadeOf(lifts[rule])], xs[rule] - radius - 1, ys[rule] - radius - 1, wide, wide);
+    const shade = shadeOf(lifts[rule]);
+    if (pen.drawMark) pen.drawMark(xs[rule], ys[rule], colours[shade], shade < SHADES);
+    else pen.drawImage(stamps[shade], xs[rule] - radius - 1, ys[rule] - radius - 1, wide, wide);
   }
   return visible.length;
 }

@@ -55,6 +55,7 @@ function showTip(rule) {
 function selectMark(rule) {
   const values = [columns.support.values[rule], columns[up.key].values[rule]];
   select(rule < 0 ? null : { support: [values[0], values[0]], [up.key]: [values[1], values[1]] });
+  element("told").textContent = rule < 0 ? "" : element("top").textContent;
 }
 
 function selectBetween(from, to) {

@@ -16,12 +16,14 @@ function recordOf(rule) {
   const figures = isOfRules
     ? [data.both[rule], data.withLeft[rule], data.withRight[rule], data.total, support.values[rule], confidence.values[rule], lift.values[rule]]
     : [data.both[rule], data.total, support.values[rule]];
+  const { p, isSignificant, isRedundant } = data.chance ?? {};
+  if (data.chance) figures.push(p[rule], isSignificant[rule] > 0, isRedundant[rule] > 0);
   return `${[side("left"), ...(isOfRules ? [side("right")] : []), ...figures].join(",")}\r\n`;
 }
 
 function headerOf() {
   return isOfRules
-    ? "antecedents,consequents,count,antecedent count,consequent count,baskets,support,confidence,lift\r\n"
+    ? `antecedents,consequents,count,antecedent count,consequent count,baskets,support,confidence,lift${data.chance ? ",p_value,is_significant,is_redundant" : ""}\r\n`
     : "itemset,count,baskets,support\r\n";
 }
 
@@ -43,6 +45,7 @@ function save(blob, name) {
 }
 
 function startSaving() {
+  startPictures();
   element("save-shown").addEventListener("click", async () => {
     const said = [];
     if (data.found > size) said.push(`The file has what is shown of ${extent()}.`);

@@ -14,6 +14,8 @@ function list(rows = PAGE) {
   const of = selection ? `${whole(passing.length)}, by the selection` : extent();
   element("status").textContent = `${listed(shown.length)} of ${of}, page ${whole(page + 1)} of ${whole(pages)}`;
   element("save-shown").disabled = !shown.length;
+  tellFirst();
+  tellHidden();
 }
 
 function row(rule) {
@@ -28,9 +30,19 @@ function row(rule) {
     else if (column.isSide) addNames(namesOf(key, rule), made("span", undefined, cell));
     else made("span", column.text(column.values[rule]), cell);
     if (key === "lift") cell.prepend(spot(rule));
+    if (key === "p") addJudgement(rule, cell);
     if (key === "support") cell.style.setProperty("--part", column.values[rule]);
   }
   return line;
+}
+
+function judgementOf(rule) {
+  const { isSignificant, isRedundant } = data.chance;
+  return [...(isSignificant[rule] ? [] : ["not significant"]), ...(isRedundant[rule] ? ["redundant"] : [])];
+}
+
+function addJudgement(rule, cell) {
+  for (const word of judgementOf(rule)) made("small", word, cell);
 }
 
 function spot(rule) {
@@ -64,12 +76,14 @@ function details(rule) {
   const cell = made("td", undefined, line);
   cell.setAttribute("role", "cell");
   cell.colSpan = Object.keys(columns).length;
+  addSentence(rule, made("p", undefined, cell));
   const pairs = made("dl", undefined, cell);
   for (const [name, value] of isOfRules ? [
     ["baskets", whole(data.total)], ["support", fraction(both, data.total)],
     ["with the antecedents", whole(data.withLeft[rule])], ["confidence", fraction(both, data.withLeft[rule])],
     ["with the consequents", whole(data.withRight[rule])], ["lift", fraction(...exactLift(rule))],
     ["with both", whole(both)],
+    ...(data.chance ? [["p-value", shortChance(data.chance.p[rule])]] : []),
   ] : [["baskets", whole(data.total)], ["support", fraction(both, data.total)], ["with the itemset", whole(both)]]) {
     made("dt", name, pairs);
     made("dd", value, pairs);
@@ -86,8 +100,9 @@ function head() {
     cell.className = column.isSide ? "side" : "figure";
     const button = made("button", column.name, cell);
     button.type = "button";
+    addMeaning(key, cell, button);
     button.addEventListener("click", () => {
-      sorted = { key, isFalling: sorted.key === key ? !sorted.isFalling : !column.isSide };
+      sorted = { key, isFalling: sorted.key === key ? !sorted.isFalling : !column.isSide && !column.isSmallFirst };
       tellSort();
       sort();
       update();
@@ -96,6 +111,16 @@ function head() {
   });
   document.querySelector("thead tr").replaceChildren(...cells);
   tellSort();
+}
+
+// What a head means is shown while the mouse or the keyboard is at it, until Escape, and read out with it.
+function addMeaning(key, cell, button) {
+  const meaning = made("span", meaningOf(key), cell);
+  meaning.id = `meaning-${key}`;
+  meaning.className = "meaning";
+  button.setAttribute("aria-describedby", meaning.id);
+  cell.addEventListener("keydown", (event) => event.key === "Escape" && cell.classList.add("closed"));
+  for (const kind of ["focusin", "pointerenter"]) cell.addEventListener(kind, () => cell.classList.remove("closed"));
 }
 
 function tellSort() {
