@@ -8,6 +8,7 @@ in the order of its report. All take the baskets as one of these:
   Rows may stand in any order, and repeated rows count once;
 - a data frame with a row for each basket and a column of true and false (or 1 and 0, also
   sparse) for each item; `weight=` names a column that is no item;
+- several frames with a row for each item, one after another, as `pandas.read_csv(chunksize=)` gives them;
 - a table of another package as one of these frames: what has `to_pandas` (Polars, Arrow), `to_df`
   (DuckDB) or `__dataframe__`;
 - an iterable of baskets, each an iterable of hashable labels;
@@ -17,6 +18,7 @@ in the order of its report. All take the baskets as one of these:
   CSV "baskets" (a record is a basket) or "single" (a record is a basket's id and an item), with `sep=`,
   `header=` and `weighted=` (a record begins with its weight) as the program has them, and `encoding=`. Text
   of numbers alone is FIMI. A pipe or `/dev/stdin` is copied into memory, and not looked at;
+- bytes, or what is read as bytes, as an open file, a pipe or a `cursor.copy` of psycopg, with `form=`;
 - what `look` returns of a path, to be read as it shows;
 - what `baskets` returns of one of these, for many questions.
 

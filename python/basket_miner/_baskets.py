@@ -16,6 +16,8 @@ Source = bytes | Path | FileIO
 Array = np.ndarray[Any, np.dtype[Any]]
 
 MOST_WEIGHT = 2**32 - 1
+# The program refuses an input of so many bytes.
+MOST_BYTES = 2**32
 # Of CSV, by the program's words.
 SEPARATORS = {"comma": ",", "semicolon": ";", "tab": "\t", "pipe": "|"}
 SEPARATOR_WORDS = {character: word for word, character in SEPARATORS.items()}

@@ -14,7 +14,7 @@ from ._data import Data, read
 from ._ending import end_of
 from ._errors import DataError, FileError, UsageError
 from ._files import state_of
-from ._keywords import CountOptions, Miner, Run, SetsOptions, Work, filled
+from ._keywords import CountOptions, Miner, SetsOptions, Work, filled, run_of
 from ._minimum import (
     Minimum,
     exact_minimum,
@@ -59,7 +59,7 @@ def asked(
 ) -> pd.DataFrame:
     """The frame of the report of a command, with words of its own, over the caller's data."""
     least, words = minimum_of(minimum), [*words, *words_of(options)]
-    run_so, until = filled(Run, options), end_of(options.get("timeout"))
+    run_so, until = run_of(options), end_of(options.get("timeout"))
     baskets = read(data, options)
     with ready(baskets, until) as source:
         before = state_of(source)
@@ -100,7 +100,7 @@ def counted(
     data: Data, sets: Iterable[Iterable[Hashable]], options: CountOptions
 ) -> pd.DataFrame:
     """The frame of what the program counts of some sets over the caller's data."""
-    run_so, until = filled(Run, options), end_of(options.get("timeout"))
+    run_so, until = run_of(options), end_of(options.get("timeout"))
     baskets = read(data, options)
     given = [_itemset(itemset) for itemset in _iterated(sets)]
     if baskets.separator is None:

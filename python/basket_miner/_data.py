@@ -3,6 +3,7 @@
 import numbers
 import os
 import re
+from collections.abc import Iterator
 from dataclasses import replace
 from pathlib import Path
 from typing import Any, Unpack
@@ -15,17 +16,17 @@ from ._frames import Rows, long_frame, long_rows, matrix
 from ._keywords import BasketsOptions, Layout, filled, refuse_others
 from ._lists import listed, refuse_tables
 from ._look import Look
-from ._paths import baskets_of_look, baskets_of_path
+from ._paths import baskets_of_look, baskets_of_path, refuse_words, words_said
+from ._recipes import separator_of
 from ._signatures import BasketsCall
+from ._streams import baskets_of_stream, is_stream, rows_of_chunks
 from ._tables import frame_of, is_table
 from ._typed import Typed
 from ._wide_frames import wide_frame
 
-# A data frame or another table, a sparse matrix, an iterable of iterables of labels, a path, what `look`
-# returns of one, or `Baskets`.
+# A data frame or another table, several of one form, a sparse matrix, an iterable of iterables of labels, a path, what
+# `look` returns of one, bytes, an open file, or `Baskets`.
 Data = Any
-
-_FRAMES_HINT = "; several frames are given as one frame, by pandas.concat"
 
 
 def read(data: Data, keywords: Layout) -> Baskets:
@@ -57,10 +58,33 @@ def read(data: Data, keywords: Layout) -> Baskets:
     if hasattr(data, "tocsr"):
         refuse_others(layout, "names", "a sparse matrix")
         return matrix(data, layout["names"])
+    if is_stream(data):
+        refuse_words(layout)
+        words = words_said(layout, separator_of(Path(), layout))
+        return baskets_of_stream(data, layout, words)
+    if layout["basket"] is not None or layout["item"] is not None:
+        return long_frame(rows_of_chunks(_chunks(data, layout)))
     refuse_tables(data)
-    hint = "" if layout["basket"] is None else _FRAMES_HINT
-    refuse_others(layout, "missing", f"an iterable of baskets{hint}")
+    refuse_others(layout, "missing", "an iterable of baskets")
     return listed(data, drop)
+
+
+def _chunks(data: Any, layout: Layout) -> Iterator[Rows]:
+    """The rows of frames that come one after another."""
+    try:
+        chunks = iter(data)
+    except TypeError as fault:
+        raise DataError(
+            f"basket= and item= go with a data frame or several: {fault}"
+        ) from fault
+    for chunk in chunks:
+        frame = frame_of(chunk) if is_table(chunk) else chunk
+        if not isinstance(frame, pd.DataFrame):
+            name = "item" if layout["basket"] is None else "basket"
+            raise DataError(
+                f"{name}= does not go with an iterable of baskets, but with a data frame or several"
+            )
+        yield rows_of(frame, layout)
 
 
 def rows_of(frame: pd.DataFrame, keywords: Layout) -> Rows:

@@ -8,12 +8,10 @@ from io import FileIO
 from pathlib import Path
 from typing import BinaryIO
 
-from ._baskets import Source
+from ._baskets import MOST_BYTES, Source
 from ._errors import FileError
 from ._foreign import refuse_foreign
 
-# The program refuses an input of so many bytes.
-_TOO_MANY = 2**32
 _BLOCK = 1 << 20
 
 
@@ -88,7 +86,7 @@ def _opened(source: Path) -> BinaryIO:
 
 
 def _copied(stream: BinaryIO, copy: FileIO, source: Path) -> None:
-    rest = _TOO_MANY
+    rest = MOST_BYTES
     try:
         while block := stream.read(min(rest, _BLOCK)):
             copy.write(block)

@@ -13,6 +13,8 @@ from typing import (
     get_type_hints,
 )
 
+import numpy as np
+
 from ._baskets import Labels
 from ._errors import DataError
 
@@ -197,6 +199,16 @@ def filled(kind: type[Options], given: Mapping[str, object]) -> Options:
     known = keywords_of(kind)
     values = {name: given.get(name, word.default) for name, (_, word) in known.items()}
     return cast(Options, values)
+
+
+def run_of(given: Mapping[str, object]) -> Run:
+    """How the program is run, or `DataError` where what is true or false is something else."""
+    run = filled(Run, given)
+    for name in ("exact", "progress"):
+        value = run[name]  # type: ignore[literal-required]
+        if not isinstance(value, (bool, np.bool_)):
+            raise DataError(f"{name} is True or False, not {value!r}")
+    return run
 
 
 def changed(kind: type, given: Mapping[str, object]) -> list[str]:

@@ -1,6 +1,5 @@
 """Baskets from iterables of iterables of labels."""
 
-import io
 import itertools
 import os
 from collections.abc import Hashable, Iterable, Iterator, Mapping
@@ -75,7 +74,8 @@ def _refuse_no_basket(basket: Any, is_column: bool) -> None:
         raise DataError(f"{said} {basket!r}{_hint_of_text(basket, is_column) or hint}")
     if isinstance(basket, pd.DataFrame):
         raise DataError(
-            f"{said} a DataFrame; frames of several parts of the baskets are given as one, by pandas.concat"
+            f"{said} a DataFrame; frames with a row for each item are given with basket= and item=, and others as "
+            "one frame, by pandas.concat"
         )
     has_names = hasattr(basket, "keys") and not isinstance(basket, pd.Series)
     if has_names or hasattr(basket, "_fields") or isinstance(basket, np.record):
@@ -107,14 +107,10 @@ def _no_items(fault: TypeError) -> DataError:
 def refuse_tables(baskets: Any) -> None:
     """Raises `DataError` if what something iterates over are columns, keys, bytes or lines, and no baskets."""
     hint = None
-    if isinstance(baskets, bytes):
-        hint = "; a path is a str or a pathlib.Path"
-    elif isinstance(baskets, io.IOBase):
-        hint = "; a file is given by its path"
-    elif hasattr(baskets, "ngroups"):
+    if hasattr(baskets, "ngroups"):
         hint = "; groups are given as lists, by .agg(list)"
     elif hasattr(baskets, "get_chunk"):
-        hint = "; chunks of a frame are given as one frame, by pandas.concat"
+        hint = "; chunks of a frame with a row for each item are given with basket= and item="
     elif hasattr(baskets, "fetchall"):
         hint = "; what a database returns is given as a pandas.DataFrame, as pandas.read_sql reads it"
     elif isinstance(baskets, np.ndarray):

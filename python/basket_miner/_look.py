@@ -74,7 +74,7 @@ class Look:
         path: of the file.
         kind: "single" (an item in each record), "baskets", "cells" (the items of a basket in one
             cell), "matrix" (a column for each item), "fimi" or "counts"; or else "foreign", "binary",
-            "empty", "short" or "unclear", and then there are no readings.
+            "empty", "short", "weights" or "unclear", and then there are no readings.
         what: what a file without readings is.
         remedy: what helps then.
         encoding: of the text.

@@ -32,7 +32,7 @@ def baskets_of_path(path: Path, layout: Layout) -> Baskets:
     """
     refuse_others(layout, _SAID, "a path")
     form = layout["form"]
-    _refuse_words(layout)
+    refuse_words(layout)
     if form == "fimi":
         refuse_others(layout, "form", "a FIMI file")
         return Baskets(path)
@@ -55,9 +55,13 @@ def baskets_of_path(path: Path, layout: Layout) -> Baskets:
         if layout["weighted"]:
             raise DataError("weighted= does not go with encoding=")
         return _rewritten(path, recipe)
-    words = [f"--form={form}", f"--sep={sep}"]
-    words += ["--header"] * layout["header"] + ["--weight"] * layout["weighted"]
-    return Baskets(path, tuple(words), separator=SEPARATORS[sep])
+    return Baskets(path, tuple(words_said(layout, sep)), separator=SEPARATORS[sep])
+
+
+def words_said(layout: Layout, sep: str) -> list[str]:
+    """The program's words for CSV that is written as keywords say."""
+    words = [f"--form={layout['form']}", f"--sep={sep}"]
+    return words + ["--header"] * layout["header"] + ["--weight"] * layout["weighted"]
 
 
 def _recipe(path: Path, layout: Layout, seen: Look | None, has_columns: bool) -> Recipe:
@@ -89,7 +93,7 @@ def baskets_of_look(seen: Look) -> Baskets:
     return _of_reading(seen, seen.readings[0], ())
 
 
-def _refuse_words(layout: Layout) -> None:
+def refuse_words(layout: Layout) -> None:
     """Raises `DataError` where a keyword is none of its words, or doesn't go with the form."""
     form = layout["form"]
     if form not in (None, "fimi", "baskets", "single"):

@@ -14,12 +14,15 @@ from matplotlib.transforms import Bbox
 from ._errors import DataError
 from ._frames import floats_of
 from ._given_sets import demand_frame, itemsets_of
+from ._minimum import whole_of
 
 # Red above 1, blue below it, pale at 1.
 COLOURS = "RdBu_r"
 # The colours end at this lift and at its reciprocal, or at ten times that and so on: where a picture's lifts need no
 # more, a colour means the same lift in each picture.
 _END = 4.0
+# Of lines.
+LINES = ("#0072B2", "#D55E00", "#009E73", "#CC79A7", "#56B4E9")
 _SIDES = ("antecedents", "consequents")
 _LIFT = "lift (1: as often as by chance)"
 # Ticks of numbers that span more than this are powers of ten alone.
@@ -46,6 +49,13 @@ def demand(frame: pd.DataFrame, *columns: str) -> pd.DataFrame:
         **{name: itemsets_of(frame, name) for name in sides},
         **{name: floats_of(frame, name) for name in figures},
     )
+
+
+def most_of(most: Any, least: int) -> int:
+    """How many rules are wanted, or `DataError`."""
+    if (whole := whole_of(most)) is None or whole < least:
+        raise DataError(f"most is a number of at least {least}, not {most!r}")
+    return whole
 
 
 def axes_of(axes: Axes | None, width: float, height: float) -> Axes:

@@ -20,6 +20,7 @@ from ._measures import MOST_TOTAL_OF_FLOATS
 from ._minimum import proportion_of
 from ._ranks import places_by_quotient
 from ._rule_counts import RuleCounts, counts_of
+from ._shorter import TooManyBetween, best_below
 from ._significance import adjusted
 
 Itemset = frozenset[Any]
@@ -121,38 +122,36 @@ def _wide(counts: RuleCounts) -> tuple[Array, Array, Array]:
 
 
 def _best_shorter(rules: pd.DataFrame, ranks: Array) -> Array:
-    """For each rule the place of the best one with fewer antecedents, or -1: that of the highest rank.
-
-    Subsets are looked for once for all rules of the same antecedents, and as numbers.
-    """
+    """For each rule the place of the best one with fewer antecedents, or -1: that of the highest rank."""
     lefts, rights = (
         itemsets_of(rules, name) for name in ("antecedents", "consequents")
     )
-    numbers: dict[Itemset, int] = {}
-    by_left: dict[Itemset, dict[int, int]] = defaultdict(dict)
+    try:
+        return best_below(lefts, rights, ranks)
+    except TooManyBetween:
+        return _best_of_subsets(lefts, rights, ranks)
+
+
+def _best_of_subsets(
+    lefts: list[Itemset], rights: list[Itemset], ranks: Array
+) -> Array:
+    """The same, by a look at the subsets of the antecedents, or at all shorter antecedents if these are fewer."""
+    by_left: dict[Itemset, dict[Itemset, int]] = defaultdict(dict)
     order = ranks.tolist()
     for place, (left, right) in enumerate(zip(lefts, rights)):
         same = by_left[left]
-        number = numbers.setdefault(right, len(numbers))
         # Of equal rules the better one counts.
-        if number not in same or order[same[number]] < order[place]:
-            same[number] = place
-    best = np.full(len(lefts), -1)
+        if right not in same or order[same[right]] < order[place]:
+            same[right] = place
     by_size: dict[int, list[Itemset]] = defaultdict(list)
     for items in by_left:
         by_size[len(items)].append(items)
-    found: dict[Itemset, dict[int, int]] = {}
-    for left, same in by_left.items():
-        shorter: dict[int, int] = {}
-        for other in _subsets(left, by_left, by_size):
-            theirs = by_left[other]
-            for number in same.keys() & theirs.keys():
-                place = theirs[number]
-                if number not in shorter or order[shorter[number]] < order[place]:
-                    shorter[number] = place
-        found[left] = shorter
+    best = np.full(len(lefts), -1)
     for place, (left, right) in enumerate(zip(lefts, rights)):
-        best[place] = found[left].get(numbers[right], -1)
+        for other in _subsets(left, by_left, by_size):
+            found = by_left[other].get(right, -1)
+            if found >= 0 and (best[place] < 0 or order[best[place]] < order[found]):
+                best[place] = found
     return best
 
 

@@ -111,6 +111,7 @@ class CompareCall(Protocol):
         sep: str | None = ...,
         header: bool = ...,
         weighted: bool = ...,
+        encoding: str | None = ...,
         names: Labels | None = ...,
         workers: int = ...,
         exact: bool = ...,

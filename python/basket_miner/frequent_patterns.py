@@ -116,7 +116,9 @@ def fpmax(
 
 
 def _work(miner: Miner, verbose: int, timeout: float | None) -> Work:
-    return Work(miner=miner, progress=verbose > 0, timeout=timeout)
+    if not isinstance(verbose, (int, np.integer)):
+        raise DataError(f"verbose is a number, as 0 or 1, not {verbose!r}")
+    return Work(miner=miner, progress=bool(verbose > 0), timeout=timeout)
 
 
 def association_rules(

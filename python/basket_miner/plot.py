@@ -18,16 +18,19 @@ demand_package("matplotlib", "plot")
 from matplotlib.axes import Axes
 from matplotlib.lines import Line2D
 
+from ._changes import changes
 from ._errors import DataError
 from ._itemsets import sets
 from ._keywords import SetsOptions
 from ._minimum import Minimum, exact_minimum
 from ._picture import (
     COLOURS,
+    LINES,
     axes_of,
     bar,
     count_ticks,
     demand,
+    most_of,
     name_of,
     put_labels,
     scale_of,
@@ -37,8 +40,9 @@ from ._signatures import MinimumsCall
 from ._sizes import counts_by_size
 from ._typed import Typed
 
-_LINES = ("#0072B2", "#D55E00", "#009E73", "#CC79A7", "#56B4E9")
 _MARKS = "os^Dv"
+__all__ = ["changes", "minimums", "rules", "strongest"]
+
 # More dots are drawn small, with thin edges.
 _MOST_EDGED = 300
 _STRENGTH = ["lift", "confidence", "support"]
@@ -94,7 +98,7 @@ def rules(frame: pd.DataFrame, axes: Axes | None = None, most: int = 5) -> Axes:
     axes.margins(0.08)
     axes.grid(alpha=0.3)
     axes.set_axisbelow(True)
-    _name_strongest(frame, axes, most)
+    _name_strongest(frame, axes, most_of(most, 0))
     return axes
 
 
@@ -141,11 +145,11 @@ def minimums(
         data = sets(data, asked[0], **keywords)
     places = [float(minimum if is_count else 100 * minimum) for minimum in asked]
     axes = axes_of(axes, 7.0, 4.5)
-    by_size = counts_by_size(data, asked, len(_LINES))
+    by_size = counts_by_size(data, asked, len(LINES))
     *sizes, (name, counts) = by_size.items()
     ticks = count_ticks(max(counts))
     axes.plot(places, counts, label=name, color="black", linestyle="--", lw=2, zorder=3)
-    for (name, counts), colour, mark in zip(sizes, _LINES, _MARKS):
+    for (name, counts), colour, mark in zip(sizes, LINES, _MARKS):
         # One count of 0 shows that there are none from there on.
         shown = counts[: counts.index(0) + 1] if 0 in counts else counts
         axes.plot(places[: len(shown)], shown, label=name, color=colour, marker=mark)
@@ -180,9 +184,8 @@ def strongest(frame: pd.DataFrame, axes: Axes | None = None, most: int = 15) -> 
         DataError: there is no rule, a column is missing, or `most` is below 1.
     """
     frame = demand(frame, "antecedents", "consequents", *_STRENGTH)
-    if most < 1:
-        raise DataError(f"most is at least 1, not {most}")
-    chosen = frame.sort_values(_STRENGTH, ascending=False, kind="stable").head(most)
+    number = most_of(most, 1)
+    chosen = frame.sort_values(_STRENGTH, ascending=False, kind="stable").head(number)
     rows = list(dict.fromkeys(chosen["antecedents"]))
     columns = list(dict.fromkeys(chosen["consequents"]))
     axes = axes_of(axes, 3.5 + 0.8 * len(columns), 2.0 + 0.6 * len(rows))

@@ -77,6 +77,16 @@ class TransactionEncoder:
         """The items, as scikit-learn's transformers name their columns."""
         return np.array(self._fitted(), dtype=object)
 
+    def get_params(self, deep: bool = True) -> dict[str, Any]:
+        """The parameters of an encoder, of which there is none, so that scikit-learn copies it by `clone`."""
+        return {}
+
+    def set_params(self, **params: Any) -> "TransactionEncoder":
+        """Takes no parameter, and returns itself."""
+        if params:
+            raise DataError(f"the encoder has no parameter, as {[*params][0]!r}")
+        return self
+
     def _fitted(self) -> Sequence[Any]:
         if not hasattr(self, "columns_"):
             raise DataError("the encoder knows no items yet: call fit first")

@@ -1,6 +1,9 @@
 # mypy: allow-untyped-calls
-"""A cluster for all tests of parts, a browser for those of the page of rules, and a database."""
+"""A cluster for all tests of parts, a browser for those of the page of rules, a database, and R with its package."""
 
+import os
+import shutil
+import subprocess
 from collections.abc import Iterator
 from pathlib import Path
 
@@ -9,6 +12,7 @@ from distributed import Client, LocalCluster
 from selenium import webdriver
 
 from basket_miner import explore, rules
+from basket_miner._program import find
 from browser import opened
 from database import served, server_folder
 
@@ -38,6 +42,20 @@ def database() -> Iterator[dict[str, str]]:
         )
     with served(programs) as found:
         yield found
+
+
+@pytest.fixture(scope="session")
+def r_library(tmp_path_factory: pytest.TempPathFactory) -> dict[str, str]:
+    """The environment in which R finds its package, and the package the program."""
+    if shutil.which("R") is None:
+        pytest.skip(
+            "Debian's r-base-core is not here: tools/python-packages installs it"
+        )
+    library = tmp_path_factory.mktemp("library")
+    words = ["R", "CMD", "INSTALL", "--no-docs", "--no-test-load", "--no-byte-compile"]
+    words += [f"--library={library}", str(RECEIPTS.parents[1] / "r")]
+    subprocess.run(words, check=True, capture_output=True)
+    return {**os.environ, "R_LIBS": str(library), "BASKET": str(find().resolve())}
 
 
 @pytest.fixture

@@ -181,7 +181,10 @@ class Exchanged(Columns):
     ("said", "data"),
     [
         ("a basket is an iterable of items, not 'tea'", ["tea", "jam"]),
-        ("a basket is an iterable of items, not a DataFrame; frames of", [ROWS, ROWS]),
+        (
+            "a basket is an iterable of items, not a DataFrame; frames with a row",
+            [ROWS, ROWS],
+        ),
         ("a basket is an iterable of items, not bytearray", [bytearray(b"tea")]),
         ("iterables of hashable items", [[["tea"]]]),
         ("iterables of hashable items", [1, 2]),
@@ -199,7 +202,7 @@ class Exchanged(Columns):
         ("not the row .*tea.* of a table", [*ROWS.dropna().to_records()]),
         ("not the row Pandas.*a table is given", ROWS.dropna().itertuples()),
         ("a path is a str", b"shop.dat"),
-        ("a file is given by its path", io.StringIO("1 2")),
+        ("open files are not looked at: give form=", io.StringIO("1 2")),
         ("lists, by .agg", ROWS.groupby("receipt")["product"]),
         ("not 'tea'; give the frame, with basket= and item=", ROWS["product"]),
     ],

@@ -23,6 +23,7 @@ import basket_miner
 from basket_miner import BasketError, DataError, InputError, TooManySets, UsageError
 from basket_miner import cluster
 from basket_miner._program import run
+from basket_miner.cluster._passes import _completed
 from cut_files import cut, written
 
 ROOT = Path(__file__).parents[2]
@@ -79,6 +80,31 @@ def test_odd_parts_have_the_bytes_of_one_run(
         words = [*question.split(), f"--min={minimum}"]
         report = cluster.report(files, *words, client=client)
         assert report == run(words, whole(texts)), words
+
+
+def test_random_baskets_have_the_bytes_of_one_run_wherever_they_are_cut(
+    client: Client, tmp_path: Path
+) -> None:
+    draw = random.Random(4)
+    for number in range(6):
+        lines = [
+            b"%dx " % draw.randrange(1, 4) * (number % 2)
+            + b" ".join(b"%d" % item for item in draw.choices(range(6), k=4))
+            for _ in range(40)
+        ]
+        text = b"".join(b"%s\n" % line for line in lines)
+        files = written(tmp_path, cut(text, *sorted(draw.choices(range(41), k=4))))
+        for words in (["sets", "--min=1/4"], ["rules", "--min=9", "--conf=1/3"]):
+            report = cluster.report(files, *words, client=client)
+            assert report == run(words, text), (text, words)
+
+
+def test_sets_that_a_part_listed_are_not_counted_in_it_again() -> None:
+    # A wrong count stays, so nothing counted it.
+    counts = _completed(
+        b"1 2\n2\n", "part", b"1 2 (99)\n", b"(0)\n2 (0)\n1 2 (0)\n", ()
+    )
+    assert counts == b"(2)\n2 (2)\n1 2 (99)\n"
 
 
 def test_a_count_whose_share_has_numbers_too_large_to_be_read_is_met_exactly(

@@ -67,7 +67,7 @@ def losing(step: str, number: int, folder: Path) -> Iterator[Client]:
 
 
 # In the second pass, when the worker has sets of the first, and at the question to the sums.
-@pytest.mark.parametrize(("step", "number"), [(COUNT, 5), ("rules", 1)])
+@pytest.mark.parametrize(("step", "number"), [(COUNT, 1), ("rules", 1)])
 def test_a_killed_worker_changes_no_byte(
     step: str, number: int, tmp_path: Path
 ) -> None:

@@ -87,6 +87,24 @@ def test_postgresql_is_streamed_into_the_program() -> None:
 
 
 @pytest.mark.usefixtures("sale")
+def test_a_query_goes_into_the_call_and_into_a_frame_with_the_same_sets() -> None:
+    copy = "copy (select receipt, product from sale) to stdout csv header"
+    words = ["psql", "-q", "-c", copy]
+    with subprocess.Popen(words, stdout=subprocess.PIPE) as sale:
+        found = miner.sets(sale.stdout, 1, form="single", header=True)
+    with subprocess.Popen(words, stdout=subprocess.PIPE) as again:
+        assert again.stdout
+        frame = pd.read_csv(again.stdout, na_filter=False)
+    assert (sale.returncode, again.returncode) == (0, 0)
+    rows = frame[frame["product"] != ""]
+    wanted = miner.sets(rows, 1, **COLUMNS)
+    assert dict(zip(found["itemsets"], found["count"])) == dict(
+        zip(wanted["itemsets"], wanted["count"])
+    )
+    assert {label for itemset in found["itemsets"] for label in itemset} == {*NAMES}
+
+
+@pytest.mark.usefixtures("sale")
 def test_a_shell_streams_postgresql_into_the_program() -> None:
     line = (
         'set -o pipefail; psql -q -c "copy (select receipt, product from sale) to stdout '

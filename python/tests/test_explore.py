@@ -128,7 +128,7 @@ def test_the_middle_of_the_colours_is_a_lift_of_1(shop: webdriver.Chrome) -> Non
     lifts = [0.01, 7 / 15, (7 / 15) ** 0.5, 0.999, 1, 1.001, (15 / 7) ** 0.5, 15 / 7, 9]
     shades = shop.execute_script("return arguments[0].map(shadeOf)", lifts)
     # Shades below the middle are triangles.
-    assert shades == [0, 0, 16, 31, 32, 32, 48, 64, 64]
+    assert shades == [0, 0, 9, 31, 32, 33, 55, 64, 64]
     assert [at(shop, name).text for name in ("low", "one", "high")] == [
         "0.600",
         "1",

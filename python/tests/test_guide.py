@@ -8,7 +8,6 @@ import importlib.util
 import io
 import os
 import re
-import shutil
 import subprocess
 import sys
 from collections.abc import Iterator
@@ -126,14 +125,16 @@ def test_a_block_prints_what_the_guide_shows(
             monkeypatch.setenv(name, value)
     elif block.needed and importlib.util.find_spec(block.needed) is None:
         pytest.skip(f"{block.needed} is not here")
-    if block.language == "r" and shutil.which("Rscript") is None:
-        pytest.skip("R is not here")
+    if block.language == "r":
+        library = request.getfixturevalue("r_library")
+        for name in ("R_LIBS", "BASKET"):
+            monkeypatch.setenv(name, library[name])
     assert sections.printed(block) == (block.printed or "")
 
 
 def test_the_pictures_that_the_guide_shows_are_there() -> None:
     shown = re.findall(r"!\[[^]]+\]\(([^)]+)\)", GUIDE)
-    assert len(shown) == 5
+    assert len(shown) == 6
     assert [name for name in shown if not (ROOT / "docs" / name).is_file()] == []
 
 

@@ -13,7 +13,7 @@ import pandas as pd
 import pytest
 
 import brute
-from basket_miner import DataError, plot, rules, sets
+from basket_miner import DataError, compare, plot, rules, sets
 from basket_miner._minimum import Minimum
 
 matplotlib.use("agg")
@@ -175,6 +175,21 @@ def test_labels_and_cells_do_not_lie_over_each_other() -> None:
         assert overlapping([*axes.get_yticklabels(), *axes.texts]) == []
 
 
+def test_changes_are_drawn_by_their_p_values_with_both_shares() -> None:
+    before, after = [["tea"], ["jam"], ["jam"], ["milk"]], [["tea"]] * 8
+    frame = compare(before, after, 1, adjust=None)
+    axes = plot.changes(frame, most=2)
+    # Tea: 1 of 4, and then 8 of 8. Jam: 2 of 4, and then none.
+    assert [label.get_text() for label in axes.get_yticklabels()] == ["tea", "jam"]
+    first, second = (dots.get_offsets() for dots in axes.collections[1:])
+    assert np.asarray(first).tolist() == [[25.0, 0.0], [50.0, 1.0]]
+    assert np.asarray(second).tolist() == [[100.0, 0.0], [0.0, 1.0]]
+    with pytest.raises(DataError, match="no change to draw"):
+        plot.changes(frame.head(0))
+    with pytest.raises(DataError, match="no column 'p_value'"):
+        plot.changes(frame.drop(columns="p_value"))
+
+
 def test_frames_and_minimums_that_cannot_be_drawn_are_refused() -> None:
     with pytest.raises(DataError, match="no rule"):
         plot.rules(RULES.head(0))
@@ -182,6 +197,11 @@ def test_frames_and_minimums_that_cannot_be_drawn_are_refused() -> None:
         plot.strongest(RULES.drop(columns="lift"))
     with pytest.raises(DataError, match="at least 1"):
         plot.strongest(RULES, most=0)
+    text: Any = "3"
+    with pytest.raises(DataError, match="most is a number of at least 0, not '3'"):
+        plot.rules(RULES, most=text)
+    with pytest.raises(DataError, match="most is a number of at least 1, not '3'"):
+        plot.strongest(RULES, most=text)
     figure: Any = matplotlib.pyplot.figure()
     with pytest.raises(DataError, match="axes are those of matplotlib, not Figure"):
         plot.rules(RULES, figure)
@@ -205,10 +225,12 @@ def test_the_pictures_of_the_documents_are_those_that_the_script_makes(
     subprocess.run([sys.executable, ROOT / "tools/pictures.py", tmp_path], check=True)
     # Each version of Chromium draws a page in its own way.
     made = sorted(
-        file for file in tmp_path.iterdir() if file.stem not in ("explore", "page")
+        file
+        for file in tmp_path.iterdir()
+        if not file.stem.startswith(("explore", "page", "shop-"))
     )
     assert [file.name for file in made] == [
-        *("minimums.png", "rules.png", "strongest.png")
+        *("changes.png", "minimums.png", "rules.png", "strongest.png")
     ]
     assert (tmp_path / "explore.png").exists()
     for file in made:

@@ -37,6 +37,16 @@ TABLE = [
 ]
 
 
+def test_the_encoder_is_copied_as_scikit_learn_does() -> None:
+    # What its `clone` does, and what a pipeline asks.
+    encoder = TransactionEncoder().fit(DATASET)
+    copied = type(encoder)(**encoder.get_params(deep=False))
+    assert copied.set_params() is copied
+    assert not hasattr(copied, "columns_")
+    with pytest.raises(DataError, match="no parameter, as 'sparse'"):
+        copied.set_params(sparse=True)
+
+
 def test_the_encoder_makes_the_documented_table_and_goes_back() -> None:
     encoder = TransactionEncoder()
     table = encoder.fit(DATASET).transform(DATASET)

@@ -7,6 +7,7 @@ from collections.abc import Callable
 from fractions import Fraction
 from typing import Any
 
+import numpy as np
 import pandas as pd
 import pytest
 
@@ -19,6 +20,8 @@ from basket_miner import (
     rules,
     sets,
 )
+from basket_miner._redundancy import _best_of_subsets
+from basket_miner._shorter import TooManyBetween, best_below
 
 
 def shop_of(draw: random.Random) -> list[list[str]]:
@@ -83,6 +86,63 @@ def test_an_improvement_is_the_least_gain_over_a_shorter_rule(least: Fraction) -
             own = Fraction(counts[left | right], counts[left])
             assert gains[label] == float(own - best)
     assert (unknown > 10) == (least > 0)
+
+
+def best_of_all(lefts: list[Any], rights: list[Any], ranks: list[int]) -> list[int]:
+    """For each rule the highest rank of a shorter one, or -1, by a look at all pairs."""
+    return [
+        max(
+            (
+                rank
+                for other, of_other, rank in zip(lefts, rights, ranks)
+                if of_other == right and other < left
+            ),
+            default=-1,
+        )
+        for left, right in zip(lefts, rights)
+    ]
+
+
+@pytest.mark.parametrize("best_of", [best_below, _best_of_subsets])
+def test_the_best_shorter_rule_is_found_where_those_between_are_missing(
+    best_of: Callable[..., Any]
+) -> None:
+    draw = random.Random(8)
+    for _ in range(200):
+        items = range(draw.randrange(1, 7))
+        size = draw.randrange(40)
+        lefts = [
+            frozenset(draw.sample(items, draw.randint(0, len(items))))
+            for _ in range(size)
+        ]
+        rights = [frozenset(draw.choice("xy")) for _ in range(size)]
+        ranks = [draw.randrange(6) for _ in range(size)]
+        found = best_of(lefts, rights, np.array(ranks, dtype=np.int64)).tolist()
+        told = [-1 if place < 0 else ranks[place] for place in found]
+        assert told == best_of_all(lefts, rights, ranks)
+        assert all(
+            lefts[place] < left and rights[place] == right
+            for place, left, right in zip(found, lefts, rights)
+            if place >= 0
+        )
+
+
+def test_a_rule_of_forty_antecedents_is_compared_with_those_that_are_there() -> None:
+    lefts = [frozenset({0}), frozenset(range(40))]
+    rights = [frozenset({"x"})] * 2
+    with pytest.raises(TooManyBetween):
+        best_below(lefts, rights, np.array([1, 0]))
+    frame = pd.DataFrame(
+        {
+            "antecedents": lefts,
+            "consequents": rights,
+            "count": [4, 1],
+            "support": [0.4, 0.1],
+            "confidence": [0.8, 0.5],
+            "lift": [1.6, 1.0],
+        }
+    )
+    assert is_redundant(frame).tolist() == [False, True]
 
 
 def chance(both: int, left: int, right: int, total: int) -> Fraction:

@@ -94,14 +94,9 @@ def test_rows_that_a_database_returns_are_refused() -> None:
         (r"split first: \.str\.split\(';'\)", pd.Series(["a;b", "c"])),
         ("put together in one, or given to basket_miner.cluster", [__file__]),
         ("put together in one, or given to basket_miner.cluster", [Path("a"), "b"]),
-        ("by pandas.concat", pd.read_csv(io.StringIO("a,b\n1,2"), chunksize=1)),
+        ("with basket= and item=", pd.read_csv(io.StringIO("a,b\n1,2"), chunksize=1)),
+        ("with basket= and item=, and others as one frame", [ROWS, ROWS]),
     ],
 )
 def test_what_is_near_to_baskets_says_what_to_write(said: str, data: Any) -> None:
     refused(said, data)
-
-
-def test_files_and_chunks_with_names_of_columns_say_what_to_give() -> None:
-    for data in (pd.read_csv(io.StringIO("a,b"), chunksize=1), [ROWS, ROWS]):
-        refused("given as one frame, by pandas.concat", data, **LONG)
-    refused("a file is given by its path", io.BytesIO(b"a,b"), form="baskets")

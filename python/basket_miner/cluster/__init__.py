@@ -16,8 +16,8 @@ one version everywhere. Those that have no program get that of this machine. Wha
 with the worker's name (`ProgramMissing`).
 
 Two passes go over the parts. First each part is asked for the sets that are frequent in it at
-the share; then the sets that some part has are counted in each. The counts are added up, a few
-parts at a time, and the question is asked of the sums. Each step is a run of the program. The
+the share; then the sets that some part has are counted in each, except those whose counts it told
+(in CSV files all are). The counts are added up, a few parts at a time, and the question is asked of the sums. Each step is a run of the program. The
 report is, byte for byte, that of one run over all parts concatenated: the law of parts,
 which is proved of the program, says so of everything but the engine's moving of the bytes from
 one run to the next, and of CSV files, that counts by names are read back as they were written,
@@ -44,7 +44,7 @@ from distributed import Client
 from .._baskets import Baskets
 from .._calls import words_of
 from .._ending import end_of
-from .._keywords import PartOptions, PrepareOptions, Run, filled
+from .._keywords import PartOptions, PrepareOptions, run_of
 from .._minimum import (
     Confidence,
     Minimum,
@@ -181,7 +181,7 @@ def _frame(
     words: Sequence[str] = (),
 ) -> pd.DataFrame:
     least, until = minimum_of(minimum), end_of(options.get("timeout"))
-    asked, run_so = client_of(client), filled(Run, options)
+    asked, run_so = client_of(client), run_of(options)
     ready = prepared(parts, asked, options, run_so["progress"], until)
     if isinstance(least, Fraction) and not is_short(least):
         # What all baskets weigh together, as each question finds out.

@@ -75,7 +75,13 @@ def _submitted(tasks: Tasks, parts: Parts, question: Question) -> Future:
     naming = None if parts.separator is None else ("items", "--min=0%", *parts.words)
     found = over_parts(_found, share, mining, naming)
     asked = tree(tasks.submit, united, found)
-    counts = tree(tasks.submit, added, over_parts(_counted, asked, counting))
+    if naming is None:
+        given = zip(parts.texts, names, found)
+        own = [tasks.submit(_completed, *part, asked, counting) for part in given]
+    else:
+        # Names have an order, which the asked sets have.
+        own = over_parts(_counted, asked, counting)
+    counts = tree(tasks.submit, added, own)
     return tasks.submit(_answered, question, parts.counts, counts)
 
 
@@ -119,6 +125,22 @@ def _counted(
 ) -> bytes:
     """The counts of the asked sets in a part."""
     return _named(part, name, ["count", *words], asked)
+
+
+def _completed(
+    part: bytes | Path, name: str, found: bytes, asked: bytes, words: Sequence[str]
+) -> bytes:
+    """The counts of the asked sets in a part: those that it listed, as it listed them, after the others, which are
+    counted."""
+    known = {_set_of(line) for line in found.splitlines()}
+    lines = asked.splitlines(keepends=True)
+    others = b"".join(line for line in lines if _set_of(line) not in known)
+    return _counted(part, name, others, words) + found
+
+
+def _set_of(line: bytes) -> bytes:
+    """The set of a line as `1 2 (7)`, of which each run writes the numbers alike."""
+    return line.rpartition(b" (")[0]
 
 
 def _added(words: Sequence[str], *counts: bytes) -> bytes:

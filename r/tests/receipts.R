@@ -1,0 +1,2 @@
+library(basketminer)
+demo("receipts", package = "basketminer", ask = FALSE)
