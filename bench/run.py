@@ -3,7 +3,8 @@
 
 It counts instructions too, by valgrind, and tells which commands take more than 3% more of them
 than the RESULTS.md that was there says. With --instructions it does so alone, on any load, and
-writes nothing. With --beside the C++ program of yardstick.cpp runs in turn with it over the same
+writes nothing. With --data it times `sets` over the files NAME.dat of a folder alone, as those of the
+FIMI repository, and writes nothing. With --beside the C++ program of yardstick.cpp runs in turn with it over the same
 files, and has to write the same bytes. With --stages the program that times the stages of `sets`
 runs too, with --frames and --cluster those that time the Python package, and with --page the one
 that times the page with the program in it."""
@@ -17,10 +18,11 @@ import tempfile
 from pathlib import Path
 
 import instructions
+import workloads
 from groups import Group, Groups
 from results import table
 from runs import Asked, Turns, adopt, in_turn, output
-from workloads import STAGES
+from workloads import FIMI, INPUTS, OTHER, STAGES
 
 HERE = Path(__file__).resolve().parent
 RESULTS = HERE / "RESULTS.md"
@@ -50,6 +52,39 @@ TOLD = f"""
 *Seconds* are those of processors, and *Clock* is of the same run: of {RUNS} in turn, or {RUNS_BY_WORKERS} with one worker and four, the one that took the least by the clock. *MB* is the most memory of all runs. *Load* is how many processors other work took just before, the most of all turns. *Spread* is by four workers too, each thread on a processor of its own (spread.c): a kernel may leave two on one processor while others have none, and that of this virtual machine does. Larger inputs are run once. *{COUNT}* are those of one worker, counted by {{by}}: they are the same on any load, and missing where to count them takes too long. The tables were measured one after another, so compare seconds of one table, not of two."""
 TOLD_BESIDE = """
 *C++*: the program yardstick.cpp here ran in turn and wrote the same bytes."""
+
+
+def inputs() -> list[str]:
+    """What each input is: how it is made, and what the field knows that is like it."""
+    rows = []
+    for says, generators in INPUTS.items():
+        made = f"`{generators[0]}`"
+        if len(generators) > 1:
+            made += f" and {len(generators) - 1} more with other last seeds"
+        rows.append([says, made, workloads.known_as(generators[0])])
+    told = (
+        "All inputs are synthetic: a generator of this folder makes each from a seed. None is the data after which "
+        "it is named; `make bench DATA=FOLDER` times real files."
+    )
+    head = ["Baskets", "Generator", "Made after"]
+    return ["", "## Inputs", "", told, "", *table(head, rows)]
+
+
+def given_files(program: str, folder: Path) -> list[str]:
+    """Each miner over files of one's own."""
+    rows = []
+    for path in sorted(folder.glob("*.dat")):
+        least = FIMI.get(path.stem, OTHER)
+        asked = [
+            Asked(path.stem, each, (os.path.abspath(program), *each.split()), str(path))
+            for each in workloads.by_each_miner(f"sets --min {least}")
+        ]
+        turns = in_turn(asked, RUNS)
+        for one, run in zip(asked, turns.runs):
+            figures = f"{run.seconds:.3f}", f"{run.clock:.3f}", f"{run.memory:.0f}"
+            row = [one.says, f"`{one.command}`", f"{turns.lines:,}", *figures]
+            rows.append([*row, f"{turns.load:.1f}"])
+    return table(HEAD[:-1], rows)
 
 
 class Bench:
@@ -172,9 +207,13 @@ def main() -> None:
     parser.add_argument("--frames")
     parser.add_argument("--cluster")
     parser.add_argument("--page")
+    parser.add_argument("--data", type=Path)
     parser.add_argument("--instructions", action="store_true")
     given = parser.parse_args()
     adopt()
+    if given.data:
+        print(*given_files(given.program, given.data), sep="\n")
+        return
     before = RESULTS.read_text(encoding="utf-8") if RESULTS.exists() else ""
     top = head(given.beside is not None)
     with tempfile.TemporaryDirectory() as folder:
@@ -192,7 +231,7 @@ def main() -> None:
                 found += bench.printed("A cluster of Dask in Python", given.cluster)
             if given.page:
                 found += bench.printed("In a page", given.page)
-            text = "\n".join([*top, *found, ""])
+            text = "\n".join([*top, *inputs(), *found, ""])
             RESULTS.write_text(text, encoding="utf-8")
     print(*instructions.dearer(before, "\n".join(found)), sep="\n")
 

@@ -26,6 +26,41 @@ INPUTS = {
 MANY, SPARSE, FORTY, SHORT, DENSE, STORE, NEWS, PACKAGES, CLICKS, CSV = [*INPUTS][:10]
 ONE, FOUR, EIGHT, RECORDS, SINGLE = [*INPUTS][10:]
 
+# Which data the field knows that an input is made after: the one that a procedure makes, or of whose shape it is.
+KNOWN = {
+    "baskets.py": "none: items as often as each other",
+    "quest.py 10 4 100000 ": "T10I4D100K of the IBM Quest generator",
+    "quest.py 10 4 1000000 ": "the same with more baskets",
+    "quest.py 40 10 ": "T40I10D100K of the IBM Quest generator",
+    "quest.py 4 2 ": "T4I2D60K of the IBM Quest generator, with 20,000 items",
+    "dense.py": "the shape of mushroom",
+    "shapes.py store": "the shape of a store's departments",
+    "shapes.py news": "the shape of texts as sets of words",
+    "shapes.py packages": "the shape of packages that are installed together",
+    "shapes.py clicks": "the shape of kosarak",
+}
+# Files of the FIMI repository, with the minimum at which `make bench DATA=..` asks, and that of any other file.
+FIMI = {
+    "accidents": "40%",
+    "chess": "60%",
+    "connect": "80%",
+    "kosarak": "1/500",
+    "mushroom": "10%",
+    "pumsb": "80%",
+    "pumsb_star": "40%",
+    "retail": "1/1000",
+    "T10I4D100K": "1/1000",
+    "T40I10D100K": "1%",
+    "webdocs": "20%",
+}
+OTHER = "1%"
+
+
+def known_as(generator: str) -> str:
+    """What the field knows that a generator's baskets are made after."""
+    (found,) = (name for begin, name in KNOWN.items() if generator.startswith(begin))
+    return found
+
 
 def by_each_miner(command: str) -> list[str]:
     return [f"{command} --miner {miner}" for miner in MINERS]

@@ -1,9 +1,9 @@
 #!/usr/bin/env python3
-"""Makes a Debian package and a tar file of the proved program, with the page, each with its sum, under dist/.
+"""Makes a Debian package and a tar file of the proved program, with the page, under dist/, and prints their sums.
 
-usage: tools/package.py    at the top of the repository, after `make` and `make page`
+usage: tools/package.py [FOLDER]    at the top of the repository, after `make` and `make page`; FOLDER instead of dist
 
-The documents keep their places beside each other, so that their links hold: if one doesn't, it says which and
+`BASKET` names another program, and `PAGE` another page than dist/basket.html. The documents keep their places beside each other, so that their links hold: if one doesn't, it says which and
 packs nothing. The same program and commit give the same bytes: every file has the commit's time and root as its owner.
 """
 
@@ -15,10 +15,15 @@ import shutil
 import subprocess
 import sys
 import tempfile
+from email.utils import formatdate
 from pathlib import Path
 
-PROGRAM = Path("crates/basket_cli/out/basket_cli")
-PAGE = Path("dist/basket.html")
+PROGRAM = Path(os.environ.get("BASKET", "crates/basket_cli/out/basket_cli"))
+PAGE = Path(os.environ.get("PAGE", "dist/basket.html"))
+# The files that a release leaves in the repository, which are not packaged.
+RELEASES = "releases/"
+# A link of a document to one of these.
+RELEASED = re.compile(rf"\[([^\]]*)\]\((?:\.\./)*{RELEASES}[^)]*\)")
 DOCUMENTS = (
     "*.md",
     "CITATION.cff",
@@ -37,6 +42,15 @@ PLACES = {
     "completions/_basket": "share/zsh/vendor-completions/_basket",
     "completions/basket.fish": "share/fish/vendor_completions.d/basket.fish",
 }
+
+
+OVERRIDES = """\
+# The program is the one that was proved, byte for byte.
+basket: unstripped-binary-or-object
+# Nothing is published yet, so there is no address.
+basket: bogus-mail-host
+basket: bogus-mail-host-in-debian-changelog
+"""
 
 
 def output_of(*words: str) -> str:
@@ -81,6 +95,7 @@ def lost_links() -> list[str]:
         if name.endswith(".md")
         for link in links_of(name)
         if link not in packaged and link not in folders
+        if not f"{link}/".startswith(RELEASES)
     ]
 
 
@@ -101,7 +116,7 @@ Comment:
  and their licenses, with the texts.
 
 Files: *
-Copyright: the basket authors
+Copyright: 2026 the basket authors
 License: Expat or Apache-2.0
 
 License: Expat
@@ -124,6 +139,9 @@ def fill(prefix: Path) -> None:
     for name, place in places.items():
         (prefix / place).parent.mkdir(parents=True, exist_ok=True)
         shutil.copyfile(name, prefix / place)
+        if name.endswith(".md"):
+            text = Path(name).read_text(encoding="utf-8")
+            (prefix / place).write_text(RELEASED.sub(r"\1", text), encoding="utf-8")
     manual = prefix / "share/man/man1/basket.1.gz"
     manual.parent.mkdir(parents=True)
     manual.write_bytes(gzip.compress(Path("man/basket.1").read_bytes(), mtime=0))
@@ -137,7 +155,22 @@ def settle(folder: Path, time: int) -> None:
         os.utime(path, (time, time))
 
 
-def write_debian(tree: Path, version: str) -> None:
+def version() -> str:
+    return output_of(str(PROGRAM.resolve()), "--version").removeprefix("basket ")
+
+
+def write_debian(tree: Path, version: str, time: int) -> None:
+    changes = f"""basket ({version.replace('-', '~')}) unstable; urgency=medium
+
+  * CHANGELOG.md beside this file says what changed.
+
+ -- the basket authors <basket@localhost>  {formatdate(time)}
+"""
+    place = tree / "usr" / PLACE / "changelog.gz"
+    place.write_bytes(gzip.compress(changes.encode(), mtime=0))
+    place = tree / "usr/share/lintian/overrides/basket"
+    place.parent.mkdir(parents=True)
+    place.write_text(OVERRIDES, encoding="utf-8")
     size = sum(path.stat().st_size for path in tree.rglob("*") if path.is_file())
     (tree / "DEBIAN").mkdir()
     terms = tree / "usr" / PLACE / "copyright"
@@ -159,23 +192,22 @@ Description: verified market-basket miner
     )
 
 
-def sum_up(made: Path) -> None:
-    digest = hashlib.sha256(made.read_bytes()).hexdigest()
-    Path(f"{made}.sha256").write_text(f"{digest}  {made.name}\n", encoding="utf-8")
-    print(f"{digest}  {made}")
+def tell_sum(made: Path) -> None:
+    print(f"{hashlib.sha256(made.read_bytes()).hexdigest()}  {made}")
 
 
-def main() -> None:
+def main(words: list[str]) -> None:
     if lost := lost_links():
         sys.exit("\n".join(lost))
-    version = output_of(str(PROGRAM), "--version").removeprefix("basket ")
+    number = version()
     time = int(output_of("git", "log", "-1", "--format=%ct"))
     os.environ["SOURCE_DATE_EPOCH"] = str(time)
     os.umask(0o022)
-    dist = PAGE.parent
-    sum_up(PAGE)
+    dist = Path(words[0] if words else "dist")
+    dist.mkdir(parents=True, exist_ok=True)
+    tell_sum(PAGE)
     with tempfile.TemporaryDirectory() as folder:
-        name = f"basket-{version}-x86_64-linux"
+        name = f"basket-{number}-x86_64-linux"
         fill(Path(folder, name))
         settle(Path(folder, name), time)
         made = dist / f"{name}.tar.gz"
@@ -191,17 +223,17 @@ def main() -> None:
             [*words, "-C", folder, "-c", name], stdout=subprocess.PIPE, check=True
         )
         made.write_bytes(gzip.compress(packed.stdout, mtime=0))
-        sum_up(made)
+        tell_sum(made)
         tree = Path(folder, "debian")
         fill(tree / "usr")
-        write_debian(tree, version)
+        write_debian(tree, number, time)
         settle(tree, time)
-        made = dist / f"basket_{version}_amd64.deb"
+        made = dist / f"basket_{number}_amd64.deb"
         output_of(
             "dpkg-deb", "--root-owner-group", "-Zxz", "--build", str(tree), str(made)
         )
-        sum_up(made)
+        tell_sum(made)
 
 
 if __name__ == "__main__":
-    main()
+    main(sys.argv[1:])

@@ -66,6 +66,9 @@ def proved(program: Path) -> Sum:
         report = prove(names, Path(tree), begin)
         tests = [it.result() for it in over]
     said, failed = report.share(), report.failed
+    if report.elsewhere:
+        said = f"{said}; the gate proves all: `make proofs-forget` takes away what came from elsewhere"
+        failed += len(report.elsewhere)
     if lost := report.untold(kit.PROGRAM, AXIOMS.read_text(encoding="utf-8")):
         said, failed = f"{said}; {AXIOMS} says something else: {lost}", failed + 1
     written = axioms.counted()

@@ -229,7 +229,11 @@ class Advice(unittest.TestCase):
     ) -> None:
         self.assertEqual(
             said_at_terminal(["sets", "--min", "20", SHOP]),
-            [f"hint: no set meets --min in {SHOP}", look_at(SHOP)],
+            [
+                f"hint: no set meets --min in {SHOP}",
+                "hint: the greatest count of an item is 12",
+                look_at(SHOP),
+            ],
         )
         rows = (
             (["rules", "--min", "20", "--conf", "1/2"], "standard input"),
@@ -239,7 +243,37 @@ class Advice(unittest.TestCase):
             with self.subTest(words=words):
                 self.assertEqual(
                     said_at_terminal(words, b"1\n"),
-                    [f"hint: no rule meets --min and --conf in {name}"],
+                    [
+                        f"hint: no rule meets --min and --conf in {name}",
+                        "hint: the greatest count of an item is 1",
+                    ],
+                )
+
+    def test_the_greatest_count_is_told_of_each_form_and_without_an_item_that(
+        self,
+    ) -> None:
+        rows: tuple[tuple[list[str], bytes, list[str]], ...] = (
+            (["items"], b"3x 1 2\n2 3\n", ["the greatest count of an item is 4"]),
+            (["sets"], b"3x 1 2\n2 3\n", ["the greatest count of an item is 4"]),
+            (
+                ["items", "--form", "baskets"],
+                b"milk,jam\njam\n",
+                ["the greatest count of an item is 2"],
+            ),
+            (
+                ["closed", "--form", "single"],
+                b"1,milk\n1,jam\n2,jam\n",
+                ["the greatest count of an item is 2"],
+            ),
+            (["sets"], b"", ["the input has no item"]),
+            (["items"], b"\n\n", ["the input has no item"]),
+            (["sets", "--form", "counts"], b"(5)\n1 (5)\n", []),
+        )
+        for words, given, told in rows:
+            with self.subTest(words=words, given=given):
+                self.assertEqual(
+                    said_at_terminal([*words, "--min", "9"], given)[1:],
+                    [f"hint: {line}" for line in told],
                 )
 
     def test_a_run_over_a_named_pipe_ends(self) -> None:

@@ -9,6 +9,7 @@ sys.path.insert(0, str(ROOT / "bench"))
 
 import instructions  # noqa: E402
 import which  # noqa: E402
+from run import inputs  # noqa: E402
 
 BEFORE = """
 | Baskets | Command | Lines | Million instructions |
@@ -43,6 +44,14 @@ class Bench(unittest.TestCase):
         said = instructions.dearer(BEFORE, AFTER)
         self.assertEqual(said[0], "2 commands compared, 1 dearer by more than 3%")
         self.assertRegex(said[1], r"some: `items --min 1`: 100.0 to 103.1 .*, \+3.1%$")
+
+    def test_results_say_what_each_input_is_and_after_which_data_it_is_made(
+        self,
+    ) -> None:
+        page = (ROOT / "bench/RESULTS.md").read_text(encoding="utf-8")
+        told = "\n".join(inputs())
+        self.assertIn(f"{told}\n", page)
+        self.assertIn("| `dense.py 8000 23 8 1` | the shape of mushroom |", told)
 
     def test_help_says_which_miner_suits_which_data_as_the_tables_do(self) -> None:
         tables = (ROOT / "bench/RESULTS.md").read_text(encoding="utf-8")

@@ -82,9 +82,7 @@ WITHOUT_EXAMPLE = (
     "basket_cli",
     "basket_checks",
     "basket_runs",
-    "mine_checks",
     "mine_plain",
-    "mine_runs",
 )
 
 

@@ -97,6 +97,20 @@ class Files(unittest.TestCase):
         self.assertIn("12,Käse", report)
         self.assertIn("Not sure: how its letters are written", said_of(cheese))
 
+    def test_of_many_short_lines_the_first_65536_decide(self) -> None:
+        for line in (b"1,milk\n", b"1 2\n"):
+            told = [
+                json.loads(run(["look", "--json"], line * lines).out)["whole"]
+                for lines in (65_536, 65_537)
+            ]
+            self.assertEqual(told, [True, False])
+
+    def test_weights_that_would_become_items_are_refused_with_what_to_do(self) -> None:
+        with tempfile.TemporaryDirectory() as name:
+            said = shown(b"3x 1 2\r2x 2\r4 5\r", Path(name))
+        self.assertEqual((said["kind"], said.get("readings", [])), ("weights", []))
+        self.assertIn("line feeds", said["remedy"])
+
     def test_a_guess_that_may_be_wrong_says_so_and_shows_what_else_it_may_be(
         self,
     ) -> None:

@@ -189,6 +189,34 @@ class Miners(unittest.TestCase):
                         (4_095, "", 0),
                     )
 
+    def test_many_candidates_of_sparse_baskets_have_the_counts_of_every_subset(
+        self,
+    ) -> None:
+        # Each pair of a common item and a rare one has few baskets, and the two common ones have a thousand candidates.
+        source = random.Random(5)
+        given: list[tuple[int, list[int]]] = []
+        counts: Counter[tuple[int, ...]] = Counter()
+        for _ in range(1_000):
+            items = [1, 2, *sorted(source.sample(range(3, 1_003), 5))]
+            weight = source.choice((1, 1, 2, 7))
+            given.append((weight, items))
+            for size in range(1, 8):
+                for subset in itertools.combinations(items, size):
+                    counts[subset] += weight
+        text = "".join(f"{weight}x {' '.join(map(str, it))}\n" for weight, it in given)
+        ordered = sorted(counts, key=lambda items: (len(items), items))
+        wanted = "".join(
+            f"{' '.join(map(str, items))} ({counts[items]})\n" for items in ordered
+        )
+        for workers in ("1", "2", "4"):
+            with self.subTest(workers=workers):
+                words = ["sets", "--min", "1", "--miner", "apriori"]
+                ended = run([*words, "--workers", workers], text.encode())
+                self.assertEqual(
+                    (ended.out.decode() == wanted, ended.said, ended.status),
+                    (True, "", 0),
+                )
+
     def test_itemsets_that_are_too_long_for_a_word_are_mined_and_found_again(
         self,
     ) -> None:

@@ -65,8 +65,8 @@ class Words(unittest.TestCase):
     def setUpClass(cls) -> None:
         cls.known = Definitions()
 
-    def reached(self, *functions: tuple[str, str], without: str = "work") -> set[Word]:
-        """All that contracts say. What the work of a miner is stands apart, since no report rests on it."""
+    def reached(self, *functions: tuple[str, str], without: str = "done") -> set[Word]:
+        """All that contracts say. What a run comes to beside its report stands apart, since no report rests on it."""
         roots = (word for it in functions for word in stated(*it, without))
         return self.known.reached(roots)
 

@@ -5,10 +5,11 @@ import resource
 import tempfile
 import unittest
 
-from .program import run, run_between
+from .program import ROOT, run, run_between
 
 ITEMS = ["items", "--min", "1"]
 SETS = ["sets", "--min", "1"]
+SHOP = str(ROOT / "examples/shop.dat")
 
 
 def little_memory() -> None:
@@ -61,6 +62,20 @@ class Statuses(unittest.TestCase):
         ended = run(SETS, b"1 2\n3 -\n")
         said = "basket: line 2: byte 0x2D is no digit or blank\n"
         self.assertEqual((ended.out, ended.said, ended.status), (b"", said, 3))
+
+    def test_a_file_that_is_too_long_is_refused_before_it_is_read(self) -> None:
+        with tempfile.TemporaryDirectory() as folder:
+            # Its first byte is a fault too, and is not read.
+            path = os.path.join(folder, "long")
+            with open(path, "wb") as file:
+                file.truncate(1 << 32)
+            said = "basket: input is longer than 4294967295 bytes\n"
+            for words in ([*SETS, path], ["count", "--sets", path, SHOP]):
+                with self.subTest(words=words):
+                    ended = run(words)
+                    self.assertEqual(
+                        (ended.out, ended.said, ended.status), (b"", said, 3)
+                    )
 
     def test_an_input_that_cannot_be_read_ends_with_4(self) -> None:
         with tempfile.TemporaryDirectory() as folder:

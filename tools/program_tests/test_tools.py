@@ -9,9 +9,9 @@ from pathlib import Path
 
 import axioms
 import edits
+from checked import Report
 from edits import TRIED, Edit
 from package import links_of
-from prove import Report
 from slow import by_function
 
 from .certified import check
